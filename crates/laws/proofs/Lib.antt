@@ -1,0 +1,5 @@
+pub mod Rows
+pub mod Listed
+pub mod InPlace
+pub mod Lines
+pub mod Calls

@@ -1,0 +1,42 @@
+// Rows, fields and lines of lent tables, read and changed in place. Every function is total: what is not there reads 0, and writing it
+// changes nothing.
+pub mod answers;
+pub mod lines;
+pub mod words;
+
+use rules::Clocks;
+use rules::Events;
+use rules::Heap;
+use rules::Lines;
+use rules::Mailboxes;
+use rules::Semaphores;
+use rules::State;
+use rules::Swis;
+use rules::Tables;
+use rules::Tasks;
+ghost use mathlib.Core.Path.{_≡_};
+ghost use Rattle.rules.specs.Fresh.{fresh};
+
+// Fresh tables: task 0 only, both switches on, depth 0, tick 0, heap free.
+pub fn fresh() -> Tables
+    ensures { λ r. ⌜ r ≡ fresh ⌝ }
+{
+    let mut tasks = [0u32; 256];
+    tasks[0] = 1;
+    let mut lines = [0u8; 2145];
+    lines[1617] = 1;
+    let mut state = [0u32; 5];
+    state[1] = 1;
+    state[2] = 1;
+    Tables {
+        tasks,
+        lines,
+        semaphores: [0u32; 48],
+        events: [0u32; 16],
+        mailboxes: [0u32; 80],
+        swis: [0u32; 96],
+        clocks: [0u32; 80],
+        heap: [0u8; 256],
+        state,
+    }
+}

@@ -1,0 +1,106 @@
+-- 01, 'The answer': code, outcome, value; the order of the checks; what a refusal leaves.
+use Prim.Native.Nat.{ℕ}
+use mathlib.Core.Bool.{Bool, true, false, not, _||_, cond as if}
+use mathlib.Core.List.{List, [], _∷_}
+use lib.Dec.{eqb}
+use Rattle.rules.specs.declared.Answer.{Answer}
+
+abbrev pub answer : ℕ → ℕ → ℕ → Answer
+answer k o v = record { code = k; outcome = o; value = v }
+
+-- "outcome (0 done, 1 not met, 2 now waiting)"
+abbrev pub done : ℕ
+done = 0
+
+abbrev pub notMet : ℕ
+notMet = 1
+
+abbrev pub nowWaiting : ℕ
+nowWaiting = 2
+
+-- ---- A call's cases: of each code, whether what the table has under 'Given when' holds
+abbrev pub Cases : Type 0
+Cases = ℕ → Bool
+
+abbrev pub never : Cases
+never k = false
+
+abbrev pub given : ℕ → Bool → Cases → Cases
+given code holds rest k = if (eqb k code) holds (rest k)
+
+-- "Checks run in the order of this table":
+-- 10 the tables are not sound; 1 unknown call number; 2 wrong context, or a limit other than 0 outside a task; 3 an object number out of range
+-- or not in use; 4 a bad argument, or an unused one not 0; 5 the object's state forbids it; 6 no free number in the table; 7 count or depth
+-- at its end; 8 no heap room; 9 a yield, end, sleep above 0 or wait that begins, while either switch is off, or a Swi end while Swis are off
+abbrev pub order : List ℕ
+order = 10 ∷ 1 ∷ 2 ∷ 3 ∷ 4 ∷ 5 ∷ 6 ∷ 7 ∷ 8 ∷ 9 ∷ []
+
+-- "a code is given exactly in its case": the first case that holds gives the code; 0 where none does
+unfoldable pub firstGiven : List ℕ → Cases → ℕ
+firstGiven [] c = 0
+firstGiven (k ∷ ks) c = if (c k) k (firstGiven ks c)
+
+abbrev pub codeOf : Cases → ℕ
+codeOf c = firstGiven order c
+
+-- ---- what a call leaves: its answer, and the tables that calls of its kind may change
+pub record After (A : Type 0) : Type 0 where
+  pub answer : Answer
+  pub next : A
+
+abbrev pub after : {A : Type 0} → Answer → A → After A
+after r t = record { answer = r; next = t }
+
+-- accepted, with an outcome and a value
+abbrev pub accepted : {A : Type 0} → ℕ → ℕ → A → After A
+accepted o v t = after (answer 0 o v) t
+
+-- "A refusal has outcome 0, value 0 and no change"
+abbrev pub refused : {A : Type 0} → ℕ → A → After A
+refused k t = after (answer k 0 0) t
+
+-- a call: when each code is given, and what it does where none is
+pub record Call (A : Type 0) : Type 0 where
+  pub cases : Cases
+  pub effect : After A
+
+abbrev pub called : {A : Type 0} → Cases → After A → Call A
+called c e = record { cases = c; effect = e }
+
+abbrev pub unknown : {A : Type 0} → A → Call A
+unknown t = called (given 1 true never) (accepted done 0 t)
+
+-- what a call on these tables leaves
+abbrev pub guarded : {A : Type 0} → ℕ → A → After A → After A
+guarded k t e = if (eqb k 0) e (refused k t)
+
+abbrev pub answered : {A : Type 0} → A → Call A → After A
+answered t c = guarded (codeOf (c .cases)) t (c .effect)
+
+-- ---- tests that many calls share
+-- "Letters: T the running task, S the running Swi, I an interrupt": the context as a number
+abbrev pub T : ℕ
+T = 0
+
+abbrev pub S : ℕ
+S = 1
+
+abbrev pub I : ℕ
+I = 2
+
+-- called by another than T; than S; than I; than T and S
+abbrev pub notT : ℕ → Bool
+notT x = not (eqb x T)
+
+abbrev pub notS : ℕ → Bool
+notS x = not (eqb x S)
+
+abbrev pub notI : ℕ → Bool
+notI x = not (eqb x I)
+
+abbrev pub notTS : ℕ → Bool
+notTS x = eqb x I
+
+-- "an unused one not 0": an argument after the last that the call names; one that it names stands here as 0
+unfoldable pub unused : ℕ → ℕ → ℕ → ℕ → Bool
+unused a b c d = not (eqb a 0) || not (eqb b 0) || not (eqb c 0) || not (eqb d 0)

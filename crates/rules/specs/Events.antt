@@ -1,0 +1,88 @@
+-- 01, 'Events': calls 30 to 33.
+use Prim.Native.Nat.{ℕ}
+use mathlib.Core.Bool.{Bool, not, _&&_, _||_, cond as if}
+use mathlib.Core.List.{List, [], _∷_}
+use lib.Bits.{bitAnd, bitOr}
+use lib.Dec.{eqb}
+use Rattle.fold.specs.Lists.{zeros}
+use Rattle.fold.specs.Find.{firstBelow}
+use Rattle.rules.specs.Answer.{Cases, given, never, Call, called, After, accepted, unknown, done, notMet, nowWaiting, notT, unused}
+use Rattle.rules.specs.Tables.{eventCount, eventWidth, event, withEvent, eventRow, task, current, atEvent, USED, BITS}
+use Rattle.rules.specs.Lines.{eventLine, anyone, first, moved, atBack}
+use Rattle.rules.specs.Waits.{Served, served, queue, requeued, outside, switchOff, idle, waiting, woken}
+use Rattle.rules.specs.Swis.{cleared}
+use Rattle.rules.specs.declared.Task.{Task}
+
+unfoldable pub freeEvent : List ℕ → ℕ
+freeEvent es = firstBelow eventCount (λ i. eqb (event es i USED) 0)
+
+-- "Matched bits are the posted bits in the or-mask, and the whole and-mask if all its bits are posted."
+unfoldable pub matched : ℕ → ℕ → ℕ → ℕ
+matched bits andMask orMask = bitOr (bitAnd bits orMask) (if (eqb (bitAnd bits andMask) andMask) andMask 0)
+
+-- ---- "30 create (T): value its number."
+unfoldable pub createCases : List ℕ → ℕ → ℕ → ℕ → ℕ → ℕ → Cases
+createCases es x a b c d = given 2 (notT x) (given 4 (unused a b c d) (given 6 (eqb (freeEvent es) eventCount) never))
+
+unfoldable pub createEffect : Served → After Served
+createEffect q =
+    accepted done (freeEvent (q .objects)) (served (q .tasks) (q .lines) (eventRow (q .objects) (freeEvent (q .objects)) (1 ∷ 0 ∷ [])))
+
+-- ---- "31 delete (T): 5 with a waiter."
+unfoldable pub deleteCases : List ℕ → List ℕ → ℕ → ℕ → ℕ → ℕ → ℕ → Cases
+deleteCases ls es x a b c d =
+    given 2 (notT x) (given 3 (eqb (event es a USED) 0) (given 4 (unused 0 b c d) (given 5 (anyone ls (eventLine a)) never)))
+
+unfoldable pub deleteEffect : Served → ℕ → After Served
+deleteEffect q a = accepted done 0 (served (q .tasks) (q .lines) (eventRow (q .objects) a (zeros eventWidth)))
+
+-- ---- "32 pend (event, and-mask, or-mask, limit): both masks 0 is 4; a waiter there already is 5."
+unfoldable pub waits : List ℕ → ℕ → ℕ → ℕ → ℕ → Bool
+waits es a b c limit = eqb (matched (event es a BITS) b c) 0 && not (eqb limit 0)
+
+unfoldable pub pendCases : List ℕ → List ℕ → List ℕ → ℕ → ℕ → ℕ → ℕ → ℕ → Cases
+pendCases ls es st x a b c d =
+    given 2 (outside x d)
+    (given 3 (eqb (event es a USED) 0)
+    (given 4 (eqb b 0 && eqb c 0)
+    (given 5 (anyone ls (eventLine a) || (waits es a b c d && idle st))
+    (given 9 (waits es a b c d && switchOff st) never))))
+
+-- "Any matched: they are cleared and are the value; else as in call 22."
+unfoldable pub pendEffect : Served → List ℕ → ℕ → ℕ → ℕ → ℕ → After Served
+pendEffect q st a b c limit =
+    if (eqb (matched (event (q .objects) a BITS) b c) 0)
+    (if (eqb limit 0) (accepted notMet 0 q)
+    (accepted nowWaiting 0
+    (requeued q (moved atBack (current st) (waiting (task (q .tasks) (current st)) atEvent a limit b c) (queue q)))))
+    (accepted done (matched (event (q .objects) a BITS) b c)
+    (served (q .tasks) (q .lines)
+    (withEvent (q .objects) a BITS (cleared (event (q .objects) a BITS) (matched (event (q .objects) a BITS) b c)))))
+
+-- ---- "33 post (event, mask; T S I): sets bits, then by the same match serves the waiter; value 1 if it did, else 0. Bits persist."
+unfoldable pub postCases : List ℕ → ℕ → ℕ → ℕ → Cases
+postCases es a c d = given 3 (eqb (event es a USED) 0) (given 4 (unused 0 0 c d) never)
+
+-- what of these bits the event's waiter matches; 0 where nobody waits
+unfoldable pub waiterMatch : List ℕ → List ℕ → ℕ → ℕ → ℕ
+waiterMatch ts ls a bits =
+    if (anyone ls (eventLine a)) (matched bits (task ts (first ls (eventLine a)) .first) (task ts (first ls (eventLine a)) .second)) 0
+
+-- with these bits posted
+unfoldable pub postedBits : Served → ℕ → ℕ → After Served
+postedBits q a bits =
+    if (eqb (waiterMatch (q .tasks) (q .lines) a bits) 0) (accepted done 0 (served (q .tasks) (q .lines) (withEvent (q .objects) a BITS bits)))
+    (accepted done 1
+    (requeued (served (q .tasks) (q .lines) (withEvent (q .objects) a BITS (cleared bits (waiterMatch (q .tasks) (q .lines) a bits))))
+    (woken (first (q .lines) (eventLine a)) 0 (waiterMatch (q .tasks) (q .lines) a bits) (queue q))))
+
+abbrev pub postEffect : Served → ℕ → ℕ → After Served
+postEffect q a mask = postedBits q a (bitOr (event (q .objects) a BITS) mask)
+
+-- ---- the calls by number
+unfoldable pub eventCall : Served → List ℕ → ℕ → ℕ → ℕ → ℕ → ℕ → ℕ → Call Served
+eventCall q st x number a b c d =
+    if (eqb number 0x30) (called (createCases (q .objects) x a b c d) (createEffect q))
+    (if (eqb number 0x31) (called (deleteCases (q .lines) (q .objects) x a b c d) (deleteEffect q a))
+    (if (eqb number 0x32) (called (pendCases (q .lines) (q .objects) st x a b c d) (pendEffect q st a b c d))
+    (if (eqb number 0x33) (called (postCases (q .objects) a c d) (postEffect q a b)) (unknown q))))

@@ -1,0 +1,117 @@
+-- 01, 'The tables': the lines in which tasks and Swis stand, all in one table, and the line of each task and Swi.
+use Prim.Native.Nat.{ℕ, _+_, _*_, _-_}
+use mathlib.Core.Bool.{Bool, cond as if}
+use mathlib.Core.List.{List, []}
+use lib.Dec.{eqb, ltb}
+use lib.ListN.{length, getD}
+use Rattle.fold.specs.Lists.{without, putAt, firstWhere}
+use Rattle.rules.specs.Rows.{listed, withListed}
+use Rattle.rules.specs.Tables.{taskCount, levels, task, withTask, swi, PRIORITY, POSTED, ready, atSemaphore, atEvent, reading, writing}
+use Rattle.rules.specs.declared.Task.{Task}
+
+-- ---- which line is whose: "one queue for each priority", a line for each semaphore and mailbox, "the one waiter of an event"
+abbrev pub semaphoreLine : ℕ → ℕ
+semaphoreLine s = s
+
+abbrev pub mailboxLine : ℕ → ℕ
+mailboxLine m = 16 + m
+
+abbrev pub eventLine : ℕ → ℕ
+eventLine e = 24 + e
+
+-- posted Swis, by priority
+abbrev pub postedLine : ℕ → ℕ
+postedLine p = 32 + p
+
+-- active Swis, the top one last
+abbrev pub activeLine : ℕ
+activeLine = 48
+
+-- the ready tasks, by priority
+abbrev pub readyLine : ℕ → ℕ
+readyLine p = 49 + p
+
+abbrev pub lineCount : ℕ
+lineCount = 49 + levels
+
+-- a line has room for 32
+abbrev pub lineMost : ℕ
+lineMost = 32
+
+abbrev pub lineWidth : ℕ
+lineWidth = 33
+
+-- a number that is no line's
+abbrev pub nowhere : ℕ
+nowhere = 255
+
+-- ---- the lines themselves
+-- those who stand in line j, the one at the front first; nobody where there is no such line
+unfoldable pub line : List ℕ → ℕ → List ℕ
+line ls j = if (ltb j lineCount) (listed lineMost ls (j * lineWidth)) []
+
+-- the lines, but that these stand in line j
+unfoldable pub withLine : List ℕ → ℕ → List ℕ → List ℕ
+withLine ls j xs = if (ltb j lineCount) (withListed lineMost ls (j * lineWidth) xs) ls
+
+-- Calls reach a line in these ways only: whether anyone stands there, the first, leaving, joining at the back, and joining at a place.
+abbrev pub anyone : List ℕ → ℕ → Bool
+anyone ls j = ltb 0 (length (line ls j))
+
+abbrev pub first : List ℕ → ℕ → ℕ
+first ls j = getD (line ls j) 0 0
+
+unfoldable pub left : ℕ → ℕ → List ℕ → List ℕ
+left j x ls = withLine ls j (without x (line ls j))
+
+-- x behind as many as `place` says of those who stand there; a full line stays as it is
+unfoldable pub entered : (List ℕ → ℕ) → ℕ → ℕ → List ℕ → List ℕ
+entered place j x ls = if (ltb (length (line ls j)) lineMost) (withLine ls j (putAt (place (line ls j)) x (line ls j))) ls
+
+-- "Tasks join queues at the back."
+abbrev pub atBack : List ℕ → ℕ
+atBack xs = length xs
+
+abbrev pub joined : ℕ → ℕ → List ℕ → List ℕ
+joined j x ls = entered atBack j x ls
+
+-- "before the first waiter of lower priority"
+abbrev pub isLower : List ℕ → ℕ → ℕ → Bool
+isLower ts p y = ltb (task ts y .priority) p
+
+abbrev pub byPriority : List ℕ → ℕ → List ℕ → ℕ
+byPriority ts p xs = firstWhere (isLower ts p) xs
+
+-- ---- where a task stands: "Each ready task stands once, in its priority's queue. Each blocked task sleeps or stands once in one semaphore's
+-- or mailbox's line, or is the one waiter of an event. Nothing else stands in a queue or line"
+unfoldable pub homeBy : ℕ → ℕ → ℕ → ℕ
+homeBy mode priority object =
+    if (eqb mode ready) (readyLine priority)
+    (if (eqb mode atSemaphore) (semaphoreLine object)
+    (if (eqb mode atEvent) (eventLine object)
+    (if (eqb mode reading) (mailboxLine object)
+    (if (eqb mode writing) (mailboxLine object) nowhere))))
+
+abbrev pub homeOf : Task → ℕ
+homeOf k = homeBy (k .mode) (k .priority) (k .object)
+
+abbrev pub taskHome : List ℕ → ℕ → ℕ
+taskHome ts i = homeOf (task ts i)
+
+-- "Posted Swis stand once in their priority's queue"
+unfoldable pub swiHome : List ℕ → ℕ → ℕ
+swiHome ws i = if (eqb (swi ws i POSTED) 1) (postedLine (swi ws i PRIORITY)) nowhere
+
+-- ---- a task moves: out of its line if it has one, its row becomes k, and into the line that k has, if any; no task i, no change
+pub record Queued : Type 0 where
+  pub tasks : List ℕ
+  pub lines : List ℕ
+
+abbrev pub queued : List ℕ → List ℕ → Queued
+queued ts ls = record { tasks = ts; lines = ls }
+
+unfoldable pub moved : (List ℕ → ℕ) → ℕ → Task → Queued → Queued
+moved place i k x =
+    if (ltb i taskCount)
+    (queued (withTask (x .tasks) i k) (entered place (homeOf k) i (left (taskHome (x .tasks) i) i (x .lines))))
+    x

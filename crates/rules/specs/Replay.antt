@@ -1,0 +1,40 @@
+-- 01, 'The call log': "Replay starts fresh and stops at a fault."
+use Prim.Native.Nat.{ℕ, zero, suc, _+_, _/_}
+use mathlib.Core.List.{List, [], _∷_}
+use lib.ListN.{length}
+use Rattle.rules.specs.Fresh.{fresh}
+use Rattle.rules.specs.Step.{call}
+use Rattle.rules.specs.Log.{readAt, argumentBytes, argument}
+use Rattle.rules.specs.Text.{lineText, wordText, textOf, endWord, cutWord, lengthWord, versionWord}
+use Rattle.rules.specs.declared.Tables.{Tables}
+use Rattle.rules.specs.declared.Step.{Step}
+use Rattle.rules.specs.declared.Read.{Read}
+use Rattle.rules.specs.declared.Read.the-variants.{Record, End, Cut, Length, Version}
+
+-- the call of a record, by its sixteen argument bytes
+abbrev pub recordCall : Tables → ℕ → List ℕ → Step
+recordCall t number bytes = call t number (argument bytes 0) (argument bytes 1) (argument bytes 2) (argument bytes 3)
+
+-- the line of record n, and those after it
+abbrev pub lineFirst : ℕ → Step → (Tables → List (List ℕ)) → List (List ℕ)
+lineFirst n s rest = lineText n (s .answer) (s .thread) ∷ rest (s .tables)
+
+-- what is printed for what stands at a position, after n records; "A fault's last line is as `cut 40`. An empty log prints `end 0`."
+abbrev pub linesFor : Read → List ℕ → ℕ → Tables → (ℕ → Tables → List (List ℕ)) → List (List ℕ)
+linesFor (Record number start) s n t rest = lineFirst (suc n) (recordCall t number (argumentBytes s start)) (rest (start + 16))
+linesFor End s n t rest = wordText endWord n ∷ []
+linesFor (Cut o) s n t rest = wordText cutWord o ∷ []
+linesFor (Length o) s n t rest = wordText lengthWord o ∷ []
+linesFor (Version o) s n t rest = wordText versionWord o ∷ []
+
+-- the lines from a position on, after n records, of at most k records and what ends them
+unfoldable pub linesFrom : ℕ → List ℕ → ℕ → ℕ → Tables → List (List ℕ)
+linesFrom zero s at n t = []
+linesFrom (suc k) s at n t = linesFor (readAt s at) s n t (λ next u. linesFrom k s next (suc n) u)
+
+-- a log of this many bytes has no more records than this
+unfoldable pub replayLines : List ℕ → List (List ℕ)
+replayLines s = linesFrom (suc (length s / 20)) s 0 0 fresh
+
+unfoldable pub replayText : List ℕ → List ℕ
+replayText s = textOf (replayLines s)

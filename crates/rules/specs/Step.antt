@@ -1,0 +1,88 @@
+-- One call: from tables and a call to the next tables, the answer and the running thread. `step` is a call on sound tables, `call` tests first.
+use Prim.Native.Nat.{ℕ, _+_}
+use mathlib.Core.Bool.{Bool, not, _&&_, cond as if}
+use mathlib.Core.List.{List}
+use lib.Dec.{eqb, ltb, leb}
+use Rattle.rules.specs.Answer.{Cases, given, Call, called, After, after, answered, answer, unknown}
+use Rattle.rules.specs.Tables.{tables}
+use Rattle.rules.specs.Lines.{Queued, queued}
+use Rattle.rules.specs.Waits.{Served, served}
+use Rattle.rules.specs.Swis.{Posts, posts, swiCall}
+use Rattle.rules.specs.Tasks.{taskCall}
+use Rattle.rules.specs.Semaphores.{semaphoreCall}
+use Rattle.rules.specs.Events.{eventCall}
+use Rattle.rules.specs.Mailboxes.{mailboxCall}
+use Rattle.rules.specs.Clocks.{clockCall}
+use Rattle.rules.specs.Heap.{heapCall}
+use Rattle.rules.specs.Tick.{Ticked, tickedOf, switchCall}
+use Rattle.rules.specs.Dispatch.{running, context, Dispatched, dispatched}
+use Rattle.rules.specs.Sound.{sound}
+use Rattle.rules.specs.declared.Tables.{Tables}
+use Rattle.rules.specs.declared.Step.{Step}
+use Rattle.rules.specs.declared.Thread.{Thread}
+use Rattle.rules.specs.declared.Thread.the-variants.{Task}
+
+-- ---- the tables, but those that a kind's calls may change
+abbrev pub withQueued : Tables → Queued → Tables
+withQueued t q = tables (q .tasks) (q .lines) (t .semaphores) (t .events) (t .mailboxes) (t .swis) (t .clocks) (t .heap) (t .state)
+
+abbrev pub withPosts : Tables → Posts → Tables
+withPosts t p = tables (t .tasks) (p .lines) (t .semaphores) (t .events) (t .mailboxes) (p .swis) (t .clocks) (t .heap) (t .state)
+
+abbrev pub withSemaphores : Tables → Served → Tables
+withSemaphores t q = tables (q .tasks) (q .lines) (q .objects) (t .events) (t .mailboxes) (t .swis) (t .clocks) (t .heap) (t .state)
+
+abbrev pub withEvents : Tables → Served → Tables
+withEvents t q = tables (q .tasks) (q .lines) (t .semaphores) (q .objects) (t .mailboxes) (t .swis) (t .clocks) (t .heap) (t .state)
+
+abbrev pub withMailboxes : Tables → Served → Tables
+withMailboxes t q = tables (q .tasks) (q .lines) (t .semaphores) (t .events) (q .objects) (t .swis) (t .clocks) (t .heap) (t .state)
+
+abbrev pub withClocks : Tables → List ℕ → Tables
+withClocks t cs = tables (t .tasks) (t .lines) (t .semaphores) (t .events) (t .mailboxes) (t .swis) cs (t .heap) (t .state)
+
+abbrev pub withHeap : Tables → List ℕ → Tables
+withHeap t h = tables (t .tasks) (t .lines) (t .semaphores) (t .events) (t .mailboxes) (t .swis) (t .clocks) h (t .state)
+
+abbrev pub withTicked : Tables → Ticked → Tables
+withTicked t x = tables (x .tasks) (x .lines) (t .semaphores) (t .events) (t .mailboxes) (x .swis) (x .clocks) (t .heap) (x .state)
+
+abbrev pub withDispatched : Tables → Dispatched → Tables
+withDispatched t x = tables (t .tasks) (x .lines) (t .semaphores) (t .events) (t .mailboxes) (x .swis) (t .clocks) (t .heap) (x .state)
+
+-- a kind's call as a call on all tables
+abbrev pub over : {A : Type 0} → (A → Tables) → Call A → Call Tables
+over put c = called (c .cases) (after (c .effect .answer) (put (c .effect .next)))
+
+-- ---- "Call numbers fall into ranges of sixteen, one range for each kind (hexadecimal)."
+abbrev pub inRange : ℕ → ℕ → Bool
+inRange number from = leb from number && ltb number (from + 16)
+
+unfoldable pub callOf : Tables → ℕ → ℕ → ℕ → ℕ → ℕ → ℕ → Call Tables
+callOf t x number a b c d =
+    if (inRange number 0x00) (over (withQueued t) (taskCall (queued (t .tasks) (t .lines)) (t .state) x number a b c d))
+    (if (inRange number 0x10) (over (withPosts t) (swiCall (posts (t .swis) (t .lines)) (t .clocks) (t .state) x number a b c d))
+    (if (inRange number 0x20) (over (withSemaphores t) (semaphoreCall (served (t .tasks) (t .lines) (t .semaphores)) (t .state) x number a b c d))
+    (if (inRange number 0x30) (over (withEvents t) (eventCall (served (t .tasks) (t .lines) (t .events)) (t .state) x number a b c d))
+    (if (inRange number 0x40) (over (withMailboxes t) (mailboxCall (served (t .tasks) (t .lines) (t .mailboxes)) (t .state) x number a b c d))
+    (if (inRange number 0x50) (over (withClocks t) (clockCall (t .clocks) (t .swis) x number a b c d))
+    (if (inRange number 0x60) (over (withHeap t) (heapCall (t .heap) x number a b c d))
+    (if (inRange number 0x70)
+    (over (withTicked t) (switchCall (tickedOf (t .tasks) (t .lines) (t .swis) (t .clocks) (t .state)) x number a b c d))
+    (unknown t))))))))
+
+-- ---- dispatch follows each accepted call, and the running thread is given
+abbrev pub settled : After Tables → Tables
+settled r = if (eqb (r .answer .code) 0) (withDispatched (r .next) (dispatched (r .next .swis) (r .next .lines) (r .next .state))) (r .next)
+
+unfoldable pub finished : After Tables → Step
+finished r =
+    let u : Tables = settled r in
+    record { tables = u; answer = r .answer; thread = running (u .lines) (u .state) }
+
+unfoldable pub step : Tables → ℕ → ℕ → ℕ → ℕ → ℕ → Step
+step t number a b c d = finished (answered t (callOf t (context (t .lines) (t .state)) number a b c d))
+
+-- "10: the tables are not sound"; "with code 10 the thread given is T0"
+unfoldable pub call : Tables → ℕ → ℕ → ℕ → ℕ → ℕ → Step
+call t number a b c d = if (sound t) (step t number a b c d) (record { tables = t; answer = answer 10 0 0; thread = Task 0 })

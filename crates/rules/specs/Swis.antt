@@ -1,0 +1,124 @@
+-- 01, 'Swis': calls 10 to 18.
+use Prim.Native.Nat.{ℕ, _+_, _-_, _%_}
+use mathlib.Core.Bool.{Bool, not, _&&_, _||_, cond as if}
+use mathlib.Core.List.{List, [], _∷_}
+use lib.Bits.{bitAnd, bitOr}
+use lib.Dec.{eqb, ltb}
+use lib.ListN.{length, getD}
+use Rattle.fold.specs.Lists.{zeros, count}
+use Rattle.fold.specs.Find.{allBelow, firstBelow}
+use Rattle.rules.specs.Answer.{Cases, given, never, Call, called, After, accepted, unknown, done, notT, notS, unused}
+use Rattle.rules.specs.Tables.{swiCount, swiWidth, clockCount, wordEnd, swi, withSwi, swiRow, clock, state, USED, PRIORITY, TRIGGER, POSTED, TAKEN, SWIS}
+use Rattle.rules.specs.Lines.{line, left, joined, postedLine, activeLine}
+
+-- what a Swi's calls may change
+pub record Posts : Type 0 where
+  pub swis : List ℕ
+  pub lines : List ℕ
+
+abbrev pub posts : List ℕ → List ℕ → Posts
+posts ws ls = record { swis = ws; lines = ls }
+
+-- the top active Swi: the last to start
+unfoldable pub top : List ℕ → ℕ
+top ls = getD (line ls activeLine) (length (line ls activeLine) - 1) 0
+
+unfoldable pub isActive : List ℕ → ℕ → Bool
+isActive ls i = ltb 0 (count i (line ls activeLine))
+
+-- "named by a clock"
+unfoldable pub isNamed : List ℕ → ℕ → Bool
+isNamed cs i = not (allBelow clockCount (λ n. not (eqb (clock cs n .used) 1 && eqb (clock cs n .swi) i)))
+
+unfoldable pub freeSwi : List ℕ → ℕ
+freeSwi ws = firstBelow swiCount (λ i. eqb (swi ws i USED) 0)
+
+-- "A Swi already posted is not queued again"; it joins its priority's queue at the back; no Swi i, no change
+unfoldable pub posted : ℕ → Posts → Posts
+posted i p =
+    if (ltb i swiCount && eqb (swi (p .swis) i POSTED) 0)
+    (posts (withSwi (p .swis) i POSTED 1) (joined (postedLine (swi (p .swis) i PRIORITY)) i (p .lines)))
+    p
+
+-- Swi i's trigger is this now
+abbrev pub triggered : ℕ → ℕ → Posts → Posts
+triggered i v p = posts (withSwi (p .swis) i TRIGGER v) (p .lines)
+
+-- "The tick count and the triggers go round at 4,294,967,296."
+abbrev pub oneUp : ℕ → ℕ
+oneUp v = (v + 1) % wordEnd
+
+abbrev pub oneDown : ℕ → ℕ
+oneDown v = if (eqb v 0) (wordEnd - 1) (v - 1)
+
+-- the bits of v that are not in the mask
+abbrev pub cleared : ℕ → ℕ → ℕ
+cleared v mask = bitAnd v (wordEnd - 1 - mask)
+
+-- ---- "10 create (priority 0 to 15, initial trigger; T): value its number."
+unfoldable pub createCases : List ℕ → ℕ → ℕ → ℕ → ℕ → ℕ → Cases
+createCases ws x a b c d =
+    given 2 (notT x) (given 4 (not (ltb a 16) || unused 0 0 c d) (given 6 (eqb (freeSwi ws) swiCount) never))
+
+unfoldable pub createEffect : Posts → ℕ → ℕ → After Posts
+createEffect p a b =
+    accepted done (freeSwi (p .swis)) (posts (swiRow (p .swis) (freeSwi (p .swis)) (1 ∷ a ∷ b ∷ b ∷ 0 ∷ 0 ∷ [])) (p .lines))
+
+-- ---- "11 delete (T): 5 if posted, active or named by a clock."
+unfoldable pub deleteCases : List ℕ → List ℕ → List ℕ → ℕ → ℕ → ℕ → ℕ → ℕ → Cases
+deleteCases ws ls cs x a b c d =
+    given 2 (notT x)
+    (given 3 (eqb (swi ws a USED) 0)
+    (given 4 (unused 0 b c d)
+    (given 5 (not (eqb (swi ws a POSTED) 0) || isActive ls a || isNamed cs a) never)))
+
+unfoldable pub deleteEffect : Posts → ℕ → After Posts
+deleteEffect p a = accepted done 0 (posts (swiRow (p .swis) a (zeros swiWidth)) (p .lines))
+
+-- ---- "T S I: 12 post; 13 add one and post; 14 take one and post if now 0; 15 set mask bits and post; 16 clear mask bits and post if now 0."
+-- "A Swi already posted is not queued again, its trigger still changes. An active one may be posted."
+unfoldable pub postCases : List ℕ → ℕ → ℕ → ℕ → ℕ → Cases
+postCases ws a b c d = given 3 (eqb (swi ws a USED) 0) (given 4 (unused 0 b c d) never)
+
+-- the same for the calls with a mask
+unfoldable pub maskCases : List ℕ → ℕ → ℕ → ℕ → Cases
+maskCases ws a c d = given 3 (eqb (swi ws a USED) 0) (given 4 (unused 0 0 c d) never)
+
+unfoldable pub postEffect : Posts → ℕ → After Posts
+postEffect p a = accepted done 0 (posted a p)
+
+-- the trigger is v now, and the Swi posted
+unfoldable pub changeEffect : Posts → ℕ → ℕ → After Posts
+changeEffect p a v = accepted done 0 (posted a (triggered a v p))
+
+-- the trigger is v now, and the Swi posted if that is 0
+unfoldable pub zeroEffect : Posts → ℕ → ℕ → After Posts
+zeroEffect p a v = accepted done 0 (if (eqb v 0) (posted a (triggered a v p)) (triggered a v p))
+
+-- ---- "17 end (S): 9 while Swis are off."
+unfoldable pub endCases : List ℕ → ℕ → ℕ → ℕ → ℕ → ℕ → Cases
+endCases st x a b c d = given 2 (notS x) (given 4 (unused a b c d) (given 9 (eqb (state st SWIS) 0) never))
+
+-- "the taken trigger of a Swi not active" is 0
+unfoldable pub endEffect : Posts → After Posts
+endEffect p = accepted done 0 (posts (withSwi (p .swis) (top (p .lines)) TAKEN 0) (left activeLine (top (p .lines)) (p .lines)))
+
+-- ---- "18 taken trigger (S): value."
+unfoldable pub takenCases : ℕ → ℕ → ℕ → ℕ → ℕ → Cases
+takenCases x a b c d = given 2 (notS x) (given 4 (unused a b c d) never)
+
+unfoldable pub takenEffect : Posts → After Posts
+takenEffect p = accepted done (swi (p .swis) (top (p .lines)) TAKEN) p
+
+-- ---- the calls by number
+unfoldable pub swiCall : Posts → List ℕ → List ℕ → ℕ → ℕ → ℕ → ℕ → ℕ → ℕ → Call Posts
+swiCall p cs st x number a b c d =
+    if (eqb number 0x10) (called (createCases (p .swis) x a b c d) (createEffect p a b))
+    (if (eqb number 0x11) (called (deleteCases (p .swis) (p .lines) cs x a b c d) (deleteEffect p a))
+    (if (eqb number 0x12) (called (postCases (p .swis) a b c d) (postEffect p a))
+    (if (eqb number 0x13) (called (postCases (p .swis) a b c d) (changeEffect p a (oneUp (swi (p .swis) a TRIGGER))))
+    (if (eqb number 0x14) (called (postCases (p .swis) a b c d) (zeroEffect p a (oneDown (swi (p .swis) a TRIGGER))))
+    (if (eqb number 0x15) (called (maskCases (p .swis) a c d) (changeEffect p a (bitOr (swi (p .swis) a TRIGGER) b)))
+    (if (eqb number 0x16) (called (maskCases (p .swis) a c d) (zeroEffect p a (cleared (swi (p .swis) a TRIGGER) b)))
+    (if (eqb number 0x17) (called (endCases st x a b c d) (endEffect p))
+    (if (eqb number 0x18) (called (takenCases x a b c d) (takenEffect p)) (unknown p)))))))))

@@ -1,0 +1,273 @@
+-- 01, 'The tables': the rows and words of each table, and what they are called. A number out of range reads as 0, 'not in use'.
+use Prim.Native.Nat.{ℕ, _+_, _*_, _^_}
+use mathlib.Core.Path.{_≡_}
+use mathlib.Core.Bool.{_&&_, cond as if}
+use mathlib.Core.List.{List, [], _∷_}
+use lib.Dec.{ltb, leb}
+use lib.ListN.{length, getD, set}
+use Rattle.fold.specs.Lists.{zeros}
+use Rattle.rules.specs.Rows.{field, withField, withRow, listed, withListed}
+use Rattle.rules.specs.declared.Tables.{Tables}
+use Rattle.rules.specs.declared.Task.{Task}
+use Rattle.rules.specs.declared.Clock.{Clock}
+
+-- ---- "32 tasks (0 to 31), 16 Swis, 16 semaphores, 8 events, 8 mailboxes of 1 to 8 messages, 16 clocks", and each row's words
+abbrev pub taskCount : ℕ
+taskCount = 32
+
+abbrev pub taskWidth : ℕ
+taskWidth = 8
+
+abbrev pub swiCount : ℕ
+swiCount = 16
+
+abbrev pub swiWidth : ℕ
+swiWidth = 6
+
+abbrev pub semaphoreCount : ℕ
+semaphoreCount = 16
+
+abbrev pub semaphoreWidth : ℕ
+semaphoreWidth = 3
+
+abbrev pub eventCount : ℕ
+eventCount = 8
+
+abbrev pub eventWidth : ℕ
+eventWidth = 2
+
+abbrev pub mailboxCount : ℕ
+mailboxCount = 8
+
+abbrev pub mailboxWidth : ℕ
+mailboxWidth = 10
+
+abbrev pub mailboxMost : ℕ
+mailboxMost = 8
+
+abbrev pub clockCount : ℕ
+clockCount = 16
+
+abbrev pub clockWidth : ℕ
+clockWidth = 5
+
+-- "Task priorities -1 and 1 to 15. Task 0 is the idle task, priority 0": sixteen levels
+abbrev pub levels : ℕ
+levels = 16
+
+-- "One heap of 256 units of 8 bytes"
+abbrev pub heapUnits : ℕ
+heapUnits = 256
+
+-- "All arguments are unsigned 32-bit; priority -1 is written 4,294,967,295"
+abbrev pub wordEnd : ℕ
+wordEnd = 2 ^ 32
+
+abbrev pub minusOne : ℕ
+minusOne = 4294967295
+
+-- "Limit 4,294,967,295 is without end."
+abbrev pub forever : ℕ
+forever = 4294967295
+
+-- ---- tasks: "Modes: running or ready, blocked, terminated, inactive"; blocked is one of five
+abbrev pub notInUse : ℕ
+notInUse = 0
+
+abbrev pub ready : ℕ
+ready = 1
+
+abbrev pub sleeping : ℕ
+sleeping = 2
+
+abbrev pub atSemaphore : ℕ
+atSemaphore = 3
+
+abbrev pub atEvent : ℕ
+atEvent = 4
+
+abbrev pub reading : ℕ
+reading = 5
+
+abbrev pub writing : ℕ
+writing = 6
+
+abbrev pub terminated : ℕ
+terminated = 7
+
+abbrev pub inactive : ℕ
+inactive = 8
+
+-- task i's row; all 0 where there is none
+unfoldable pub task : List ℕ → ℕ → Task
+task ts i =
+    record {
+      mode = field taskWidth taskCount ts i 0;
+      priority = field taskWidth taskCount ts i 1;
+      object = field taskWidth taskCount ts i 2;
+      left = field taskWidth taskCount ts i 3;
+      first = field taskWidth taskCount ts i 4;
+      second = field taskWidth taskCount ts i 5;
+      outcome = field taskWidth taskCount ts i 6;
+      value = field taskWidth taskCount ts i 7;
+    }
+
+abbrev pub taskWords : Task → List ℕ
+taskWords k = k .mode ∷ k .priority ∷ k .object ∷ k .left ∷ k .first ∷ k .second ∷ k .outcome ∷ k .value ∷ []
+
+unfoldable pub withTask : List ℕ → ℕ → Task → List ℕ
+withTask ts i k = withRow taskWidth taskCount ts i (taskWords k)
+
+abbrev pub noTask : Task
+noTask = record { mode = notInUse; priority = 0; object = 0; left = 0; first = 0; second = 0; outcome = 0; value = 0 }
+
+-- ---- semaphores
+abbrev pub semaphore : List ℕ → ℕ → ℕ → ℕ
+semaphore ss i f = field semaphoreWidth semaphoreCount ss i f
+
+abbrev pub withSemaphore : List ℕ → ℕ → ℕ → ℕ → List ℕ
+withSemaphore ss i f x = withField semaphoreWidth semaphoreCount ss i f x
+
+abbrev pub semaphoreRow : List ℕ → ℕ → List ℕ → List ℕ
+semaphoreRow ss i ws = withRow semaphoreWidth semaphoreCount ss i ws
+
+-- ---- events
+abbrev pub event : List ℕ → ℕ → ℕ → ℕ
+event es i f = field eventWidth eventCount es i f
+
+abbrev pub withEvent : List ℕ → ℕ → ℕ → ℕ → List ℕ
+withEvent es i f x = withField eventWidth eventCount es i f x
+
+abbrev pub eventRow : List ℕ → ℕ → List ℕ → List ℕ
+eventRow es i ws = withRow eventWidth eventCount es i ws
+
+-- ---- mailboxes: a capacity of 0 is 'not in use'
+abbrev pub mailbox : List ℕ → ℕ → ℕ → ℕ
+mailbox ms i f = field mailboxWidth mailboxCount ms i f
+
+abbrev pub withMailbox : List ℕ → ℕ → ℕ → ℕ → List ℕ
+withMailbox ms i f x = withField mailboxWidth mailboxCount ms i f x
+
+abbrev pub mailboxRow : List ℕ → ℕ → List ℕ → List ℕ
+mailboxRow ms i ws = withRow mailboxWidth mailboxCount ms i ws
+
+-- the messages of mailbox i, the oldest first
+unfoldable pub messages : List ℕ → ℕ → List ℕ
+messages ms i = if (ltb i mailboxCount) (listed mailboxMost ms (i * mailboxWidth + 1)) []
+
+-- more than a mailbox holds changes nothing
+unfoldable pub withMessages : List ℕ → ℕ → List ℕ → List ℕ
+withMessages ms i xs = if (ltb i mailboxCount && leb (length xs) mailboxMost) (withListed mailboxMost ms (i * mailboxWidth + 1) xs) ms
+
+-- ---- Swis
+abbrev pub swi : List ℕ → ℕ → ℕ → ℕ
+swi ws i f = field swiWidth swiCount ws i f
+
+abbrev pub withSwi : List ℕ → ℕ → ℕ → ℕ → List ℕ
+withSwi ws i f x = withField swiWidth swiCount ws i f x
+
+abbrev pub swiRow : List ℕ → ℕ → List ℕ → List ℕ
+swiRow ws i r = withRow swiWidth swiCount ws i r
+
+-- ---- clocks: no ticks left is 'stopped'
+unfoldable pub clock : List ℕ → ℕ → Clock
+clock cs i =
+    record {
+      used = field clockWidth clockCount cs i 0;
+      swi = field clockWidth clockCount cs i 1;
+      first = field clockWidth clockCount cs i 2;
+      period = field clockWidth clockCount cs i 3;
+      left = field clockWidth clockCount cs i 4;
+    }
+
+abbrev pub clockWords : Clock → List ℕ
+clockWords c = c .used ∷ c .swi ∷ c .first ∷ c .period ∷ c .left ∷ []
+
+unfoldable pub withClock : List ℕ → ℕ → Clock → List ℕ
+withClock cs i c = withRow clockWidth clockCount cs i (clockWords c)
+
+abbrev pub noClock : Clock
+noClock = record { used = 0; swi = 0; first = 0; period = 0; left = 0 }
+
+-- ---- the state: "Interrupt depth 0 to 8; a switch for Swis and one for tasks; the tick count", and the current task
+abbrev pub state : List ℕ → ℕ → ℕ
+state st f = getD st f 0
+
+abbrev pub withState : List ℕ → ℕ → ℕ → List ℕ
+withState st f x = set st f x
+
+-- ---- the words' names
+-- of a semaphore, an event, a Swi
+abbrev pub USED : ℕ
+USED = 0
+
+-- of a semaphore
+abbrev pub KIND : ℕ
+KIND = 1
+
+abbrev pub COUNT : ℕ
+COUNT = 2
+
+-- of an event
+abbrev pub BITS : ℕ
+BITS = 1
+
+-- of a mailbox
+abbrev pub CAPACITY : ℕ
+CAPACITY = 0
+
+abbrev pub MESSAGES : ℕ
+MESSAGES = 1
+
+-- of a Swi
+abbrev pub PRIORITY : ℕ
+PRIORITY = 1
+
+abbrev pub INITIAL : ℕ
+INITIAL = 2
+
+abbrev pub TRIGGER : ℕ
+TRIGGER = 3
+
+abbrev pub POSTED : ℕ
+POSTED = 4
+
+abbrev pub TAKEN : ℕ
+TAKEN = 5
+
+-- of the state
+abbrev pub DEPTH : ℕ
+DEPTH = 0
+
+abbrev pub SWIS : ℕ
+SWIS = 1
+
+abbrev pub TASKS : ℕ
+TASKS = 2
+
+abbrev pub TICK : ℕ
+TICK = 3
+
+abbrev pub CURRENT : ℕ
+CURRENT = 4
+
+-- the current task; a number that is no task's counts as 0
+unfoldable pub current : List ℕ → ℕ
+current st = if (ltb (state st CURRENT) taskCount) (state st CURRENT) 0
+
+-- ---- all tables: tasks, lines, semaphores, events, mailboxes, Swis, clocks, heap, state
+abbrev pub tables : List ℕ → List ℕ → List ℕ → List ℕ → List ℕ → List ℕ → List ℕ → List ℕ → List ℕ → Tables
+tables ts ls ss es ms ws cs h st =
+    record { tasks = ts; lines = ls; semaphores = ss; events = es; mailboxes = ms; swis = ws; clocks = cs; heap = h; state = st }
+
+-- what their types say of them: each array's length
+pub record Typed (t : Tables) : Type 0 where
+  pub tasks : length (t .tasks) ≡ 256
+  pub lines : length (t .lines) ≡ 2145
+  pub semaphores : length (t .semaphores) ≡ 48
+  pub events : length (t .events) ≡ 16
+  pub mailboxes : length (t .mailboxes) ≡ 80
+  pub swis : length (t .swis) ≡ 96
+  pub clocks : length (t .clocks) ≡ 80
+  pub heap : length (t .heap) ≡ 256
+  pub state : length (t .state) ≡ 5

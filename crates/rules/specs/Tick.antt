@@ -1,0 +1,108 @@
+-- 01, 'Tick': call 76, and the switches' calls by number.
+use Prim.Native.Nat.{ℕ, _+_, _-_, _%_}
+use mathlib.Core.Bool.{Bool, true, false, not, cond as if}
+use mathlib.Core.List.{List}
+use lib.Dec.{eqb}
+use Rattle.fold.specs.Find.{rising}
+use Rattle.rules.specs.Answer.{Cases, Call, called, After, after, accepted, unknown, done, notT, notTS}
+use Rattle.rules.specs.Tables.{taskCount, clockCount, wordEnd, task, withTask, clock, withClock, state, withState, sleeping, SWIS, TASKS, TICK}
+use Rattle.rules.specs.Lines.{Queued, queued}
+use Rattle.rules.specs.Waits.{woken}
+use Rattle.rules.specs.Swis.{Posts, posts, posted}
+use Rattle.rules.specs.Clocks.{withLeft}
+use Rattle.rules.specs.Switches.{offCases, offEffect, restoreCases, restoreEffect, inCases, inEffect, outCases, outEffect}
+use Rattle.rules.specs.declared.Task.{Task}
+use Rattle.rules.specs.declared.Clock.{Clock}
+use Rattle.rules.specs.declared.AgedClock.{AgedClock}
+
+-- ---- "Then running clocks in rising number: one tick less; at 0 the Swi is posted, and the clock has its period again or stops if that is 0.
+-- Each step ages one clock's own record in place."
+unfoldable pub aged : Clock → AgedClock
+aged k =
+    if (eqb (k .left) 0) (record { clock = k; fired = false })
+    (if (eqb (k .left) 1) (record { clock = withLeft k (k .period); fired = true })
+    (record { clock = withLeft k (k .left - 1); fired = false }))
+
+-- the clocks, and the Swis that they post
+pub record Clocked : Type 0 where
+  pub clocks : List ℕ
+  pub swis : List ℕ
+  pub lines : List ℕ
+
+abbrev pub clockedOf : List ℕ → List ℕ → List ℕ → Clocked
+clockedOf cs ws ls = record { clocks = cs; swis = ws; lines = ls }
+
+abbrev pub postedIf : Bool → ℕ → Posts → Posts
+postedIf fired i p = if fired (posted i p) p
+
+unfoldable pub clockTick : Clocked → ℕ → Clocked
+clockTick x n =
+    let k : AgedClock = aged (clock (x .clocks) n) in
+    let p : Posts = postedIf (k .fired) (clock (x .clocks) n .swi) (posts (x .swis) (x .lines)) in
+    clockedOf (withClock (x .clocks) n (k .clock)) (p .swis) (p .lines)
+
+-- ---- "Then limited waits and sleeps in rising task number: one tick less; at 0 the task leaves its line and is ready. A sleep that ends has
+-- outcome 0." An expired wait leaves "outcome 1, value 0".
+abbrev pub oneLess : Task → Task
+oneLess k =
+    record {
+      mode = k .mode;
+      priority = k .priority;
+      object = k .object;
+      left = k .left - 1;
+      first = k .first;
+      second = k .second;
+      outcome = k .outcome;
+      value = k .value;
+    }
+
+abbrev pub endedWith : ℕ → ℕ
+endedWith mode = if (eqb mode sleeping) 0 1
+
+unfoldable pub taskTick : Queued → ℕ → Queued
+taskTick q i =
+    if (eqb (task (q .tasks) i .left) 0) q
+    (if (eqb (task (q .tasks) i .left) 1) (woken i (endedWith (task (q .tasks) i .mode)) 0 q)
+    (queued (withTask (q .tasks) i (oneLess (task (q .tasks) i))) (q .lines)))
+
+-- ---- what a tick may change
+pub record Ticked : Type 0 where
+  pub tasks : List ℕ
+  pub lines : List ℕ
+  pub swis : List ℕ
+  pub clocks : List ℕ
+  pub state : List ℕ
+
+abbrev pub tickedOf : List ℕ → List ℕ → List ℕ → List ℕ → List ℕ → Ticked
+tickedOf ts ls ws cs st = record { tasks = ts; lines = ls; swis = ws; clocks = cs; state = st }
+
+-- "The count goes up by one." "The tick count .. go round at 4,294,967,296."
+abbrev pub countedUp : List ℕ → List ℕ
+countedUp st = withState st TICK ((state st TICK + 1) % wordEnd)
+
+abbrev pub clocksTicked : List ℕ → List ℕ → List ℕ → Clocked
+clocksTicked cs ws ls = rising clockCount clockTick (clockedOf cs ws ls)
+
+abbrev pub tasksTicked : List ℕ → List ℕ → Queued
+tasksTicked ts ls = rising taskCount taskTick (queued ts ls)
+
+unfoldable pub ticked : Ticked → Ticked
+ticked t =
+    let x : Clocked = clocksTicked (t .clocks) (t .swis) (t .lines) in
+    let q : Queued = tasksTicked (t .tasks) (x .lines) in
+    tickedOf (q .tasks) (q .lines) (x .swis) (x .clocks) (countedUp (t .state))
+
+-- ---- the calls by number
+-- the calls 70 to 75 change the state alone
+abbrev pub onState : Ticked → After (List ℕ) → After Ticked
+onState t r = after (r .answer) (tickedOf (t .tasks) (t .lines) (t .swis) (t .clocks) (r .next))
+
+unfoldable pub switchCall : Ticked → ℕ → ℕ → ℕ → ℕ → ℕ → ℕ → Call Ticked
+switchCall t x number a b c d =
+    if (eqb number 0x70) (called (offCases (notTS x) a b c d) (onState t (offEffect (t .state) SWIS)))
+    (if (eqb number 0x71) (called (restoreCases (notTS x) a b c d) (onState t (restoreEffect (t .state) SWIS a)))
+    (if (eqb number 0x72) (called (offCases (notT x) a b c d) (onState t (offEffect (t .state) TASKS)))
+    (if (eqb number 0x73) (called (restoreCases (notT x) a b c d) (onState t (restoreEffect (t .state) TASKS a)))
+    (if (eqb number 0x74) (called (inCases (t .state) a b c d) (onState t (inEffect (t .state))))
+    (if (eqb number 0x75) (called (outCases x a b c d) (onState t (outEffect (t .state))))
+    (if (eqb number 0x76) (called (outCases x a b c d) (accepted done 0 (ticked t))) (unknown t)))))))

@@ -1,0 +1,100 @@
+// Document 01 as types. A table is an array of numbers, a row for each object and a word for each field; what the numbers
+// mean, and what each call does to them, is said in specs/, a file for each section of the document.
+
+// 32 rows of 8: mode, priority, object, left, first, second, outcome, value.
+pub type Tasks = [u32; 256];
+
+// 65 rows of 33: how many stand in the line, who, the one at the front first, and zeros.
+pub type Lines = [u8; 2145];
+
+// 16 rows of 3: used, kind, count.
+pub type Semaphores = [u32; 48];
+
+// 8 rows of 2: used, bits.
+pub type Events = [u32; 16];
+
+// 8 rows of 10: capacity, messages there, and eight words, the oldest first.
+pub type Mailboxes = [u32; 80];
+
+// 16 rows of 6: used, priority, initial, trigger, posted, taken.
+pub type Swis = [u32; 96];
+
+// 16 rows of 5: used, swi, first, period, left.
+pub type Clocks = [u32; 80];
+
+// An entry for each of the 256 units: 0 free, 1 first of a block, 2 later in one.
+pub type Heap = [u8; 256];
+
+// One row of 5: depth, Swis on, tasks on, tick, current.
+pub type State = [u32; 5];
+
+// All tables by value: what goes in with a call, and what comes out.
+pub struct Tables {
+    pub tasks: Tasks,
+    pub lines: Lines,
+    pub semaphores: Semaphores,
+    pub events: Events,
+    pub mailboxes: Mailboxes,
+    pub swis: Swis,
+    pub clocks: Clocks,
+    pub heap: Heap,
+    pub state: State,
+}
+
+// A task's row, while it is worked on.
+pub struct Task {
+    pub mode: u32,
+    pub priority: u32,
+    pub object: u32,
+    pub left: u32,
+    pub first: u32,
+    pub second: u32,
+    pub outcome: u32,
+    pub value: u32,
+}
+
+// A clock's row, while it is aged.
+pub struct Clock {
+    pub used: u32,
+    pub swi: u32,
+    pub first: u32,
+    pub period: u32,
+    pub left: u32,
+}
+
+// A clock after a tick, and whether its Swi is posted.
+pub struct AgedClock {
+    pub clock: Clock,
+    pub fired: bool,
+}
+
+// What a call answers.
+pub struct Answer {
+    pub code: u32,
+    pub outcome: u32,
+    pub value: u32,
+}
+
+// Who runs.
+pub enum Thread {
+    Task(u32),
+    Swi(u32),
+    Interrupt,
+}
+
+// What a call leaves: the next tables, its answer and the running thread.
+pub struct Step {
+    pub tables: Tables,
+    pub answer: Answer,
+    pub thread: Thread,
+}
+
+// What stands at a position of a log: a record, with its call number and where its sixteen argument bytes start; nothing more; or a
+// fault, with the record's byte offset.
+pub enum Read {
+    Record { number: u8, start: usize },
+    End,
+    Cut(usize),
+    Length(usize),
+    Version(usize),
+}

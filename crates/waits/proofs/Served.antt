@@ -1,0 +1,67 @@
+-- What an accepted call answers, and how it leaves the tasks, the lines and the table of its objects.
+use Prim.Native.Nat.{ℕ, _<_, _≤_}
+use mathlib.Core.Path.{_≡_, sym, ap, _∙_}
+use mathlib.Core.Logic.{_≢_}
+use mathlib.Core.Bool.{Bool, true, false, _&&_, _||_}
+use mathlib.Core.List.{List}
+use native.Mathlib.Omega.{arith}
+use borrow.Author.Tests.{eq-eqb, ne-eqb, lt-ltb, le-ltb}
+use lib.Dec.{eqb, ltb}
+use Rattle.rules.specs.Answer.{after, accepted, answer, answered, Call, unknown, firstGiven}
+use Rattle.rules.specs.Lines.{Queued, queued}
+use Rattle.rules.specs.Waits.{Served, served, requeued}
+use Rattle.rules.specs.declared.Answer.{Answer}
+
+-- an answer and the tables, each equal to what is said of it
+pub accepted-is : {A : Type 0} (o v : ℕ) {r : Answer} {t u : A} → r ≡ answer 0 o v → t ≡ u → after r t ≡ accepted o v u
+accepted-is o v a e = λ z. after (a z) (e z)
+
+module _ (q : Served) (o v : ℕ) {r : Answer} (is : r ≡ answer 0 o v) where
+  -- nothing changed
+  pub kept-is : after r q ≡ accepted o v q
+  kept-is = ap (λ (x : Answer). after x q) is
+
+  -- the objects changed
+  pub objects-is : {os₁ os : List ℕ} → os₁ ≡ os → after r (served (q .tasks) (q .lines) os₁) ≡ accepted o v (served (q .tasks) (q .lines) os)
+  objects-is e = accepted-is o v is (ap (served (q .tasks) (q .lines)) e)
+
+  -- a task moved
+  pub requeued-is : {ts₁ ls₁ : List ℕ} {x : Queued} → queued ts₁ ls₁ ≡ x → after r (served ts₁ ls₁ (q .objects)) ≡ accepted o v (requeued q x)
+  requeued-is e = accepted-is o v is (ap (requeued q) e)
+
+  -- a task moved, and the objects changed
+  pub both-is : {ts₁ ls₁ os₁ os : List ℕ} {x : Queued} → queued ts₁ ls₁ ≡ x → os₁ ≡ os
+      → after r (served ts₁ ls₁ os₁) ≡ accepted o v (requeued (served (q .tasks) (q .lines) os) x)
+  both-is e f = accepted-is o v is (λ z. served (e z .tasks) (e z .lines) (f z))
+
+-- a new object: its number is the value, and its row is stored
+pub made-is : (q : Served) (row : ℕ → List ℕ) (n : ℕ) {i : ℕ} {os₁ : List ℕ} {r : Answer} → i ≡ n → os₁ ≡ row i → r ≡ answer 0 0 i
+    → after r (served (q .tasks) (q .lines) os₁) ≡ accepted 0 n (served (q .tasks) (q .lines) (row n))
+made-is q row n a e f = objects-is q 0 n (f ∙ ap (answer 0 0) a) (e ∙ ap row a)
+
+-- no call has the number
+pub unknown-is : {A : Type 0} (q : A) {k : Call A} {r : Answer} → k ≡ unknown q → r ≡ answer 1 0 0 → after r q ≡ answered q k
+unfolding firstGiven
+unknown-is q e f = ap (λ (x : Answer). after x q) f ∙ ap (answered q) (sym e)
+
+-- ---- a number that was read, tested against n
+module _ (n : ℕ) {v w : ℕ} (is : v ≡ w) where
+  pub is-same : v ≡ n → eqb w n ≡ true
+  is-same h = eq-eqb w n (sym is ∙ h)
+
+  pub is-other : v ≢ n → eqb w n ≡ false
+  is-other h = ne-eqb w n (λ (e : w ≡ n). h (is ∙ e))
+
+  pub is-above : n < v → ltb n w ≡ true
+  is-above h = lt-ltb n w (omega arith)
+
+  pub is-within : v ≤ n → ltb n w ≡ false
+  is-within h = le-ltb n w (omega arith)
+
+-- ---- two tests that were made, as one
+module _ {a b p q t : Bool} (e : a ≡ p) (f : b ≡ q) where
+  pub both-tests : (a && b) ≡ t → (p && q) ≡ t
+  both-tests h = (λ z. sym e z && sym f z) ∙ h
+
+  pub either-test : (a || b) ≡ t → (p || q) ≡ t
+  either-test h = (λ z. sym e z || sym f z) ∙ h
