@@ -5,7 +5,7 @@ use mathlib.Core.Bool.{Bool, true, false, cond as if}
 use lib.Dec.{eqb}
 use mathlib.Core.Logic.{_≢_}
 use borrow.Author.Tests.{eq-eqb, ne-eqb}
-use Rattle.rules.specs.Answer.{After, after, answer, refused, guarded}
+use Rattle.rules.specs.Answer.{After, after, answer, answered, Call, unknown, firstGiven, refused, guarded}
 use Rattle.rules.specs.declared.Answer.{Answer}
 
 module _ {A : Type 0} (t : A) (e : After A) (k : ℕ) {code : ℕ} (is : code ≡ k) where
@@ -26,3 +26,8 @@ module _ {A B : Type 0} (put : A → B) where
 
   pub mapped-guarded : (k : ℕ) (t : A) (e : After A) → mapped (guarded k t e) ≡ guarded k (put t) (mapped e)
   mapped-guarded k t e = by-case (eqb k 0) k t e
+
+-- ---- an unknown number
+pub unknown-is : {A : Type 0} (t : A) (k : Call A) → k ≡ unknown t → {r : Answer} → r ≡ answer 1 0 0 → after r t ≡ answered t k
+unfolding firstGiven
+unknown-is t k e q = ap (λ (r : Answer). after r t) q ∙ ap (answered t) (sym e)

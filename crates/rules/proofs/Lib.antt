@@ -1,3 +1,11 @@
 pub mod Computed
-pub mod Cases
 pub mod Agree
+pub mod Runs
+pub mod Faster
+pub mod Cases
+pub mod Mistakes
+pub mod Calls
+pub mod Logs
+pub mod Broken
+pub mod Busy
+pub mod Unsound

@@ -15,9 +15,10 @@ use Rattle.rules.specs.Mailboxes.{mailboxCall}
 use Rattle.rules.specs.Clocks.{clockCall}
 use Rattle.rules.specs.Heap.{heapCall}
 use Rattle.rules.specs.Tick.{Ticked, tickedOf, switchCall}
-use Rattle.rules.specs.Dispatch.{running, context, Dispatched, dispatched}
+use Rattle.rules.specs.Dispatch.{running, context, Dispatched, dispatchedOf, dispatched}
 use Rattle.rules.specs.Sound.{sound}
 use Rattle.rules.specs.declared.Tables.{Tables}
+use Rattle.rules.specs.declared.Answer.{Answer}
 use Rattle.rules.specs.declared.Step.{Step}
 use Rattle.rules.specs.declared.Thread.{Thread}
 use Rattle.rules.specs.declared.Thread.the-variants.{Task}
@@ -72,17 +73,20 @@ callOf t x number a b c d =
     (unknown t))))))))
 
 -- ---- dispatch follows each accepted call, and the running thread is given
-abbrev pub settled : After Tables → Tables
-settled r = if (eqb (r .answer .code) 0) (withDispatched (r .next) (dispatched (r .next .swis) (r .next .lines) (r .next .state))) (r .next)
+abbrev pub settled : ℕ → List ℕ → List ℕ → List ℕ → Dispatched
+settled code ws ls st = if (eqb code 0) (dispatched ws ls st) (dispatchedOf ws ls st)
+
+abbrev pub stepOf : Tables → Answer → Thread → Step
+stepOf t r x = record { tables = t; answer = r; thread = x }
 
 unfoldable pub finished : After Tables → Step
 finished r =
-    let u : Tables = settled r in
-    record { tables = u; answer = r .answer; thread = running (u .lines) (u .state) }
+    let x : Dispatched = settled (r .answer .code) (r .next .swis) (r .next .lines) (r .next .state) in
+    stepOf (withDispatched (r .next) x) (r .answer) (running (x .lines) (x .state))
 
 unfoldable pub step : Tables → ℕ → ℕ → ℕ → ℕ → ℕ → Step
 step t number a b c d = finished (answered t (callOf t (context (t .lines) (t .state)) number a b c d))
 
 -- "10: the tables are not sound"; "with code 10 the thread given is T0"
 unfoldable pub call : Tables → ℕ → ℕ → ℕ → ℕ → ℕ → Step
-call t number a b c d = if (sound t) (step t number a b c d) (record { tables = t; answer = answer 10 0 0; thread = Task 0 })
+call t number a b c d = if (sound t) (step t number a b c d) (stepOf t (answer 10 0 0) (Task 0))

@@ -1,0 +1,22 @@
+use borrow.Author.Tests.{ne-eqb}
+use Rattle.rules.specs.Answer.{firstGiven}
+use Rattle.rules.specs.Clocks.{clockCall}
+use borrow.Author.Needs.{needs}
+use Rattle.clocks.proofs.clock_call.Statement.{statement}
+use Rattle.clocks.proofs.clock_call.Tie as tie
+
+pub clock-call-spec : {M : Type 1} → statement M
+unfolding clockCall firstGiven
+clock-call-spec =
+    tie.close
+    (tie.spec
+    (λ c κs. search needs)
+    (λ c κs. search needs)
+    (λ c κs. search needs)
+    (λ c κs. search needs)
+    (λ c κs. search needs)
+    (λ c. rw (c .before .before .match .keys1) (c .create .ensures))
+    (λ c. rw (c .before .before .match .keys2) (c .delete .ensures))
+    (λ c. rw (c .before .before .match .keys3) (c .start .ensures))
+    (λ c. rw (c .before .before .match .keys4) (c .stop .ensures))
+    (λ c. let n = c .before .match .rest in rw (ne-eqb _ 0x50 (n .0 .0 .0 .1), ne-eqb _ 0x51 (n .0 .0 .1), ne-eqb _ 0x52 (n .0 .1), ne-eqb _ 0x53 (n .1), c .refused .ensures)))

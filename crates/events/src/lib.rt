@@ -1,0 +1,37 @@
+// The calls on events, 30 to 33.
+pub mod calls;
+pub mod table;
+
+use rules::Answer;
+use rules::Events;
+use rules::Lines;
+use rules::State;
+use rules::Tasks;
+ghost use mathlib.Core.Path.{_≡_};
+ghost use Rattle.rules.specs.Answer.{after, answered};
+ghost use Rattle.rules.specs.Waits.{served};
+ghost use Rattle.rules.specs.Events.{eventCall};
+
+// The call of this number, made by x: 0 a task, 1 a Swi, 2 an interrupt.
+pub fn event_call(
+    tasks: &mut Tasks,
+    lines: &mut Lines,
+    events: &mut Events,
+    state: &State,
+    x: u32,
+    number: u32,
+    a: u32,
+    b: u32,
+    c: u32,
+    d: u32,
+) -> Answer
+    ensures { λ r. ⌜ after r (served (now (tasks .exit)) (now (lines .exit)) (now (events .exit))) ≡ answered (served (now (tasks .entry)) (now (lines .entry)) (now (events .entry))) (eventCall (served (now (tasks .entry)) (now (lines .entry)) (now (events .entry))) (now (state .entry)) x number a b c d) ⌝ }
+{
+    match number {
+        0x30 => calls::create(events, x, a, b, c, d),
+        0x31 => calls::delete(lines, events, x, a, b, c, d),
+        0x32 => calls::pend(tasks, lines, events, state, x, a, b, c, d),
+        0x33 => calls::post(tasks, lines, events, a, b, c, d),
+        _ => rows::answers::refused(1),
+    }
+}

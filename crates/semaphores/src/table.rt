@@ -1,0 +1,61 @@
+// A semaphore's row, the first row that is free, and how far a count goes.
+use rows::words::USED;
+use rules::Semaphores;
+ghost use mathlib.Core.Path.{_≡_};
+ghost use mathlib.Core.List.{[], _∷_};
+ghost use Prim.Native.Nat.{_≤_};
+ghost use Rattle.rules.specs.Tables.{semaphoreRow};
+ghost use Rattle.rules.specs.Semaphores.{freeSemaphore, isBinary, most, countUp};
+
+// The lowest free number; 16 where there is none.
+pub fn free_semaphore(semaphores: &Semaphores) -> usize
+    ensures { λ r. ⌜ (r ≡ freeSemaphore (now (semaphores .entry))) × (r ≤ 16) ⌝ }
+{
+    let mut i: usize = 0;
+    while i < 16 {
+        if rows::words::semaphore(semaphores, i, USED) == 0 {
+            return i;
+        }
+        i += 1;
+    }
+    16
+}
+
+// Row i has these words.
+pub fn put_semaphore(semaphores: &mut Semaphores, i: usize, used: u32, kind: u32, count: u32)
+    ensures { λ _. ⌜ now (semaphores .exit) ≡ semaphoreRow (now (semaphores .entry)) i (used ∷ kind ∷ count ∷ []) ⌝ }
+{
+    if i < 16 {
+        let at = i * 3;
+        semaphores[at] = used;
+        semaphores[at + 1] = kind;
+        semaphores[at + 2] = count;
+    }
+}
+
+// Kinds 1 and 3 are binary.
+pub fn is_binary(kind: u32) -> bool
+    ensures { λ r. ⌜ r ≡ isBinary kind ⌝ }
+{
+    (kind == 1) | (kind == 3)
+}
+
+// How far a count of this kind goes.
+pub fn most(kind: u32) -> u32
+    ensures { λ r. ⌜ r ≡ most kind ⌝ }
+{
+    if is_binary(kind) {
+        return 1;
+    }
+    65535
+}
+
+// One up, and no more than the kind's most.
+pub fn count_up(kind: u32, n: u32) -> u32
+    ensures { λ r. ⌜ r ≡ countUp kind n ⌝ }
+{
+    if n < most(kind) {
+        return n + 1;
+    }
+    n
+}

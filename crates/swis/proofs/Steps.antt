@@ -1,0 +1,133 @@
+-- What the steps of a call, one after the other, leave of the Swis and their lines.
+use Prim.Native.Nat.{ℕ, suc, _+_, _*_, _-_, _≤_, _<_}
+use mathlib.Core.Path.{_≡_, sym, ap, _∙_}
+use mathlib.Core.Logic.{_≢_}
+use mathlib.Core.Bool.{Bool, true, false, not, _&&_}
+use mathlib.Core.List.{List, [], _∷_}
+use native.Mathlib.Numerals.{add-one}
+use native.Mathlib.Omega.{arith}
+use borrow.Author.Tests.{eq-eqb, ne-eqb, lt-ltb, le-ltb}
+use lib.Dec.{eqb}
+use lib.ListN.{length, take, drop, getD, set, take-append-drop, List·getD-eq-default}
+use lib.Seq.{take-suc, take-all}
+use Rattle.fold.specs.Lists.{bit, count}
+use Rattle.fold.specs.Find.{allBelow}
+use Rattle.fold.proofs.Laws.{count-append, count-snoc}
+use Rattle.fold.proofs.Finds.{all-yes, all-no}
+use Rattle.rules.specs.Answer.{after, unknown}
+use Rattle.rules.specs.Tables.{swi, withSwi, swiRow, clock, PRIORITY, POSTED}
+use Rattle.rules.specs.Lines.{line, joined, activeLine}
+use Rattle.rules.specs.Swis.{Posts, posts, posted, top, isActive, isNamed, swiCall}
+use Rattle.rules.specs.declared.Answer.{Answer}
+use Rattle.rules.specs.declared.Clock.{Clock}
+use Rattle.laws.proofs.Rows.{withRow-in, withRow-out}
+
+-- ---- what a call leaves: its answer and its tables
+pub leaves : {A : Type 0} {r s : Answer} {t u : A} → r ≡ s → t ≡ u → after r t ≡ after s u
+leaves p q = λ z. record { answer = p z; next = q z }
+
+-- ---- a word that was read is 0, or is not
+pub zero-is : {r x : ℕ} → r ≡ x → r ≡ 0 → eqb x 0 ≡ true
+zero-is e f = eq-eqb _ _ (sym e ∙ f)
+
+pub zero-not : {r x : ℕ} → r ≡ x → r ≢ 0 → eqb x 0 ≡ false
+zero-not {x = x} e f = ne-eqb x 0 (λ (z : x ≡ 0). f (e ∙ z))
+
+-- ---- a row, stored word by word
+module _ (ws : List ℕ) (i u p n t q k : ℕ) where
+  pub put-is : i < 16
+      → set (set (set (set (set (set ws (i * 6) u) (i * 6 + 1) p) (i * 6 + 2) n) (i * 6 + 3) t) (i * 6 + 4) q) (i * 6 + 5) k
+      ≡ swiRow ws i (u ∷ p ∷ n ∷ t ∷ q ∷ k ∷ [])
+  put-is h =
+      let e1 : i * 6 + 1 ≡ suc (i * 6) = omega arith in
+      let e2 : i * 6 + 2 ≡ suc (suc (i * 6)) = omega arith in
+      let e3 : i * 6 + 3 ≡ suc (suc (suc (i * 6))) = omega arith in
+      let e4 : i * 6 + 4 ≡ suc (suc (suc (suc (i * 6)))) = omega arith in
+      let e5 : i * 6 + 5 ≡ suc (suc (suc (suc (suc (i * 6))))) = omega arith in
+      rw (e1, e2, e3, e4, e5) (sym (withRow-in 6 16 ws i (u ∷ p ∷ n ∷ t ∷ q ∷ k ∷ []) h))
+
+  pub put-none : 16 ≤ i → ws ≡ swiRow ws i (u ∷ p ∷ n ∷ t ∷ q ∷ k ∷ [])
+  put-none h = sym (withRow-out 6 16 ws i (u ∷ p ∷ n ∷ t ∷ q ∷ k ∷ []) h)
+
+-- ---- the top active Swi: n are active
+module _ (ls : List ℕ) {n : ℕ} (e : n ≡ length (line ls activeLine)) where
+  pub top-none : n ≡ 0 → 0 ≡ top ls
+  unfolding top
+  top-none z = sym (List·getD-eq-default (line ls activeLine) 0 {n = length (line ls activeLine) - 1} (omega arith))
+
+  pub top-last : {m : ℕ} → m ≡ getD (line ls activeLine) (n - 1) 0 → m ≡ top ls
+  unfolding top
+  top-last f = f ∙ ap (λ (k : ℕ). getD (line ls activeLine) (k - 1) 0) e
+
+-- ---- a search among the active Swis has passed k of them
+module _ (ls : List ℕ) (i k : ℕ) {n : ℕ} (e : n ≡ length (line ls activeLine)) where
+  count-more : k < n
+      → count i (take (k + 1) (line ls activeLine)) ≡ count i (take k (line ls activeLine)) + bit (eqb (getD (line ls activeLine) k 0) i)
+  count-more h =
+      let xs : List ℕ = line ls activeLine in
+      let q : k < length xs = omega arith in
+      rw (add-one, take-suc xs k 0 q) (count-snoc i (getD xs k 0) (take k xs))
+
+  module _ (h : k < n) {m w : ℕ} (f : m ≡ getD (line ls activeLine) k 0) (g : w ≡ m) where
+    pub active-here : w ≡ i → true ≡ isActive ls i
+    unfolding isActive
+    active-here s =
+        let xs : List ℕ = line ls activeLine in
+        let b : bit (eqb (getD xs k 0) i) ≡ 1 = ap bit (eq-eqb (getD xs k 0) i (sym (g ∙ f) ∙ s)) in
+        let c = count-append i (take (k + 1) xs) (drop (k + 1) xs) in
+        let d = ap (count i) (take-append-drop (k + 1) xs) in
+        sym (lt-ltb 0 (count i xs) (omega (arith, count-more h)))
+
+    pub active-not : w ≢ i → count i (take k (line ls activeLine)) ≡ 0 → count i (take (k + 1) (line ls activeLine)) ≡ 0
+    active-not s z =
+        let xs : List ℕ = line ls activeLine in
+        let b : bit (eqb (getD xs k 0) i) ≡ 0 = ap bit (ne-eqb (getD xs k 0) i (λ (o : getD xs k 0 ≡ i). s (g ∙ f ∙ o))) in
+        omega (arith, count-more h)
+
+  pub active-none : n ≤ k → count i (take k (line ls activeLine)) ≡ 0 → false ≡ isActive ls i
+  unfolding isActive
+  active-none h z =
+      let xs : List ℕ = line ls activeLine in
+      let a : length xs ≤ k = omega arith in
+      let b = ap (count i) (take-all k xs a) in
+      sym (le-ltb 0 (count i xs) (omega arith))
+
+-- ---- a search among the clocks has come to clock n
+abbrev pub notBy : List ℕ → ℕ → ℕ → Bool
+notBy cs i n = not (eqb (clock cs n .used) 1 && eqb (clock cs n .swi) i)
+
+module _ (cs : List ℕ) (i n : ℕ) {k : Clock} (e : k ≡ clock cs n) where
+  notBy-is : not (eqb (k .used) 1 && eqb (k .swi) i) ≡ notBy cs i n
+  notBy-is = ap (λ (c : Clock). not (eqb (c .used) 1 && eqb (c .swi) i)) e
+
+  pub named-here : n < 16 → (eqb (k .used) 1 && eqb (k .swi) i) ≡ true → true ≡ isNamed cs i
+  unfolding isNamed
+  named-here h t = ap not (all-no (notBy cs i) 16 n h notBy-is (ap not t))
+
+  pub named-not : (eqb (k .used) 1 && eqb (k .swi) i) ≡ false → allBelow n (notBy cs i) ≡ true → allBelow (n + 1) (notBy cs i) ≡ true
+  named-not t a = all-yes (notBy cs i) n a notBy-is (ap not t)
+
+-- ---- a post: q and p are the words posted and priority
+module _ (i : ℕ) (ws ls : List ℕ) where
+  module _ (h : i < 16) {q : ℕ} (a : q ≡ swi ws i POSTED) where
+    pub posted-now : q ≡ 0 → {p : ℕ} {ws₁ ls₁ : List ℕ}
+        → p ≡ swi ws i PRIORITY → ws₁ ≡ withSwi ws i POSTED 1 → ls₁ ≡ joined (32 + p) i ls → posts ws₁ ls₁ ≡ posted i (posts ws ls)
+    unfolding posted
+    posted-now z b c d = rw (d, c, b, lt-ltb i 16 h, zero-is a z)
+
+    pub posted-already : q ≢ 0 → posts ws ls ≡ posted i (posts ws ls)
+    unfolding posted
+    posted-already z = rw (lt-ltb i 16 h, zero-not a z)
+
+  pub posted-none : 16 ≤ i → posts ws ls ≡ posted i (posts ws ls)
+  unfolding posted
+  posted-none h = rw (le-ltb i 16 h)
+
+-- ---- a number that no call on Swis has
+pub no-call : (p : Posts) (cs st : List ℕ) (x n a b c d : ℕ)
+    → n ≢ 0x10 → n ≢ 0x11 → n ≢ 0x12 → n ≢ 0x13 → n ≢ 0x14 → n ≢ 0x15 → n ≢ 0x16 → n ≢ 0x17 → n ≢ 0x18
+    → swiCall p cs st x n a b c d ≡ unknown p
+unfolding swiCall
+no-call p cs st x n a b c d h0 h1 h2 h3 h4 h5 h6 h7 h8 =
+    rw (ne-eqb n 0x10 h0, ne-eqb n 0x11 h1, ne-eqb n 0x12 h2, ne-eqb n 0x13 h3, ne-eqb n 0x14 h4)
+    (rw (ne-eqb n 0x15 h5, ne-eqb n 0x16 h6, ne-eqb n 0x17 h7, ne-eqb n 0x18 h8))

@@ -1,0 +1,22 @@
+use Rattle.swis.proofs.Steps.{zero-is, zero-not}
+use Rattle.rules.specs.Swis.{deleteCases}
+use Rattle.rules.specs.Answer.{firstGiven}
+use borrow.Author.Tests.{eq-eqb, ne-eqb}
+use mathlib.Core.Path.{sym, _∙_}
+use borrow.Author.Needs.{needs}
+use Rattle.swis.proofs.calls.delete_code.Statement.{statement}
+use Rattle.swis.proofs.calls.delete_code.Tie as tie
+
+pub delete-code-spec : {M : Type 1} → statement M
+unfolding firstGiven deleteCases
+delete-code-spec =
+    tie.close
+    (tie.spec
+    (λ c. rw (ne-eqb _ 0 (c .if1 .taken)))
+    (λ c κs. search needs)
+    (λ c. rw (eq-eqb _ 0 (c .before .before .if1 .left), zero-is (c .before .swi .ensures) (c .if2 .taken)))
+    (λ c κs. search needs)
+    (λ c. rw (eq-eqb _ 0 (c .before .before .before .before .if1 .left), zero-not (c .before .before .before .swi .ensures) (c .before .before .if2 .left), sym (c .before .unused .ensures) ∙ c .if3 .taken))
+    (λ c κs. search needs)
+    (λ c. rw (eq-eqb _ 0 (c .before .before .before .before .before .before .if1 .left), zero-not (c .before .before .before .before .before .swi .ensures) (c .before .before .before .before .if2 .left), sym (c .before .before .before .unused .ensures) ∙ c .before .before .if3 .left, sym (c .before .is-held .ensures) ∙ c .if4 .taken))
+    (λ c. rw (eq-eqb _ 0 (c .before .before .before .before .before .before .if1 .left), zero-not (c .before .before .before .before .before .swi .ensures) (c .before .before .before .before .if2 .left), sym (c .before .before .before .unused .ensures) ∙ c .before .before .if3 .left, sym (c .before .is-held .ensures) ∙ c .if4 .left)))

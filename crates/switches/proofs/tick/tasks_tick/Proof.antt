@@ -1,0 +1,30 @@
+use borrow.Author.Needs.{needs}
+use Rattle.switches.proofs.Ticks.{one-more}
+use Prim.Native.Nat.{_-_, _≤_}
+use mathlib.Core.Path.{_≡_, sym}
+use native.Mathlib.Omega.{arith}
+use Rattle.fold.specs.Find.{rising}
+use Rattle.fold.proofs.Finds.{rising-none, rising-end}
+use Rattle.rules.specs.Lines.{queued}
+use Rattle.rules.specs.Tick.{taskTick}
+use Rattle.switches.proofs.tick.tasks_tick.Statement.{statement}
+use Rattle.switches.proofs.tick.tasks_tick.Tie as tie
+
+abbrev Inv-loop : tie.InvT-loop
+Inv-loop tasks₀ lines₀ i₀ tasks lines i = (i ≤ 32) × (queued tasks lines ≡ rising i taskTick (queued tasks₀ lines₀))
+
+abbrev μ-loop : tie.MeasureT-loop
+μ-loop tasks₀ lines₀ i₀ tasks lines i = 32 - i
+
+pub tasks-tick-spec : {M : Type 1} → statement M
+tasks-tick-spec =
+    tie.close
+    (tie.spec
+    Inv-loop
+    μ-loop
+    (λ c. let b = c in (omega arith, sym (rising-none taskTick (queued (b .args .tasks .now) (b .args .lines .now)))))
+    (λ c κs. search needs)
+    (λ c. search needs)
+    (λ c. search needs)
+    (λ c. let b = c .before .before .before .before .before in let l = c .before .before .before .before .loop in (omega arith, one-more taskTick (queued (b .args .tasks .now) (b .args .lines .now)) (l .i) (l .inv .1) (c .task-tick .ensures)))
+    (λ c. let b = c .before .before in let l = c .before .loop in rising-end taskTick (queued (b .args .tasks .now) (b .args .lines .now)) (l .i) 32 (l .inv .0) (omega arith) (l .inv .1)))
