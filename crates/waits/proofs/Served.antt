@@ -7,7 +7,7 @@ use mathlib.Core.List.{List}
 use native.Mathlib.Omega.{arith}
 use borrow.Author.Tests.{eq-eqb, ne-eqb, lt-ltb, le-ltb}
 use lib.Dec.{eqb, ltb}
-use Rattle.rules.specs.Answer.{after, accepted, answer, answered, Call, unknown, firstGiven}
+use Rattle.rules.specs.Answer.{after, accepted, answer}
 use Rattle.rules.specs.Lines.{Queued, queued}
 use Rattle.rules.specs.Waits.{Served, served, requeued}
 use Rattle.rules.specs.declared.Answer.{Answer}
@@ -38,11 +38,6 @@ module _ (q : Served) (o v : ℕ) {r : Answer} (is : r ≡ answer 0 o v) where
 pub made-is : (q : Served) (row : ℕ → List ℕ) (n : ℕ) {i : ℕ} {os₁ : List ℕ} {r : Answer} → i ≡ n → os₁ ≡ row i → r ≡ answer 0 0 i
     → after r (served (q .tasks) (q .lines) os₁) ≡ accepted 0 n (served (q .tasks) (q .lines) (row n))
 made-is q row n a e f = objects-is q 0 n (f ∙ ap (answer 0 0) a) (e ∙ ap row a)
-
--- no call has the number
-pub unknown-is : {A : Type 0} (q : A) {k : Call A} {r : Answer} → k ≡ unknown q → r ≡ answer 1 0 0 → after r q ≡ answered q k
-unfolding firstGiven
-unknown-is q e f = ap (λ (x : Answer). after x q) f ∙ ap (answered q) (sym e)
 
 -- ---- a number that was read, tested against n
 module _ (n : ℕ) {v w : ℕ} (is : v ≡ w) where

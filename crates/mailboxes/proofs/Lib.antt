@@ -1,0 +1,2 @@
+pub mod InMailbox
+pub mod Steps
