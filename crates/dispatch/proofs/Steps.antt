@@ -1,0 +1,49 @@
+-- What the steps of dispatch leave, one after the other.
+use Prim.Native.Nat.{ℕ, _+_, _-_}
+use mathlib.Core.Path.{_≡_, refl, sym, ap, _∙_}
+use mathlib.Core.Bool.{Bool, true, false}
+use mathlib.Core.List.{List}
+use lib.ListN.{set}
+use Rattle.rules.specs.Tables.{levels, swi, withSwi}
+use Rattle.rules.specs.Lines.{first, left, joined, postedLine, activeLine}
+use Rattle.rules.specs.Swis.{Posts, posts}
+use Rattle.rules.specs.Dispatch.{started, swiDue, highestPosted, swiDispatched, taskDue, front, taskDispatched, Dispatched, dispatchedOf, dispatched}
+
+-- a Swi starts
+pub started-is : (ws ls : List ℕ) (i j : ℕ) {n v u : ℕ} {ws₁ ws₂ ws₃ ls₁ ls₂ : List ℕ}
+    → n ≡ i → v ≡ swi ws n 3 → u ≡ swi ws n 2 → ws₁ ≡ withSwi ws n 5 v → ws₂ ≡ withSwi ws₁ n 3 u → ws₃ ≡ withSwi ws₂ n 4 0
+    → ls₁ ≡ left j i ls → ls₂ ≡ joined activeLine i ls₁
+    → (p : ℕ) → j ≡ postedLine p → posts ws₃ ls₂ ≡ started i p (posts ws ls)
+unfolding started
+started-is ws ls i j a b c d e f g h p q = rw (h, g, f, e, d, c, b, a, q)
+
+-- one is due, and starts; or none is
+module _ (ws ls st : List ℕ) {t : Bool} (is : t ≡ swiDue ws ls st) where
+  pub swi-starts : t ≡ true → {h k j i : ℕ} {x : Posts} → h ≡ highestPosted ls → k ≡ h - 1 → j ≡ 32 + k → i ≡ first ls j
+      → ((p : ℕ) → j ≡ postedLine p → x ≡ started i p (posts ws ls))
+      → x ≡ swiDispatched st (posts ws ls)
+  unfolding swiDispatched
+  swi-starts w a b c d e =
+      let f = b ∙ ap (λ n. n - 1) a in
+      let g = c ∙ ap (λ n. 32 + n) f in
+      e (highestPosted ls - 1) g ∙ rw (d, g, sym is ∙ w)
+
+  pub no-swi : t ≡ false → posts ws ls ≡ swiDispatched st (posts ws ls)
+  unfolding swiDispatched
+  no-swi w = rw (sym is ∙ w)
+
+module _ (ls st : List ℕ) {t : Bool} (is : t ≡ taskDue ls st) where
+  pub task-chosen : t ≡ true → {i v : ℕ} → i ≡ front levels ls → v ≡ i → set st 4 v ≡ taskDispatched ls st
+  unfolding taskDispatched
+  task-chosen w a b = rw (b, a, sym is ∙ w)
+
+  pub task-stays : t ≡ false → st ≡ taskDispatched ls st
+  unfolding taskDispatched
+  task-stays w = rw (sym is ∙ w)
+
+-- both, one after the other
+pub dispatched-is : (ws ls st : List ℕ) {ws₁ ls₁ st₁ : List ℕ} → posts ws₁ ls₁ ≡ swiDispatched st (posts ws ls) → st₁ ≡ taskDispatched ls₁ st
+    → dispatchedOf ws₁ ls₁ st₁ ≡ dispatched ws ls st
+unfolding dispatched
+dispatched-is ws ls st {ws₁} {ls₁} a b =
+    ap (dispatchedOf ws₁ ls₁) b ∙ ap (λ (x : Posts). dispatchedOf (x .swis) (x .lines) (taskDispatched (x .lines) st)) a

@@ -1,0 +1,91 @@
+// Who runs, and what is done after each accepted call.
+use rules::Lines;
+use rules::State;
+use rules::Swis;
+use rules::Thread;
+ghost use mathlib.Core.Path.{_≡_};
+ghost use Prim.Native.Nat.{ℕ};
+ghost use Rattle.rules.specs.Lines.{postedLine};
+ghost use Rattle.rules.specs.Swis.{posts};
+ghost use Rattle.rules.specs.Dispatch.{context, running, started, swiDispatched, taskDispatched};
+ghost use Rattle.rules.specs.Dispatch.{dispatchedOf, dispatched};
+
+// The context of a call: 0 a task, 1 a Swi, 2 an interrupt.
+pub fn context(lines: &Lines, state: &State) -> u32
+    ensures { λ r. ⌜ r ≡ context (now (lines .entry)) (now (state .entry)) ⌝ }
+{
+    if 0 < state[0] {
+        return 2;
+    }
+    if due::anyone(lines, 48) {
+        return 1;
+    }
+    0
+}
+
+// A byte as a number.
+pub fn number(x: u8) -> u32
+    ensures { λ r. ⌜ r ≡ x ⌝ }
+{
+    x as u32
+}
+
+// The running thread.
+pub fn running(lines: &Lines, state: &State) -> Thread
+    ensures { λ r. ⌜ r ≡ running (now (lines .entry)) (now (state .entry)) ⌝ }
+{
+    if 0 < state[0] {
+        return Thread::Interrupt;
+    }
+    if due::anyone(lines, 48) {
+        return Thread::Swi(number(due::top(lines)));
+    }
+    Thread::Task(number(rows::answers::current(state)))
+}
+
+// Swi i, posted in line j, starts: its trigger is kept as taken and set back to its initial value.
+pub fn start(swis: &mut Swis, lines: &mut Lines, i: u8, j: usize)
+    ensures { λ _. ⌜ ((p : ℕ) → j ≡ postedLine p
+        → posts (now (swis .exit)) (now (lines .exit))
+        ≡ started i p (posts (now (swis .entry)) (now (lines .entry)))) ⌝ }
+{
+    let n = fold::wide(i);
+    let trigger = rows::words::swi(swis, n, 3);
+    let initial = rows::words::swi(swis, n, 2);
+    rows::words::set_swi(swis, n, 5, trigger);
+    rows::words::set_swi(swis, n, 3, initial);
+    rows::words::set_swi(swis, n, 4, 0);
+    rows::lines::leave(lines, j, i);
+    rows::lines::join(lines, 48, i);
+}
+
+// The first Swi at the highest posted priority starts, if one is due.
+pub fn dispatch_swis(swis: &mut Swis, lines: &mut Lines, state: &State)
+    ensures { λ _. ⌜ posts (now (swis .exit)) (now (lines .exit))
+        ≡ swiDispatched (now (state .entry)) (posts (now (swis .entry)) (now (lines .entry))) ⌝ }
+{
+    if due::swi_due(swis, lines, state) {
+        let j = 32 + due::one_less(due::highest_posted(lines));
+        let i = rows::lines::first(lines, j);
+        start(swis, lines, i, j);
+    }
+}
+
+// The current task is the front of the highest ready queue, if tasks may be switched.
+pub fn dispatch_tasks(lines: &Lines, state: &mut State)
+    ensures { λ _. ⌜ now (state .exit)
+        ≡ taskDispatched (now (lines .entry)) (now (state .entry)) ⌝ }
+{
+    if due::task_due(lines, state) {
+        state[4] = number(due::front(lines));
+    }
+}
+
+// The dispatch rule.
+pub fn dispatch(swis: &mut Swis, lines: &mut Lines, state: &mut State)
+    ensures { λ _. ⌜ dispatchedOf (now (swis .exit)) (now (lines .exit)) (now (state .exit))
+        ≡ dispatched (now (swis .entry)) (now (lines .entry)) (now (state .entry)) ⌝ }
+{
+    dispatch_swis(swis, lines, state);
+    dispatch_tasks(lines, state);
+}
