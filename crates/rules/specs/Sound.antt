@@ -28,7 +28,7 @@ idleRule k = (k .mode is ready) and (k .priority is 0) and noWait k and (k .outc
 
 -- "Running clocks, sleeps (always limited) and limited waits have 1 or more ticks left": a wait without end has 0 there
 abbrev pub waitRule : Task → ℕ → Rule
-waitRule k n = (k .object under n) and (k .left isnt forever)
+waitRule k n = (k .object under n) and (k .left under forever)
 
 unfoldable pub otherRule : Task → Rule
 otherRule k =
@@ -37,7 +37,7 @@ otherRule k =
     and (k .outcome is 1 gives k .value is 0)
     and (k .mode is notInUse gives (k .priority is 0) and noWait k and (k .outcome is 0) and (k .value is 0))
     and (k .mode is ready gives noWait k)
-    and (k .mode is sleeping gives (k .object is 0) and (k .left isnt 0) and (k .left isnt forever) and (k .first is 0) and (k .second is 0))
+    and (k .mode is sleeping gives (k .object is 0) and (k .left isnt 0) and (k .left under forever) and (k .first is 0) and (k .second is 0))
     and (k .mode is atSemaphore gives waitRule k semaphoreCount and (k .first is 0) and (k .second is 0))
     and (k .mode is atEvent gives waitRule k eventCount and (k .first isnt 0 or k .second isnt 0))
     and (k .mode is reading gives waitRule k mailboxCount and (k .first is 0) and (k .second is 0))

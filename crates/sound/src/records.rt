@@ -125,7 +125,7 @@ fn level_sound(k: Task) -> bool
 fn wait_sound(k: Task, n: u32) -> bool
     ensures { λ r. ⌜ r ≡ holds (waitRule k n) ⌝ }
 {
-    (k.object < n) & (k.left != 4294967295)
+    (k.object < n) & (k.left < 4294967295)
 }
 
 // Any other task than task 0, by its mode: not in use, ready, sleeping, at a semaphore, at an
@@ -144,7 +144,7 @@ fn other_sound(k: Task) -> bool
             result
                 & (k.object == 0)
                 & (k.left != 0)
-                & (k.left != 4294967295)
+                & (k.left < 4294967295)
                 & (k.first == 0)
                 & (k.second == 0)
                 & level
