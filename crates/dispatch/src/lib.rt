@@ -38,7 +38,7 @@ pub fn running(lines: &Lines, state: &State) -> Thread
         return Thread::Interrupt;
     }
     if due::anyone(lines, 48) {
-        return Thread::Swi(number(due::top(lines)));
+        return Thread::Swi(number(rows::readings::top(lines)));
     }
     Thread::Task(number(rows::answers::current(state)))
 }
@@ -65,7 +65,7 @@ pub fn dispatch_swis(swis: &mut Swis, lines: &mut Lines, state: &State)
         ≡ swiDispatched (now (state .entry)) (posts (now (swis .entry)) (now (lines .entry))) ⌝ }
 {
     if due::swi_due(swis, lines, state) {
-        let j = 32 + due::one_less(due::highest_posted(lines));
+        let j = 32 + fold::one_less(due::highest_posted(lines));
         let i = rows::lines::first(lines, j);
         start(swis, lines, i, j);
     }

@@ -8,26 +8,8 @@ ghost use Prim.Native.Nat.{ℕ, _+_, _-_, _≤_};
 ghost use Rattle.fold.specs.Find.{highestBelow};
 ghost use Rattle.rules.specs.Tables.{levels};
 ghost use Rattle.rules.specs.Lines.{anyone};
-ghost use Rattle.rules.specs.Swis.{top};
 ghost use Rattle.rules.specs.Dispatch.{highestPosted, activeLevel, swiDue};
 ghost use Rattle.rules.specs.Dispatch.{highestReady, front, taskDue};
-
-// A word as an index.
-pub fn index(x: u32) -> usize
-    ensures { λ r. ⌜ r ≡ x ⌝ }
-{
-    x as usize
-}
-
-// One less; 0 of 0.
-pub fn one_less(n: usize) -> usize
-    ensures { λ r. ⌜ r ≡ n - 1 ⌝ }
-{
-    if 0 < n {
-        return n - 1;
-    }
-    0
-}
 
 // Someone stands in line j.
 pub fn anyone(lines: &Lines, j: usize) -> bool
@@ -67,20 +49,12 @@ pub fn highest_ready(lines: &Lines) -> usize
     highest(lines, 49)
 }
 
-// The top active Swi, the last to start; 0 where none is active.
-pub fn top(lines: &Lines) -> u8
-    ensures { λ r. ⌜ r ≡ top (now (lines .entry)) ⌝ }
-{
-    let n = rows::lines::len(lines, 48);
-    rows::lines::member(lines, 48, one_less(n))
-}
-
 // One more than the top active Swi's priority; 0 where none is active.
 pub fn active_level(swis: &Swis, lines: &Lines) -> usize
     ensures { λ r. ⌜ r ≡ activeLevel (now (swis .entry)) (now (lines .entry)) ⌝ }
 {
     if anyone(lines, 48) {
-        let i = fold::wide(top(lines));
+        let i = fold::wide(rows::readings::top(lines));
         return rows::words::swi(swis, i, rows::words::PRIORITY) as usize + 1;
     }
     0
@@ -113,5 +87,5 @@ pub fn task_due(lines: &Lines, state: &State) -> bool
 pub fn front(lines: &Lines) -> u8
     ensures { λ r. ⌜ r ≡ front levels (now (lines .entry)) ⌝ }
 {
-    rows::lines::first(lines, 49 + one_less(highest_ready(lines)))
+    rows::lines::first(lines, 49 + fold::one_less(highest_ready(lines)))
 }

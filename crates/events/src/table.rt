@@ -35,22 +35,11 @@ pub fn put_event(events: &mut Events, i: usize, used: u32, bits: u32)
     }
 }
 
-// The posted bits in the or-mask, and the whole and-mask if all its bits are posted.
-pub fn matched(bits: u32, and_mask: u32, or_mask: u32) -> u32
-    ensures { λ r. ⌜ r ≡ matched bits «and_mask» «or_mask» ⌝ }
-{
-    let some = bits & or_mask;
-    if bits & and_mask == and_mask {
-        return some | and_mask;
-    }
-    some
-}
-
 // What of event a's posted bits matches these masks.
 pub fn event_match(events: &Events, a: u32, and_mask: u32, or_mask: u32) -> u32
     ensures { λ r. ⌜ r ≡ matched (event (now (events .entry)) a BITS) «and_mask» «or_mask» ⌝ }
 {
-    matched(
+    rows::readings::matched(
         rows::words::event(events, a as usize, BITS),
         and_mask,
         or_mask,
@@ -64,7 +53,7 @@ pub fn waiter_match(tasks: &Tasks, lines: &Lines, a: u32, bits: u32) -> u32
     let j = 24 + a as usize;
     if 0 < rows::lines::len(lines, j) {
         let k = rows::words::task(tasks, fold::wide(rows::lines::first(lines, j)));
-        return matched(bits, k.first, k.second);
+        return rows::readings::matched(bits, k.first, k.second);
     }
     0
 }

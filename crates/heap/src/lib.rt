@@ -19,16 +19,6 @@ pub const FIRST: u8 = 1;
 
 pub const LATER: u8 = 2;
 
-// The entry of unit u; past the heap nothing can be had.
-pub fn unit(heap: &Heap, u: usize) -> u8
-    ensures { λ r. ⌜ r ≡ unit (now (heap .entry)) u ⌝ }
-{
-    if u < 256 {
-        return heap[u];
-    }
-    FREE
-}
-
 // Bytes, rounded up to units.
 pub fn units(bytes: u32) -> usize
     ensures { λ r. ⌜ r ≡ unitsOf bytes ⌝ }
@@ -102,7 +92,7 @@ pub fn is_block(heap: &Heap, a: u32, b: u32) -> bool
         return false;
     }
     let u = (a / 8) as usize;
-    if unit(heap, u) != FIRST {
+    if rows::readings::unit(heap, u) != FIRST {
         return false;
     }
     units(b) == block_size(heap, u)

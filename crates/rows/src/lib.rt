@@ -2,6 +2,7 @@
 // changes nothing.
 pub mod answers;
 pub mod lines;
+pub mod readings;
 pub mod words;
 
 use rules::Clocks;

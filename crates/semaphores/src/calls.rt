@@ -1,8 +1,6 @@
 // Calls 20 to 24. Of each: its code, 0 where it is accepted; its effect where it is; and the call.
 use super::table::count_up;
 use super::table::free_semaphore;
-use super::table::is_binary;
-use super::table::most;
 use super::table::put_semaphore;
 use rows::words::COUNT;
 use rows::words::KIND;
@@ -29,7 +27,7 @@ ghost use Rattle.rules.specs.Semaphores.{isBinary, most, waits, placeIn, create
 pub fn bad_create(kind: u32, count: u32, c: u32, d: u32) -> bool
     ensures { λ r. ⌜ r ≡ (not (ltb kind 4) || not (leb count (most kind)) || unused 0 0 c d) ⌝ }
 {
-    !(kind < 4) | !(count <= most(kind)) | rows::answers::unused(0, 0, c, d)
+    !(kind < 4) | !(count <= rows::readings::most(kind)) | rows::answers::unused(0, 0, c, d)
 }
 
 pub fn create_code(semaphores: &Semaphores, x: u32, a: u32, b: u32, c: u32, d: u32) -> u32
@@ -127,7 +125,7 @@ pub fn delete(
 pub fn bad_reset(kind: u32, count: u32, c: u32, d: u32) -> bool
     ensures { λ r. ⌜ r ≡ (not (leb count (most kind)) || unused 0 0 c d) ⌝ }
 {
-    !(count <= most(kind)) | rows::answers::unused(0, 0, c, d)
+    !(count <= rows::readings::most(kind)) | rows::answers::unused(0, 0, c, d)
 }
 
 pub fn reset_code(
@@ -292,7 +290,7 @@ pub fn at_end(semaphores: &Semaphores, a: u32) -> bool
     ensures { λ r. ⌜ r ≡ (not (isBinary (semaphore (now (semaphores .entry)) a KIND)) && leb 65535 (semaphore (now (semaphores .entry)) a COUNT)) ⌝ }
 {
     let i = a as usize;
-    let counting = !is_binary(rows::words::semaphore(semaphores, i, KIND));
+    let counting = !rows::readings::is_binary(rows::words::semaphore(semaphores, i, KIND));
     counting & (65535 <= rows::words::semaphore(semaphores, i, COUNT))
 }
 

@@ -5,7 +5,7 @@ ghost use mathlib.Core.Path.{_≡_};
 ghost use mathlib.Core.List.{[], _∷_};
 ghost use Prim.Native.Nat.{_≤_};
 ghost use Rattle.rules.specs.Tables.{semaphoreRow};
-ghost use Rattle.rules.specs.Semaphores.{freeSemaphore, isBinary, most, countUp};
+ghost use Rattle.rules.specs.Semaphores.{freeSemaphore, countUp};
 
 // The lowest free number; 16 where there is none.
 pub fn free_semaphore(semaphores: &Semaphores) -> usize
@@ -33,28 +33,11 @@ pub fn put_semaphore(semaphores: &mut Semaphores, i: usize, used: u32, kind: u32
     }
 }
 
-// Kinds 1 and 3 are binary.
-pub fn is_binary(kind: u32) -> bool
-    ensures { λ r. ⌜ r ≡ isBinary kind ⌝ }
-{
-    (kind == 1) | (kind == 3)
-}
-
-// How far a count of this kind goes.
-pub fn most(kind: u32) -> u32
-    ensures { λ r. ⌜ r ≡ most kind ⌝ }
-{
-    if is_binary(kind) {
-        return 1;
-    }
-    65535
-}
-
 // One up, and no more than the kind's most.
 pub fn count_up(kind: u32, n: u32) -> u32
     ensures { λ r. ⌜ r ≡ countUp kind n ⌝ }
 {
-    if n < most(kind) {
+    if n < rows::readings::most(kind) {
         return n + 1;
     }
     n

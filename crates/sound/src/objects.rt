@@ -23,16 +23,6 @@ ghost use Rattle.rules.specs.Sound.{mailboxRule, mailboxesRule, swiRule, swisRu
 
 // ---- semaphores
 
-// The most that a semaphore of this kind counts.
-fn most(kind: u32) -> u32
-    ensures { λ r. ⌜ r ≡ most kind ⌝ }
-{
-    if (kind == 1) | (kind == 3) {
-        return 1;
-    }
-    65535
-}
-
 // The count is what the kind allows, and 0 with waiters; one not in use is all 0 and has none.
 fn semaphore_sound(semaphores: &Semaphores, lines: &Lines, s: usize) -> bool
     ensures { λ r. ⌜ r ≡ holds (
@@ -45,7 +35,7 @@ fn semaphore_sound(semaphores: &Semaphores, lines: &Lines, s: usize) -> bool
     (used < 2)
         & ((used != 0) | ((kind == 0) & (count == 0) & (waiters == 0)))
         & (kind < 4)
-        & (count <= most(kind))
+        & (count <= rows::readings::most(kind))
         & ((waiters == 0) | (count == 0))
 }
 
@@ -64,16 +54,6 @@ pub fn semaphores_sound(semaphores: &Semaphores, lines: &Lines) -> bool
 
 // ---- events
 
-// The posted bits in the or-mask, and the whole and-mask if all its bits are posted.
-fn matched(bits: u32, all: u32, any: u32) -> u32
-    ensures { λ r. ⌜ r ≡ matched bits all any ⌝ }
-{
-    if bits & all == all {
-        return (bits & any) | all;
-    }
-    bits & any
-}
-
 // At most one waits, and the posted bits do not satisfy it; one not in use is all 0 and has no
 // waiter. False where there is no such event.
 fn event_sound(tasks: &Tasks, events: &Events, lines: &Lines, e: usize) -> bool
@@ -85,7 +65,7 @@ fn event_sound(tasks: &Tasks, events: &Events, lines: &Lines, e: usize) -> bool
         let bits = rows::words::event(events, e, rows::words::BITS);
         let waiters = rows::lines::len(lines, 24 + e);
         let waiter = rows::words::task(tasks, fold::wide(rows::lines::first(lines, 24 + e)));
-        let met = matched(bits, waiter.first, waiter.second);
+        let met = rows::readings::matched(bits, waiter.first, waiter.second);
         return (used < 2)
             & ((used != 0) | ((bits == 0) & (waiters == 0)))
             & (waiters < 2)
@@ -119,7 +99,7 @@ fn zeros_behind(mailboxes: &Mailboxes, m: usize) -> bool
 {
     if m < 8 {
         let at = m * 10 + 1;
-        let mut k = rows::lines::least(due::index(mailboxes[at]), 8);
+        let mut k = rows::lines::least(fold::index(mailboxes[at]), 8);
         let mut ok = true;
         while k < 8 {
             ok = ok & (mailboxes[at + 1 + k] == 0);
@@ -255,7 +235,7 @@ fn active_rise(swis: &Swis, lines: &Lines) -> bool
         under swi (now (swis .entry)) (getD (line (now (lines .entry)) activeLine) (suc k) 0)
         PRIORITY)) ⌝ }
 {
-    let n = due::one_less(rows::lines::len(lines, 48));
+    let n = fold::one_less(rows::lines::len(lines, 48));
     let mut ok = true;
     let mut k = 0;
     while k < n {

@@ -21,7 +21,7 @@ pub fn state_sound(tasks: &Tasks, state: &State) -> bool
     ensures { λ r. ⌜ r ≡ holds (stateRule (now (tasks .entry)) (now (state .entry))) ⌝ }
 {
     let current = state[rows::words::CURRENT];
-    let k = rows::words::task(tasks, due::index(current));
+    let k = rows::words::task(tasks, fold::index(current));
     (state[rows::words::DEPTH] < 9)
         & (state[rows::words::SWIS] < 2)
         & (state[rows::words::TASKS] < 2)
@@ -30,16 +30,6 @@ pub fn state_sound(tasks: &Tasks, state: &State) -> bool
 }
 
 // ---- the heap
-
-// The entry of unit u; free past the heap.
-fn unit(heap: &Heap, u: usize) -> u8
-    ensures { λ r. ⌜ r ≡ unit (now (heap .entry)) u ⌝ }
-{
-    if u < 256 {
-        return heap[u];
-    }
-    0
-}
 
 // An entry is free, first of a block or later in one; a later one does not stand after a free one.
 fn unit_sound(before: u8, entry: u8) -> bool
@@ -57,7 +47,7 @@ pub fn heap_sound(heap: &Heap) -> bool
     let mut before = 0;
     let mut u = 0;
     while u < 256 {
-        let entry = unit(heap, u);
+        let entry = rows::readings::unit(heap, u);
         ok = ok & unit_sound(before, entry);
         before = entry;
         u += 1;

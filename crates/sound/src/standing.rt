@@ -65,26 +65,11 @@ pub fn lines_sound(lines: &Lines) -> bool
 
 // ---- the line of each task and Swi
 
-// The line in which a task with this row stands; 255 for none.
-pub fn home_of(k: Task) -> usize
-    ensures { λ r. ⌜ r ≡ homeOf k ⌝ }
-{
-    let mode = k.mode;
-    match mode {
-        1 => 49 + k.priority as usize,
-        3 => k.object as usize,
-        4 => 24 + k.object as usize,
-        5 => 16 + k.object as usize,
-        6 => 16 + k.object as usize,
-        _ => 255,
-    }
-}
-
 // The line in which task i stands; 255 for none.
 pub fn task_home(tasks: &Tasks, i: usize) -> usize
     ensures { λ r. ⌜ r ≡ taskHome (now (tasks .entry)) i ⌝ }
 {
-    home_of(rows::words::task(tasks, i))
+    rows::readings::home_of(rows::words::task(tasks, i))
 }
 
 // The line in which Swi i stands as a posted one; 255 for none.

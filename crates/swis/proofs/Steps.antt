@@ -8,7 +8,7 @@ use native.Mathlib.Numerals.{add-one}
 use native.Mathlib.Omega.{arith}
 use borrow.Author.Tests.{eq-eqb, ne-eqb, lt-ltb, le-ltb}
 use lib.Dec.{eqb}
-use lib.ListN.{length, take, drop, getD, set, take-append-drop, List·getD-eq-default}
+use lib.ListN.{length, take, drop, getD, set, take-append-drop}
 use lib.Seq.{take-suc, take-all}
 use Rattle.fold.specs.Lists.{bit, count}
 use Rattle.fold.specs.Find.{allBelow}
@@ -17,7 +17,7 @@ use Rattle.fold.proofs.Finds.{all-yes, all-no}
 use Rattle.rules.specs.Answer.{after, unknown}
 use Rattle.rules.specs.Tables.{swi, withSwi, swiRow, clock, PRIORITY, POSTED}
 use Rattle.rules.specs.Lines.{line, joined, activeLine}
-use Rattle.rules.specs.Swis.{Posts, posts, posted, top, isActive, isNamed, swiCall}
+use Rattle.rules.specs.Swis.{Posts, posts, posted, isActive, isNamed, swiCall}
 use Rattle.rules.specs.declared.Answer.{Answer}
 use Rattle.rules.specs.declared.Clock.{Clock}
 use Rattle.laws.proofs.Rows.{withRow-in, withRow-out}
@@ -48,16 +48,6 @@ module _ (ws : List ℕ) (i u p n t q k : ℕ) where
 
   pub put-none : 16 ≤ i → ws ≡ swiRow ws i (u ∷ p ∷ n ∷ t ∷ q ∷ k ∷ [])
   put-none h = sym (withRow-out 6 16 ws i (u ∷ p ∷ n ∷ t ∷ q ∷ k ∷ []) h)
-
--- ---- the top active Swi: n are active
-module _ (ls : List ℕ) {n : ℕ} (e : n ≡ length (line ls activeLine)) where
-  pub top-none : n ≡ 0 → 0 ≡ top ls
-  unfolding top
-  top-none z = sym (List·getD-eq-default (line ls activeLine) 0 {n = length (line ls activeLine) - 1} (omega arith))
-
-  pub top-last : {m : ℕ} → m ≡ getD (line ls activeLine) (n - 1) 0 → m ≡ top ls
-  unfolding top
-  top-last f = f ∙ ap (λ (k : ℕ). getD (line ls activeLine) (k - 1) 0) e
 
 -- ---- a search among the active Swis has passed k of them
 module _ (ls : List ℕ) (i k : ℕ) {n : ℕ} (e : n ≡ length (line ls activeLine)) where

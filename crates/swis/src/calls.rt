@@ -2,7 +2,6 @@
 use super::table::free_swi;
 use super::table::is_held;
 use super::table::put_swi;
-use super::table::top;
 use rows::words::SWIS;
 use rows::words::TAKEN;
 use rows::words::USED;
@@ -146,7 +145,7 @@ pub fn end_effect(swis: &mut Swis, lines: &mut Lines) -> Answer
     ensures { λ r. ⌜ after r (posts (now (swis .exit)) (now (lines .exit)))
         ≡ endEffect (posts (now (swis .entry)) (now (lines .entry))) ⌝ }
 {
-    let i = top(lines);
+    let i = rows::readings::top(lines);
     rows::words::set_swi(swis, fold::wide(i), TAKEN, 0);
     rows::lines::leave(lines, 48, i);
     rows::answers::accepted(0, 0)
@@ -192,7 +191,7 @@ pub fn taken_effect(swis: &Swis, lines: &Lines) -> Answer
     ensures { λ r. ⌜ after r (posts (now (swis .entry)) (now (lines .entry)))
         ≡ takenEffect (posts (now (swis .entry)) (now (lines .entry))) ⌝ }
 {
-    let i = top(lines);
+    let i = rows::readings::top(lines);
     rows::answers::accepted(0, rows::words::swi(swis, fold::wide(i), TAKEN))
 }
 

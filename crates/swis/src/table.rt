@@ -10,7 +10,7 @@ ghost use mathlib.Core.List.{[], _∷_};
 ghost use lib.Dec.{eqb};
 ghost use Prim.Native.Nat.{_≤_};
 ghost use Rattle.rules.specs.Tables.{swi, swiRow, POSTED};
-ghost use Rattle.rules.specs.Swis.{top, isActive, isNamed, freeSwi};
+ghost use Rattle.rules.specs.Swis.{isActive, isNamed, freeSwi};
 
 // Swi i's six words; where there is no such Swi nothing changes.
 pub fn put_swi(
@@ -50,17 +50,6 @@ pub fn free_swi(swis: &Swis) -> usize
         i += 1;
     }
     16
-}
-
-// The top active Swi, the last to start; 0 where none is active.
-pub fn top(lines: &Lines) -> u8
-    ensures { λ r. ⌜ r ≡ top (now (lines .entry)) ⌝ }
-{
-    let n = rows::lines::len(lines, 48);
-    if n == 0 {
-        return 0;
-    }
-    rows::lines::member(lines, 48, n - 1)
 }
 
 // Swi i is active.

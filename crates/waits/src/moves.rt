@@ -8,30 +8,6 @@ ghost use Rattle.rules.specs.Tables.{task};
 ghost use Rattle.rules.specs.Lines.{line, homeOf, queued, moved, atBack, byPriority, entered};
 ghost use Rattle.rules.specs.Waits.{waiting, woken};
 
-// The line in which a task with this row stands; 255 for none.
-pub fn home_of(k: Task) -> usize
-    ensures { λ r. ⌜ r ≡ homeOf k ⌝ }
-{
-    let m = k.mode;
-    let o = k.object as usize;
-    if m == 1 {
-        return 49 + k.priority as usize;
-    }
-    if m == 3 {
-        return o;
-    }
-    if m == 4 {
-        return 24 + o;
-    }
-    if m == 5 {
-        return 16 + o;
-    }
-    if m == 6 {
-        return 16 + o;
-    }
-    255
-}
-
 // How many stand in line j before the first of a priority lower than p.
 pub fn place(tasks: &Tasks, lines: &Lines, j: usize, p: u32) -> usize
     ensures { λ r. ⌜ r ≡ byPriority (now (tasks .entry)) p (line (now (lines .entry)) j) ⌝ }
@@ -62,8 +38,8 @@ pub fn move_back(tasks: &mut Tasks, lines: &mut Lines, i: u32, k: Task)
 {
     if i < 32 {
         let old = rows::words::task(tasks, i as usize);
-        rows::lines::leave(lines, home_of(old), i as u8);
-        rows::lines::join(lines, home_of(k), i as u8);
+        rows::lines::leave(lines, rows::readings::home_of(old), i as u8);
+        rows::lines::join(lines, rows::readings::home_of(k), i as u8);
         rows::words::set_task(tasks, i as usize, k);
     }
 }
@@ -74,8 +50,8 @@ pub fn move_by_priority(tasks: &mut Tasks, lines: &mut Lines, i: u32, k: Task, p
 {
     if i < 32 {
         let old = rows::words::task(tasks, i as usize);
-        rows::lines::leave(lines, home_of(old), i as u8);
-        enter_by_priority(tasks, lines, home_of(k), i as u8, p);
+        rows::lines::leave(lines, rows::readings::home_of(old), i as u8);
+        enter_by_priority(tasks, lines, rows::readings::home_of(k), i as u8, p);
         rows::words::set_task(tasks, i as usize, k);
     }
 }

@@ -1,0 +1,123 @@
+-- What the tests of the reader say of `readAt`, what is read past the end, and where a record that was found lies.
+use Prim.Native.Nat.{ℕ, _+_, _-_, _≤_, _<_}
+use mathlib.Core.Path.{_≡_, refl, sym, _∙_}
+use mathlib.Core.Bool.{Bool, true, false, cond as if}
+use mathlib.Core.List.{List, []}
+use native.Mathlib.Omega.{arith}
+use lib.Dec.{ltb, eqb}
+use lib.ListN.{length, getD, take, drop, List·getD-eq-default, drop-of-length-le, length-drop}
+use lib.Seq.{take-all}
+use borrow.Author.Tests.{lt-ltb, le-ltb, eq-eqb, ne-eqb, ltb-false}
+use Rattle.rules.specs.Log.{halfAt, wordAt, readAt, argumentBytes}
+use Rattle.rules.specs.declared.Read.{Read}
+use Rattle.rules.specs.declared.Read.the-variants.{Record, End, Cut, Length, Version}
+
+module _ (s : List ℕ) (at : ℕ) where
+  -- ---- past the end
+  pub byte-out : length s ≤ at → 0 ≡ getD s at 0
+  byte-out h = sym (List·getD-eq-default s 0 {n = at} h)
+
+  -- ---- the tests, in their order
+  pub past-is : length s < at → Cut at ≡ readAt s at
+  unfolding readAt
+  past-is h = rw (lt-ltb (length s) at h)
+
+  pub end-is : length s ≡ at → End ≡ readAt s at
+  unfolding readAt
+  end-is e = rw (le-ltb (length s) at (omega arith), eq-eqb (length s) at e)
+
+  module _ (p : at ≤ length s) (q : length s ≡ at → ⊥) where
+    pub one-left-is : length s - at ≡ 1 → Cut at ≡ readAt s at
+    unfolding readAt
+    one-left-is e = rw (le-ltb (length s) at p, ne-eqb (length s) at q, eq-eqb (length s - at) 1 e)
+
+    module _ (r : length s - at ≡ 1 → ⊥) where
+      pub length-is : (halfAt s at ≡ 18 → ⊥) → Length at ≡ readAt s at
+      unfolding readAt
+      length-is n = rw (le-ltb (length s) at p, ne-eqb (length s) at q, ne-eqb (length s - at) 1 r, ne-eqb (halfAt s at) 18 n)
+
+      module _ (e : halfAt s at ≡ 18) where
+        pub short-is : length s - at < 20 → Cut at ≡ readAt s at
+        unfolding readAt
+        short-is h =
+            rw (le-ltb (length s) at p, ne-eqb (length s) at q, ne-eqb (length s - at) 1 r, eq-eqb (halfAt s at) 18 e, lt-ltb (length s - at) 20 h)
+
+        module _ (h : 20 ≤ length s - at) where
+          pub version-is : (getD s (at + 2) 0 ≡ 1 → ⊥) → Version at ≡ readAt s at
+          unfolding readAt
+          version-is n =
+              rw (
+                le-ltb (length s) at p,
+                ne-eqb (length s) at q,
+                ne-eqb (length s - at) 1 r,
+                eq-eqb (halfAt s at) 18 e,
+                le-ltb (length s - at) 20 h,
+                ne-eqb (getD s (at + 2) 0) 1 n,
+              )
+
+          pub record-is : getD s (at + 2) 0 ≡ 1 → Record (getD s (at + 3) 0) (at + 4) ≡ readAt s at
+          unfolding readAt
+          record-is v =
+              rw (
+                le-ltb (length s) at p,
+                ne-eqb (length s) at q,
+                ne-eqb (length s - at) 1 r,
+                eq-eqb (halfAt s at) 18 e,
+                le-ltb (length s - at) 20 h,
+                eq-eqb (getD s (at + 2) 0) 1 v,
+              )
+
+pub half-out : (s : List ℕ) (at : ℕ) → length s ≤ at → 0 ≡ halfAt s at
+half-out s at h = rw (← byte-out s at h, ← byte-out s (at + 1) (omega arith))
+
+pub word-out : (s : List ℕ) (at : ℕ) → length s ≤ at → 0 ≡ wordAt s at
+word-out s at h = rw (← half-out s at h, ← half-out s (at + 2) (omega arith))
+
+-- ---- a record's argument bytes
+pub none-is : (s : List ℕ) (start : ℕ) → length s ≤ start → [] ≡ argumentBytes s start
+unfolding argumentBytes
+none-is s start h = rw (drop-of-length-le s {i = start} h)
+
+pub fewer-is : (s : List ℕ) (start : ℕ) → length s - start < 16 → take (length s - start) (drop start s) ≡ argumentBytes s start
+unfolding argumentBytes
+fewer-is s start h =
+    take-all (length s - start) (drop start s) (omega (arith, length-drop start s))
+    ∙ sym (take-all 16 (drop start s) (omega (arith, length-drop start s)))
+
+pub sixteen-is : (s : List ℕ) (start : ℕ) → take (start + 16 - start) (drop start s) ≡ argumentBytes s start
+unfolding argumentBytes
+sixteen-is s start = let e : start + 16 - start ≡ 16 = omega arith in rw e
+
+-- ---- a record that was found has its twenty bytes there
+asked : (a b c d e f : Bool) (at : ℕ) → Read → Read
+asked a b c d e f at r = if a (Cut at) (if b End (if c (Cut at) (if d (if e (Cut at) (if f r (Version at))) (Length at))))
+
+long : (a b c d e f : Bool) (at n m number start : ℕ) → asked a b c d e f at (Record n m) ≡ Record number start
+    → (a ≡ false) × (e ≡ false) × (m ≡ start)
+unfolding asked
+long true b c d e f at n m number start h = absurd (let z : _≡_ {A = ℕ} 0 1 = cc in omega arith)
+long false true c d e f at n m number start h = absurd (let z : _≡_ {A = ℕ} 0 1 = cc in omega arith)
+long false false true d e f at n m number start h = absurd (let z : _≡_ {A = ℕ} 0 1 = cc in omega arith)
+long false false false true true f at n m number start h = absurd (let z : _≡_ {A = ℕ} 0 1 = cc in omega arith)
+long false false false true false true at n m number start h = (refl, refl, cc)
+long false false false true false false at n m number start h = absurd (let z : _≡_ {A = ℕ} 0 1 = cc in omega arith)
+long false false false false e f at n m number start h = absurd (let z : _≡_ {A = ℕ} 0 1 = cc in omega arith)
+
+pub record-fits : (s : List ℕ) (at number start : ℕ) → readAt s at ≡ Record number start → (at + 20 ≤ length s) × (start ≡ at + 4)
+unfolding readAt asked
+record-fits s at number start h =
+    let t =
+    long
+    (ltb (length s) at)
+    (eqb (length s) at)
+    (eqb (length s - at) 1)
+    (eqb (halfAt s at) 18)
+    (ltb (length s - at) 20)
+    (eqb (getD s (at + 2) 0) 1)
+    at
+    (getD s (at + 3) 0)
+    (at + 4)
+    number
+    start
+    h in
+    (omega (arith, ltb-false (length s) at (t .0), ltb-false (length s - at) 20 (t .1)), sym (t .2))

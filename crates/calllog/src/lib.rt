@@ -1,0 +1,107 @@
+// The call log: what stands at a position, and a record's arguments as a part of the log. Any bytes and any position get an answer.
+use rules::Read;
+ghost use mathlib.Core.Path.{_≡_};
+ghost use Prim.Native.Nat.{_%_, _^_, _<_};
+ghost use lib.ListN.{getD};
+ghost use Rattle.rules.specs.Log.{halfAt, wordAt, readAt, argumentBytes, argument, moveTo};
+
+fn wide(b: u8) -> u32
+    ensures { λ r. ⌜ (r ≡ b) × (r < 256) ⌝ }
+{
+    b as u32
+}
+
+// The byte at a place; 0 past the end.
+fn byte_at(s: &[u8], at: usize) -> u8
+    ensures { λ r. ⌜ r ≡ getD (now (s .entry)) at 0 ⌝ }
+{
+    if at < s.len() {
+        return s[at];
+    }
+    0
+}
+
+// Two bytes, big-endian.
+fn half_at(s: &[u8], at: usize) -> u32
+    ensures { λ r. ⌜ (r ≡ halfAt (now (s .entry)) at) × (r < 65536) ⌝ }
+{
+    if at < s.len() {
+        return wide(s[at]) * 256 + wide(byte_at(s, at + 1));
+    }
+    0
+}
+
+// Four bytes, big-endian.
+fn word_at(s: &[u8], at: usize) -> u32
+    ensures { λ r. ⌜ r ≡ wordAt (now (s .entry)) at ⌝ }
+{
+    if at < s.len() {
+        return half_at(s, at) * 65536 + half_at(s, at + 2);
+    }
+    0
+}
+
+// What stands at a position of a log.
+pub fn read_at(log: &[u8], at: usize) -> Read
+    ensures { λ r. ⌜ r ≡ readAt (now (log .entry)) at ⌝ }
+{
+    if log.len() < at {
+        return Read::Cut(at);
+    }
+    if log.len() == at {
+        return Read::End;
+    }
+    if log.len() - at == 1 {
+        return Read::Cut(at);
+    }
+    if half_at(log, at) != 18 {
+        return Read::Length(at);
+    }
+    if log.len() - at < 20 {
+        return Read::Cut(at);
+    }
+    if log[at + 2] != 1 {
+        return Read::Version(at);
+    }
+    Read::Record {
+        number: log[at + 3],
+        start: at + 4,
+    }
+}
+
+// The sixteen argument bytes from `start` on, as that part of the log; fewer where the log ends.
+pub fn arguments<'a>(log: &'a [u8], start: usize) -> &'a [u8]
+    ensures { λ r. ⌜ now r ≡ argumentBytes (now (log .entry)) start ⌝ }
+{
+    if log.len() <= start {
+        return &log[..0];
+    }
+    if log.len() - start < 16 {
+        return &log[start..];
+    }
+    let end = start + 16;
+    &log[start..end]
+}
+
+// Argument n of a record's argument bytes.
+pub fn argument(bytes: &[u8], n: usize) -> u32
+    ensures { λ r. ⌜ r ≡ argument (now (bytes .entry)) n ⌝ }
+{
+    if n <= bytes.len() / 4 {
+        return word_at(bytes, n * 4);
+    }
+    0
+}
+
+// The position after what was found: only a good record moves it. What no log can hold goes round at the end of the positions.
+pub fn move_to(found: Read, at: usize) -> usize
+    ensures { λ r. ⌜ r ≡ moveTo found at % 2 ^ 64 ⌝ }
+{
+    match found {
+        Read::Record { number: _, start } => std::num::wrapping_add_usize(start, 16),
+        Read::End => at,
+        Read::Cut(_) => at,
+        Read::Length(_) => at,
+        Read::Version(_) => at,
+    }
+}

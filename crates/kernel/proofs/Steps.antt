@@ -1,0 +1,62 @@
+-- A whole call: its kind's call, dispatch after an accepted one, and the running thread.
+use Prim.Native.Nat.{ℕ}
+use mathlib.Core.Path.{_≡_, sym, ap, _∙_}
+use mathlib.Core.Logic.{_≢_}
+use mathlib.Core.Bool.{Bool, true, false, not, cond as if}
+use mathlib.Core.List.{List}
+use borrow.Author.Tests.{eq-eqb, ne-eqb, not-true, not-false}
+use Rattle.rules.specs.Answer.{after, answer, answered}
+use Rattle.rules.specs.Dispatch.{running, context, Dispatched, dispatchedOf, dispatched}
+use Rattle.rules.specs.Sound.{sound}
+use Rattle.rules.specs.Step.{callOf, settled, withDispatched, stepOf, finished, step, call}
+use Rattle.rules.specs.declared.Answer.{Answer}
+use Rattle.rules.specs.declared.Step.{Step}
+use Rattle.rules.specs.declared.Tables.{Tables}
+use Rattle.rules.specs.declared.Thread.{Thread}
+use Rattle.rules.specs.declared.Thread.the-variants.{Task}
+
+-- ---- dispatch follows an accepted call, and no other
+module _ (code : ℕ) (ws ls st : List ℕ) where
+  pub settled-accepted : code ≡ 0 → {x : Dispatched} → x ≡ dispatched ws ls st → x ≡ settled code ws ls st
+  settled-accepted z e = rw (eq-eqb code 0 z) e
+
+  pub settled-refused : code ≢ 0 → dispatchedOf ws ls st ≡ settled code ws ls st
+  settled-refused n = rw (ne-eqb code 0 n)
+
+-- ---- the parts of a call, one after the other
+module _ (t : Tables) (n a b c d : ℕ) where
+  pub step-is : {x : ℕ} {r : Answer} {u : Tables} {y : Dispatched} {who : Thread}
+      → x ≡ context (t .lines) (t .state) → after r u ≡ answered t (callOf t x n a b c d)
+      → y ≡ settled (r .code) (u .swis) (u .lines) (u .state) → who ≡ running (y .lines) (y .state)
+      → stepOf (withDispatched u y) r who ≡ step t n a b c d
+  unfolding step finished
+  step-is {x} {r} {u} {y} p q s w =
+      ap (stepOf (withDispatched u y) r) w
+      ∙ ap (λ (z : Dispatched). stepOf (withDispatched u z) r (running (z .lines) (z .state))) s
+      ∙ ap finished q
+      ∙ ap (λ (k : ℕ). finished (answered t (callOf t k n a b c d))) p
+
+-- ---- the test of soundness, and what follows it
+module _ (t : Tables) {s : Bool} (is : s ≡ sound t) where
+  pub tested-sound : not s ≡ false → sound t ≡ true
+  tested-sound e = sym is ∙ not-false s e
+
+  tested-unsound : not s ≡ true → sound t ≡ false
+  tested-unsound e = sym is ∙ not-true s e
+
+  -- code 10 and no change where they are not sound
+  module _ (n a b c d : ℕ) where
+    pub call-sound : not s ≡ false → {u : Step} → u ≡ step t n a b c d → u ≡ call t n a b c d
+    unfolding call
+    call-sound e q = rw (tested-sound e) q
+
+    pub call-unsound : not s ≡ true → {r : Answer} → r ≡ answer 10 0 0 → stepOf t r (Task 0) ≡ call t n a b c d
+    unfolding call
+    call-unsound e q = rw (tested-unsound e, q)
+
+  -- the running thread, T0 where they are not sound
+  pub thread-sound : s ≡ true → {x : Thread} → x ≡ running (t .lines) (t .state) → x ≡ if (sound t) (running (t .lines) (t .state)) (Task 0)
+  thread-sound e q = rw (sym is ∙ e) q
+
+  pub thread-unsound : s ≡ false → Task 0 ≡ if (sound t) (running (t .lines) (t .state)) (Task 0)
+  thread-unsound e = rw (sym is ∙ e)

@@ -1,0 +1,130 @@
+-- Demand 1: any tables, any call number and any arguments get an answer; each code is given exactly in its row of the table, and a refusal
+-- leaves everything as it was.
+use Prim.{Unit, tt}
+use Prim.Native.Nat.{ℕ, _<_}
+use mathlib.Core.Path.{_≡_, refl, sym, ap, _∙_}
+use mathlib.Core.Logic.{_≢_, _↔_, ⊎-elim}
+use mathlib.Core.Bool.{Bool, true, false, not, cond as if}
+use mathlib.Core.List.{List}
+use native.Mathlib.Omega.{arith}
+use borrow.Author.Tests.{eq-eqb, ne-eqb, ltb-true, lt-ltb}
+use lib.Dec.{eqb, ltb}
+use Rattle.fold.specs.Lists.{count, ahead}
+use Rattle.fold.proofs.Laws.{same?, lt-or-le}
+use Rattle.rules.specs.Answer.{answer, order, firstGiven, codeOf, answered, guarded, refused, After, Call}
+use Rattle.rules.specs.Dispatch.{running, context}
+use Rattle.rules.specs.Sound.{sound}
+use Rattle.rules.specs.Step.{call, step, stepOf, callOf, finished}
+use Rattle.rules.specs.declared.Tables.{Tables}
+use Rattle.rules.specs.declared.Step.{Step}
+use Rattle.rules.specs.declared.Answer.{Answer}
+use Rattle.rules.specs.declared.Thread.{Thread}
+use Rattle.rules.specs.declared.Thread.the-variants.{Task}
+use Rattle.runs.specs.Run.{Asked, asked, made}
+use Rattle.refusals.specs.Refusals.{among, known, refusal, unknownNumber}
+use Rattle.refusals.proofs.Known.{casesOf, agrees, one-of, Agrees, _&_}
+use Rattle.refusals.proofs.Unknown.{unknown-cases}
+use Rattle.refusals.proofs.Effects.{effects}
+use Rattle.refusals.proofs.First.{None, first-holds, first-given, first-none, first-same, by-bool}
+
+-- the call of the definition
+abbrev callFor : Tables → Asked → Call Tables
+callFor t q = callOf t (context (t .lines) (t .state)) (q .number) (q .a) (q .b) (q .c) (q .d)
+
+-- ---- the code, on sound tables, of a known number and of an unknown one
+module _ (t : Tables) (q : Asked) (e : sound t ≡ true) where
+  known-code : 0 < count (q .number) known → codeOf (casesOf t q) ≡ codeOf (refusal t q)
+  unfolding refusal
+  known-code h =
+      let (r10, r1, r2, r3, r4, r5, r6, r7, r8, r9) = one-of (λ n. Agrees t (asked n (q .a) (q .b) (q .c) (q .d))) known (agrees t (q .a) (q .b) (q .c) (q .d)) (q .number) h in
+      first-same order (casesOf t q) (refusal t q) ((r10 ∙ sym (ap not e)) & r1 & r2 & r3 & r4 & r5 & r6 & r7 & r8 & r9 & tt)
+
+  unknown-code : count (q .number) known ≡ 0 → codeOf (casesOf t q) ≡ codeOf (refusal t q)
+  unfolding refusal firstGiven unknownNumber among
+  unknown-code z = rw (unknown-cases (q .number) z t (context (t .lines) (t .state)) (q .a) (q .b) (q .c) (q .d), e, z)
+
+  code-by-rows : codeOf (casesOf t q) ≡ codeOf (refusal t q)
+  code-by-rows = ⊎-elim known-code (λ h. unknown-code (omega arith)) (lt-or-le 0 (count (q .number) known))
+
+-- ---- what is answered
+module _ (t : Tables) (k : ℕ) where
+  guarded-code : (e : After Tables) → (k ≡ 0 → e .answer .code ≡ 0) → guarded k t e .answer .code ≡ k
+  guarded-code e h = ⊎-elim (λ (z : k ≡ 0). rw (eq-eqb k 0 z) (h z ∙ sym z)) (λ (n : k ≢ 0). rw (ne-eqb k 0 n)) (same? k 0)
+
+  refused-step : k ≢ 0 → finished (refused k t) ≡ stepOf t (answer k 0 0) (running (t .lines) (t .state))
+  unfolding finished
+  refused-step n = rw (ne-eqb k 0 n)
+
+finished-code : (r : After Tables) → finished r .answer ≡ r .answer
+unfolding finished
+finished-code r = refl
+
+module _ (t : Tables) (q : Asked) (e : sound t ≡ true) where
+  effect-code : codeOf (casesOf t q) ≡ 0 → callFor t q .effect .answer .code ≡ 0
+  unfolding firstGiven
+  effect-code z =
+      ⊎-elim
+      (λ h. one-of (λ n. callOf t (context (t .lines) (t .state)) n (q .a) (q .b) (q .c) (q .d) .effect .answer .code ≡ 0) known
+      (effects t (context (t .lines) (t .state)) (q .a) (q .b) (q .c) (q .d)) (q .number) h)
+      (λ h.
+      let out : count (q .number) known ≡ 0 = omega arith in
+      absurd (omega (arith, rw (unknown-cases (q .number) out t (context (t .lines) (t .state)) (q .a) (q .b) (q .c) (q .d)) at z)))
+      (lt-or-le 0 (count (q .number) known))
+
+  step-code : step t (q .number) (q .a) (q .b) (q .c) (q .d) .answer .code ≡ codeOf (casesOf t q)
+  unfolding step
+  step-code =
+      ap (λ (r : Answer). r .code) (finished-code (answered t (callFor t q)))
+      ∙ guarded-code t (codeOf (casesOf t q)) (callFor t q .effect) effect-code
+
+  step-refused : codeOf (casesOf t q) ≢ 0
+      → step t (q .number) (q .a) (q .b) (q .c) (q .d) ≡ stepOf t (answer (codeOf (casesOf t q)) 0 0) (running (t .lines) (t .state))
+  unfolding step
+  step-refused n = rw (ne-eqb (codeOf (casesOf t q)) 0 n) (refused-step t (codeOf (casesOf t q)) n)
+
+unsound-code : (t : Tables) (q : Asked) → sound t ≡ false → 10 ≡ codeOf (refusal t q)
+unfolding refusal firstGiven
+unsound-code t q e = rw e
+
+pub code-is : (t : Tables) (q : Asked) → made t q .answer .code ≡ codeOf (refusal t q)
+unfolding call
+code-is t q = by-bool (sound t) (λ e. rw e (step-code t q e ∙ code-by-rows t q e)) (λ e. rw e (unsound-code t q e))
+
+pub left-alone : (t : Tables) (q : Asked) → made t q .answer .code ≢ 0
+    → made t q ≡ stepOf t (answer (made t q .answer .code) 0 0) (if (sound t) (running (t .lines) (t .state)) (Task 0))
+unfolding call
+left-alone t q =
+    by-bool (sound t)
+    (λ e. rw e (λ n. step-refused t q e (λ z. n (step-code t q e ∙ z)) ∙ ap (λ (k : ℕ). stepOf t (answer k 0 0) (running (t .lines) (t .state))) (sym (step-code t q e))))
+    (λ e. rw e (λ n. refl))
+
+-- ---- the demand
+pub record Answered (t : Tables) (q : Asked) (s : Step) : Type 0 where
+  -- the first row of the table that holds gives its code; 0 where none does
+  pub code : s .answer .code ≡ codeOf (refusal t q)
+  -- each code exactly where its row holds and none before it
+  pub exactly : (k : ℕ) → 0 < count k order → (s .answer .code ≡ k) ↔ ((refusal t q k ≡ true) × None (ahead k order) (refusal t q))
+  pub accepted : (s .answer .code ≡ 0) ↔ None order (refusal t q)
+  -- "A refusal has outcome 0, value 0 and no change; with code 10 the thread given is T0."
+  pub refused : s .answer .code ≢ 0
+      → s ≡ stepOf t (answer (s .answer .code) 0 0) (if (sound t) (running (t .lines) (t .state)) (Task 0))
+
+in-order : (k : ℕ) → 0 < count k order → 0 < k
+unfolding count
+in-order k h = ⊎-elim (λ (z : k ≡ 0). absurd (omega (arith, rw z at h))) (λ (n : k ≢ 0). omega arith) (same? k 0)
+
+pub demand-1 : (t : Tables) (q : Asked) → Answered t q (made t q)
+unfolding count
+demand-1 t q =
+    let c = code-is t q in
+    let none = first-none order (refusal t q) refl in
+    record {
+      code = c;
+      exactly =
+          λ k h. (
+            λ e. first-holds order (refusal t q) k (in-order k h) (sym c ∙ e),
+            λ r. c ∙ first-given order (refusal t q) k h (r .0) (r .1),
+          );
+      accepted = (λ e. none .0 (sym c ∙ e), λ r. c ∙ none .1 r);
+      refused = left-alone t q;
+    }

@@ -1,0 +1,5 @@
+pub mod Known
+pub mod First
+pub mod Unknown
+pub mod Effects
+pub mod Demand

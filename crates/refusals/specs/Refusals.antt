@@ -1,0 +1,201 @@
+-- 01's table of refusals, row by row: of each row, whether what it has under 'Given when' holds for this call on these tables.
+use Prim.Native.Nat.{ℕ}
+use mathlib.Core.Bool.{Bool, true, false, not, _&&_, _||_, cond as if}
+use mathlib.Core.List.{List, [], _∷_}
+use lib.Dec.{eqb, ltb, leb}
+use Rattle.fold.specs.Lists.{count}
+use Rattle.rules.specs.Answer.{T, S, I, unused}
+use Rattle.rules.specs.Tables.{taskCount, swiCount, semaphoreCount, eventCount, mailboxCount, clockCount, heapUnits, levels, minusOne, forever, mailboxMost, notInUse, terminated, inactive, task, swi, semaphore, event, mailbox, clock, state, current, USED, KIND, COUNT, BITS, CAPACITY, MESSAGES, POSTED, DEPTH, SWIS}
+use Rattle.rules.specs.Lines.{semaphoreLine, eventLine, mailboxLine, anyone}
+use Rattle.rules.specs.Waits.{switchOff, idle}
+use Rattle.rules.specs.Tasks.{isPriority, freeTask, blocked}
+use Rattle.rules.specs.Swis.{freeSwi, isActive, isNamed}
+use Rattle.rules.specs.Semaphores.{freeSemaphore, most, isBinary}
+use Rattle.rules.specs.Events.{freeEvent, matched}
+use Rattle.rules.specs.Mailboxes.{freeMailbox, isFull, waitsFirst}
+use Rattle.rules.specs.Clocks.{freeClock}
+use Rattle.rules.specs.Heap.{isBlock, isRun, lowestRun, unitsOf}
+use Rattle.rules.specs.Tables.{reading}
+use Rattle.rules.specs.Dispatch.{context}
+use Rattle.rules.specs.Sound.{sound}
+use Rattle.rules.specs.declared.Tables.{Tables}
+use Rattle.runs.specs.Run.{Asked}
+
+-- the call's number is one of these
+unfoldable pub among : List ℕ → Asked → Bool
+among ns q = ltb 0 (count (q .number) ns)
+
+-- ---- row 1, code 10: "the tables are not sound"
+abbrev pub notSound : Tables → Bool
+notSound t = not (sound t)
+
+-- ---- row 2, code 1: "unknown call number"
+abbrev pub known : List ℕ
+known =
+    0x00 ∷ 0x01 ∷ 0x02 ∷ 0x03 ∷ 0x04 ∷ 0x05 ∷ 0x06
+    ∷ 0x10 ∷ 0x11 ∷ 0x12 ∷ 0x13 ∷ 0x14 ∷ 0x15 ∷ 0x16 ∷ 0x17 ∷ 0x18
+    ∷ 0x20 ∷ 0x21 ∷ 0x22 ∷ 0x23 ∷ 0x24
+    ∷ 0x30 ∷ 0x31 ∷ 0x32 ∷ 0x33
+    ∷ 0x40 ∷ 0x41 ∷ 0x42 ∷ 0x43
+    ∷ 0x50 ∷ 0x51 ∷ 0x52 ∷ 0x53
+    ∷ 0x60 ∷ 0x61
+    ∷ 0x70 ∷ 0x71 ∷ 0x72 ∷ 0x73 ∷ 0x74 ∷ 0x75 ∷ 0x76
+    ∷ []
+
+unfoldable pub unknownNumber : Asked → Bool
+unknownNumber q = not (among known q)
+
+-- ---- row 3, code 2: "wrong context, or a limit other than 0 outside a task"
+-- the calls that T alone may make; T and S; S alone; I alone; all others anyone
+abbrev pub byT : List ℕ
+byT =
+    0x00 ∷ 0x01 ∷ 0x03 ∷ 0x04 ∷ 0x05 ∷ 0x10 ∷ 0x11 ∷ 0x20 ∷ 0x21 ∷ 0x24 ∷ 0x30 ∷ 0x31 ∷ 0x40 ∷ 0x41 ∷ 0x50 ∷ 0x51 ∷ 0x60 ∷ 0x61
+    ∷ 0x72 ∷ 0x73 ∷ []
+
+abbrev pub byTS : List ℕ
+byTS = 0x02 ∷ 0x70 ∷ 0x71 ∷ []
+
+abbrev pub byS : List ℕ
+byS = 0x17 ∷ 0x18 ∷ []
+
+abbrev pub byI : List ℕ
+byI = 0x75 ∷ 0x76 ∷ []
+
+-- the limit of the calls that have one, 0 of the others: "22 pend (semaphore, limit)", "32 pend (event, and-mask, or-mask, limit)",
+-- "42 post (mailbox, word, limit)", "43 pend (mailbox, limit)"
+abbrev pub limited : List ℕ
+limited = 0x22 ∷ 0x32 ∷ 0x42 ∷ 0x43 ∷ []
+
+unfoldable pub limitOf : Asked → ℕ
+limitOf q = if (among (0x22 ∷ 0x43 ∷ []) q) (q .b) (if (among (0x42 ∷ []) q) (q .c) (if (among (0x32 ∷ []) q) (q .d) 0))
+
+unfoldable pub wrongContext : Tables → Asked → Bool
+wrongContext t q =
+    let x = context (t .lines) (t .state) in
+    if (among byT q) (not (eqb x T))
+    (if (among byTS q) (eqb x I)
+    (if (among byS q) (not (eqb x S))
+    (if (among byI q) (not (eqb x I))
+    (if (among limited q) (not (eqb x T) && not (eqb (limitOf q) 0)) false))))
+
+-- ---- row 4, code 3: "an object number out of range or not in use"
+-- "A call on an object takes its number first."; call 50 takes a Swi's
+unfoldable pub noObject : Tables → Asked → Bool
+noObject t q =
+    if (among (0x01 ∷ 0x02 ∷ 0x06 ∷ []) q) (eqb (task (t .tasks) (q .a) .mode) notInUse)
+    (if (among (0x11 ∷ 0x12 ∷ 0x13 ∷ 0x14 ∷ 0x15 ∷ 0x16 ∷ 0x50 ∷ []) q) (eqb (swi (t .swis) (q .a) USED) 0)
+    (if (among (0x21 ∷ 0x22 ∷ 0x23 ∷ 0x24 ∷ []) q) (eqb (semaphore (t .semaphores) (q .a) USED) 0)
+    (if (among (0x31 ∷ 0x32 ∷ 0x33 ∷ []) q) (eqb (event (t .events) (q .a) USED) 0)
+    (if (among (0x41 ∷ 0x42 ∷ 0x43 ∷ []) q) (eqb (mailbox (t .mailboxes) (q .a) CAPACITY) 0)
+    (if (among (0x51 ∷ 0x52 ∷ 0x53 ∷ []) q) (eqb (clock (t .clocks) (q .a) .used) 0) false)))))
+
+-- ---- row 5, code 4: "a bad argument, or an unused one not 0"
+-- priorities of 00 and 02; 05 "n = 4,294,967,295 is 4"; 10 "priority 0 to 15"; 20 "kinds 0 .. 3", "count to 65,535 or 1"; 24 "count as in 20";
+-- 32 "both masks 0 is 4"; 40 capacity 1 to 8; 50 "first ticks from 1"; 60 "bytes 1 to 2,048"; 61 "a live block's start, and bytes that round up
+-- to its size"; 71, 73 "key 1 (on) or 0 (no change)"
+unfoldable pub badValue : Tables → Asked → Bool
+badValue t q =
+    if (among (0x00 ∷ []) q) (not (isPriority levels (q .a)))
+    (if (among (0x02 ∷ []) q) (not (isPriority levels (q .b)))
+    (if (among (0x05 ∷ []) q) (eqb (q .a) forever)
+    (if (among (0x10 ∷ []) q) (not (ltb (q .a) 16))
+    (if (among (0x20 ∷ []) q) (not (ltb (q .a) 4) || not (leb (q .b) (most (q .a))))
+    (if (among (0x24 ∷ []) q) (not (leb (q .b) (most (semaphore (t .semaphores) (q .a) KIND))))
+    (if (among (0x32 ∷ []) q) (eqb (q .b) 0 && eqb (q .c) 0)
+    (if (among (0x40 ∷ []) q) (eqb (q .a) 0 || not (leb (q .a) mailboxMost))
+    (if (among (0x50 ∷ []) q) (eqb (q .b) 0)
+    (if (among (0x60 ∷ []) q) (eqb (q .a) 0 || not (leb (q .a) 2048))
+    (if (among (0x61 ∷ []) q) (not (isBlock (t .heap) (q .a) (q .b)))
+    (if (among (0x71 ∷ 0x73 ∷ []) q) (not (ltb (q .a) 2)) false)))))))))))
+
+-- how many arguments a call names
+abbrev pub namesNone : List ℕ
+namesNone = 0x03 ∷ 0x04 ∷ 0x17 ∷ 0x18 ∷ 0x30 ∷ 0x70 ∷ 0x72 ∷ 0x74 ∷ 0x75 ∷ 0x76 ∷ []
+
+abbrev pub namesTwo : List ℕ
+namesTwo = 0x02 ∷ 0x10 ∷ 0x15 ∷ 0x16 ∷ 0x20 ∷ 0x22 ∷ 0x24 ∷ 0x33 ∷ 0x43 ∷ 0x61 ∷ []
+
+abbrev pub namesThree : List ℕ
+namesThree = 0x42 ∷ 0x50 ∷ []
+
+abbrev pub namesFour : List ℕ
+namesFour = 0x32 ∷ []
+
+unfoldable pub unusedNotZero : Asked → Bool
+unusedNotZero q =
+    if (among namesNone q) (unused (q .a) (q .b) (q .c) (q .d))
+    (if (among namesTwo q) (unused 0 0 (q .c) (q .d))
+    (if (among namesThree q) (unused 0 0 0 (q .d))
+    (if (among namesFour q) false (unused 0 (q .b) (q .c) (q .d)))))
+
+unfoldable pub badArgument : Tables → Asked → Bool
+badArgument t q = badValue t q || (among known q && unusedNotZero q)
+
+-- ---- a wait that begins: a sleep above 0; a pend at count 0, unmatched bits or an empty mailbox, a post at a full one that no reader waits
+-- for, each with a limit other than 0
+unfoldable pub beginsWait : Tables → Asked → Bool
+beginsWait t q =
+    if (among (0x05 ∷ []) q) (ltb 0 (q .a))
+    (if (among (0x22 ∷ []) q) (eqb (semaphore (t .semaphores) (q .a) COUNT) 0 && not (eqb (limitOf q) 0))
+    (if (among (0x32 ∷ []) q) (eqb (matched (event (t .events) (q .a) BITS) (q .b) (q .c)) 0 && not (eqb (limitOf q) 0))
+    (if (among (0x42 ∷ []) q)
+    (not (waitsFirst (t .tasks) (t .lines) (q .a) reading) && isFull (t .mailboxes) (q .a) && not (eqb (limitOf q) 0))
+    (if (among (0x43 ∷ []) q) (eqb (mailbox (t .mailboxes) (q .a) MESSAGES) 0 && not (eqb (limitOf q) 0)) false))))
+
+-- ---- row 6, code 5: "the object's state forbids it"
+-- 01 "terminated or inactive only"; 02 "task 0, a terminated task, or -1 for the current or a blocked task"; 11 "posted, active or named by a
+-- clock"; 21, 24, 31, 41 "with waiters", 41 "or messages"; 32 "a waiter there already"; "task 0 ending or beginning a sleep or wait"
+unfoldable pub stateForbids : Tables → Asked → Bool
+stateForbids t q =
+    if (among (0x01 ∷ []) q) (not (eqb (task (t .tasks) (q .a) .mode) terminated || eqb (task (t .tasks) (q .a) .mode) inactive))
+    (if (among (0x02 ∷ []) q)
+    (eqb (q .a) 0 || eqb (task (t .tasks) (q .a) .mode) terminated
+    || (eqb (q .b) minusOne && (eqb (q .a) (current (t .state)) || blocked (task (t .tasks) (q .a) .mode))))
+    (if (among (0x04 ∷ []) q) (idle (t .state))
+    (if (among (0x11 ∷ []) q) (not (eqb (swi (t .swis) (q .a) POSTED) 0) || isActive (t .lines) (q .a) || isNamed (t .clocks) (q .a))
+    (if (among (0x21 ∷ 0x24 ∷ []) q) (anyone (t .lines) (semaphoreLine (q .a)))
+    (if (among (0x31 ∷ []) q) (anyone (t .lines) (eventLine (q .a)))
+    (if (among (0x32 ∷ []) q) (anyone (t .lines) (eventLine (q .a)) || (beginsWait t q && idle (t .state)))
+    (if (among (0x41 ∷ []) q) (anyone (t .lines) (mailboxLine (q .a)) || not (eqb (mailbox (t .mailboxes) (q .a) MESSAGES) 0))
+    (beginsWait t q && idle (t .state)))))))))
+
+-- ---- row 7, code 6: "no free number in the table"
+unfoldable pub noFreeNumber : Tables → Asked → Bool
+noFreeNumber t q =
+    if (among (0x00 ∷ []) q) (eqb (freeTask (t .tasks)) taskCount)
+    (if (among (0x10 ∷ []) q) (eqb (freeSwi (t .swis)) swiCount)
+    (if (among (0x20 ∷ []) q) (eqb (freeSemaphore (t .semaphores)) semaphoreCount)
+    (if (among (0x30 ∷ []) q) (eqb (freeEvent (t .events)) eventCount)
+    (if (among (0x40 ∷ []) q) (eqb (freeMailbox (t .mailboxes)) mailboxCount)
+    (if (among (0x50 ∷ []) q) (eqb (freeClock (t .clocks)) clockCount) false)))))
+
+-- ---- row 8, code 7: "count or depth at its end": "counting at 65,535 is 7", "7 at depth 8"
+unfoldable pub atItsEnd : Tables → Asked → Bool
+atItsEnd t q =
+    if (among (0x23 ∷ []) q)
+    (not (isBinary (semaphore (t .semaphores) (q .a) KIND)) && leb 65535 (semaphore (t .semaphores) (q .a) COUNT))
+    (if (among (0x74 ∷ []) q) (not (ltb (state (t .state) DEPTH) 8)) false)
+
+-- ---- row 9, code 8: "no heap room": "exactly if no run of that many adjacent free units exists"
+unfoldable pub noHeapRoom : Tables → Asked → Bool
+noHeapRoom t q = if (among (0x60 ∷ []) q) (eqb (lowestRun (t .heap) (unitsOf (q .a))) heapUnits) false
+
+-- ---- row 10, code 9: "a yield, end, sleep above 0 or wait that begins, while either switch is off; or a Swi end while Swis are off"
+unfoldable pub switchedOff : Tables → Asked → Bool
+switchedOff t q =
+    if (among (0x03 ∷ 0x04 ∷ []) q) (switchOff (t .state))
+    (if (among (0x17 ∷ []) q) (eqb (state (t .state) SWIS) 0) (beginsWait t q && switchOff (t .state)))
+
+-- ---- the table: of each code its row
+unfoldable pub refusal : Tables → Asked → ℕ → Bool
+refusal t q k =
+    if (eqb k 10) (notSound t)
+    (if (eqb k 1) (unknownNumber q)
+    (if (eqb k 2) (wrongContext t q)
+    (if (eqb k 3) (noObject t q)
+    (if (eqb k 4) (badArgument t q)
+    (if (eqb k 5) (stateForbids t q)
+    (if (eqb k 6) (noFreeNumber t q)
+    (if (eqb k 7) (atItsEnd t q)
+    (if (eqb k 8) (noHeapRoom t q)
+    (if (eqb k 9) (switchedOff t q) false)))))))))

@@ -1,0 +1,52 @@
+-- What demand 3 speaks of: a task that waits, its turn at a semaphore, and its turn in its priority's queue.
+use Prim.{Unit}
+use Prim.Native.Nat.{ℕ, _+_}
+use mathlib.Core.Path.{_≡_}
+use mathlib.Core.Logic.{_≢_, _⊎_}
+use mathlib.Core.Bool.{Bool, _&&_}
+use mathlib.Core.List.{List, [], _∷_}
+use lib.Dec.{eqb}
+use Rattle.fold.specs.Lists.{bit, count, ahead}
+use Rattle.rules.specs.Tables.{atSemaphore, ready, task}
+use Rattle.rules.specs.Lines.{line, semaphoreLine, readyLine}
+use Rattle.rules.specs.Dispatch.{running}
+use Rattle.rules.specs.declared.Tables.{Tables}
+use Rattle.rules.specs.declared.Thread.the-variants.{Task}
+use Rattle.runs.specs.Run.{Asked, made, next}
+
+-- ---- the waiter
+-- task i is blocked on semaphore s, and those who stand before it
+abbrev pub BlockedOn : ℕ → ℕ → Tables → Type 0
+BlockedOn s i t = (task (t .tasks) i .mode ≡ atSemaphore) × (task (t .tasks) i .object ≡ s)
+
+abbrev pub beforeAt : ℕ → ℕ → Tables → List ℕ
+beforeAt s i t = ahead i (line (t .lines) (semaphoreLine s))
+
+-- an accepted post on s: call 23, answered with code 0
+abbrev pub isPost : ℕ → Tables → Asked → Bool
+isPost s t q = eqb (q .number) 0x23 && eqb (q .a) s && eqb (made t q .answer .code) 0
+
+-- how many of these calls are accepted posts on s
+unfoldable pub posts : ℕ → Tables → List Asked → ℕ
+posts s t [] = 0
+posts s t (q ∷ qs) = bit (isPost s t q) + posts s (next t q) qs
+
+-- ---- the ready task
+abbrev pub ReadyAt : ℕ → ℕ → Tables → Type 0
+ReadyAt p i t = (task (t .tasks) i .mode ≡ ready) × (task (t .tasks) i .priority ≡ p)
+
+abbrev pub queue : ℕ → Tables → List ℕ
+queue p t = line (t .lines) (readyLine p)
+
+-- it does not run when the call is made, and the call leaves it its priority
+abbrev pub Undisturbed : ℕ → ℕ → Tables → Asked → Type 0
+Undisturbed p i t q = (running (t .lines) (t .state) ≢ Task i) × (task (next t q .tasks) i .priority ≡ p)
+
+-- task x yields: an accepted call 03 while x runs
+abbrev pub Yields : ℕ → Tables → Asked → Type 0
+Yields x t q = (running (t .lines) (t .state) ≡ Task x) × (q .number ≡ 0x03) × (made t q .answer .code ≡ 0)
+
+-- x has left the queue of priority p (it stood there no more at some time) or yielded since
+unfoldable pub Gone : ℕ → ℕ → Tables → List Asked → Type 0
+Gone p x t [] = count x (queue p t) ≡ 0
+Gone p x t (q ∷ qs) = (count x (queue p t) ≡ 0) ⊎ (Yields x t q ⊎ Gone p x (next t q) qs)

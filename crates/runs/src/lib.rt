@@ -1,0 +1,1 @@
+// Calls one after the other: definitions alone, no code.

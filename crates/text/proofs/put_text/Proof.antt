@@ -1,0 +1,27 @@
+use Prim.Native.Nat.{_-_, _≤_}
+use lib.ListN.{length, take}
+use borrow.Author.Needs.{needs}
+use Rattle.text.specs.Put.{Put}
+use Rattle.text.proofs.Puts.{put-none, put-next, put-whole}
+use Rattle.text.proofs.put_text.Statement.{statement}
+use Rattle.text.proofs.put_text.Tie as tie
+
+abbrev Inv-loop : tie.InvT-loop
+Inv-loop out₀ at text p₀ i₀ out p i = (i ≤ length text) × Put out₀ at (take i text) out p
+
+abbrev μ-loop : tie.MeasureT-loop
+μ-loop out₀ at text p₀ i₀ out p i = length text - i
+
+pub put-text-spec : {M : Type 1} → statement M
+put-text-spec =
+    tie.close
+    (tie.spec
+    Inv-loop
+    μ-loop
+    (λ c. let b = c .before in (search needs, put-none (b .args .out .now) (b .args .at)))
+    (λ c. search needs)
+    (λ c κs. search needs)
+    (λ c. search needs)
+    (λ c. search needs)
+    (λ c. let b = c .before .before .before .before .before .before in let l = c .before .before .before .before .loop in (search needs, put-next (b .args .text .now) (l .i) (c .before .before .before .loop-test .taken) (l .inv .1) (c .put-byte .ensures)))
+    (λ c. let b = c .before .before .before in let l = c .before .loop in put-whole (b .args .text .now) (l .i) (c .loop-test .left) (l .inv .1)))
