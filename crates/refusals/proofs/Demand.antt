@@ -1,5 +1,4 @@
--- Demand 1: any tables, any call number and any arguments get an answer; each code is given exactly in its row of the table, and a refusal
--- leaves everything as it was.
+-- Any call on any tables: its code is that of the first row of the table that holds, and a refusal leaves everything as it was.
 use Prim.{Unit, tt}
 use Prim.Native.Nat.{ℕ, _<_}
 use mathlib.Core.Path.{_≡_, refl, sym, ap, _∙_}
@@ -98,33 +97,21 @@ left-alone t q =
     (λ e. rw e (λ n. step-refused t q e (λ z. n (step-code t q e ∙ z)) ∙ ap (λ (k : ℕ). stepOf t (answer k 0 0) (running (t .lines) (t .state))) (sym (step-code t q e))))
     (λ e. rw e (λ n. refl))
 
--- ---- the demand
-pub record Answered (t : Tables) (q : Asked) (s : Step) : Type 0 where
-  -- the first row of the table that holds gives its code; 0 where none does
-  pub code : s .answer .code ≡ codeOf (refusal t q)
-  -- each code exactly where its row holds and none before it
-  pub exactly : (k : ℕ) → 0 < count k order → (s .answer .code ≡ k) ↔ ((refusal t q k ≡ true) × None (ahead k order) (refusal t q))
-  pub accepted : (s .answer .code ≡ 0) ↔ None order (refusal t q)
-  -- "A refusal has outcome 0, value 0 and no change; with code 10 the thread given is T0."
-  pub refused : s .answer .code ≢ 0
-      → s ≡ stepOf t (answer (s .answer .code) 0 0) (if (sound t) (running (t .lines) (t .state)) (Task 0))
-
+-- ---- each code exactly in its case
 in-order : (k : ℕ) → 0 < count k order → 0 < k
 unfolding count
 in-order k h = ⊎-elim (λ (z : k ≡ 0). absurd (omega (arith, rw z at h))) (λ (n : k ≢ 0). omega arith) (same? k 0)
 
-pub demand-1 : (t : Tables) (q : Asked) → Answered t q (made t q)
-unfolding count
-demand-1 t q =
-    let c = code-is t q in
-    let none = first-none order (refusal t q) refl in
-    record {
-      code = c;
-      exactly =
-          λ k h. (
-            λ e. first-holds order (refusal t q) k (in-order k h) (sym c ∙ e),
-            λ r. c ∙ first-given order (refusal t q) k h (r .0) (r .1),
-          );
-      accepted = (λ e. none .0 (sym c ∙ e), λ r. c ∙ none .1 r);
-      refused = left-alone t q;
-    }
+module _ (t : Tables) (q : Asked) where
+  pub exactly-in : (k : ℕ) → 0 < count k order
+      → (made t q .answer .code ≡ k) ↔ ((refusal t q k ≡ true) × None (ahead k order) (refusal t q))
+  exactly-in k h = (
+    λ e. first-holds order (refusal t q) k (in-order k h) (sym (code-is t q) ∙ e),
+    λ r. code-is t q ∙ first-given order (refusal t q) k h (r .0) (r .1),
+  )
+
+  pub accepted-in : (made t q .answer .code ≡ 0) ↔ None order (refusal t q)
+  unfolding count
+  accepted-in =
+      let none = first-none order (refusal t q) refl in
+      (λ e. none .0 (sym (code-is t q) ∙ e), λ r. code-is t q ∙ none .1 r)

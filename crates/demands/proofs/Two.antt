@@ -1,0 +1,115 @@
+-- Demand 2: "From sound tables each call leaves sound tables and has exactly the effect in document 01, .., and the running thread is the one
+-- its dispatch rule names."
+use Prim.{tt}
+use Prim.Native.Nat.{ℕ}
+use mathlib.Core.Path.{_≡_, refl, sym, ap, subst, _∙_}
+use mathlib.Core.Logic.{_≢_}
+use mathlib.Core.Bool.{Bool, true, false, not, cond as if, true≢false, false≢true}
+use mathlib.Core.List.{List, [], _∷_}
+use native.Mathlib.Omega.{arith}
+use borrow.Author.Tests.{not-true}
+use lib.ListN.{length, getD, set}
+use lib.Seq.{set-getD}
+use Rattle.rules.specs.Tables.{Typed, levels, state, withState, CURRENT}
+use Rattle.rules.specs.Fresh.{fresh}
+use Rattle.rules.specs.Swis.{Posts, posts}
+use Rattle.rules.specs.Dispatch.{running, swiDue, swiDispatched, taskDue, front, taskDispatched, dispatched, dispatchedOf}
+use Rattle.rules.specs.Sound.{Sound, sound}
+use Rattle.rules.specs.Step.{step, call, finished}
+use Rattle.rules.proofs.Agree.{sound-means, means-sound}
+use Rattle.rules.proofs.Faster.{fresh-sound}
+use Rattle.rules.specs.declared.Tables.{Tables}
+use Rattle.rules.specs.declared.Step.{Step}
+use Rattle.runs.specs.Run.{Asked, Words, made, next, after, Each, AllWords}
+use Rattle.refusals.proofs.Demand.{exactly-in}
+use Rattle.refusals.proofs.First.{by-bool}
+use Rattle.refusals.specs.Refusals.{refusal}
+use Rattle.fold.specs.Lists.{count}
+use Rattle.keeps.proofs.Groups as Groups
+use Rattle.keeps.proofs.Keeps.{step-typed, step-sound}
+
+pub record Kept (t : Tables) (q : Asked) : Type 0 where
+  -- what the call does is the definition's step: the test of soundness may be skipped, and code 10 never comes
+  pub effect : made t q ≡ step t (q .number) (q .a) (q .b) (q .c) (q .d)
+  pub tested : made t q .answer .code ≢ 10
+  -- the next tables are sound, all rules of them
+  pub typed : Typed (next t q)
+  pub sound : Sound (next t q)
+  -- the running thread is the one that the dispatch rule names on them, and dispatch has nothing left to do
+  pub thread : made t q .thread ≡ running (next t q .lines) (next t q .state)
+  pub settled : dispatched (next t q .swis) (next t q .lines) (next t q .state)
+      ≡ dispatchedOf (next t q .swis) (next t q .lines) (next t q .state)
+
+-- ---- dispatch has nothing left to do on sound tables
+module _ (t : Tables) (s : Sound t) where
+  no-swi : swiDispatched (t .state) (posts (t .swis) (t .lines)) ≡ posts (t .swis) (t .lines)
+  unfolding swiDispatched
+  no-swi = rw (not-true (swiDue (t .swis) (t .lines) (t .state)) (s .dispatch .0))
+
+  no-task : taskDispatched (t .lines) (t .state) ≡ t .state
+  unfolding taskDispatched
+  no-task =
+      by-bool (taskDue (t .lines) (t .state))
+      (λ e. rw e (ap (set (t .state) 4) (sym (s .dispatch .1 e)) ∙ set-getD (t .state) 4 0))
+      (λ e. rw e)
+
+  nothing-left : dispatched (t .swis) (t .lines) (t .state) ≡ dispatchedOf (t .swis) (t .lines) (t .state)
+  unfolding dispatched
+  nothing-left = rw (no-swi, no-task)
+
+step-thread : (t : Tables) (q : Asked)
+    → step t (q .number) (q .a) (q .b) (q .c) (q .d) .thread
+    ≡ running (step t (q .number) (q .a) (q .b) (q .c) (q .d) .tables .lines) (step t (q .number) (q .a) (q .b) (q .c) (q .d) .tables .state)
+unfolding step finished
+step-thread t q = refl
+
+-- ---- one call
+module _ (t : Tables) (typed : Typed t) (s : Sound t) (q : Asked) (w : Words q) where
+  is-step : made t q ≡ step t (q .number) (q .a) (q .b) (q .c) (q .d)
+  unfolding call
+  is-step = rw (means-sound t s)
+
+  not-10 : made t q .answer .code ≢ 10
+  unfolding count refusal
+  not-10 e = false≢true (sym (ap not (means-sound t s)) ∙ exactly-in t q 10 (omega arith) .0 e .0)
+
+  words : Groups.Words (q .a) (q .b) (q .c) (q .d)
+  words = record { first = w .first; second = w .second; third = w .third; fourth = w .fourth }
+
+  next-sound : Sound (next t q)
+  next-sound = subst (λ (r : Step). Sound (r .tables)) (sym is-step) (step-sound t typed s (q .number) (q .a) (q .b) (q .c) (q .d) words)
+
+  pub demand-2 : Kept t q
+  demand-2 =
+      record {
+        effect = is-step;
+        tested = not-10;
+        typed = subst (λ (r : Step). Typed (r .tables)) (sym is-step) (step-typed t typed s (q .number) (q .a) (q .b) (q .c) (q .d) words);
+        sound = next-sound;
+        thread = subst (λ (r : Step). r .thread ≡ running (r .tables .lines) (r .tables .state)) (sym is-step) (step-thread t q);
+        settled = nothing-left (next t q) next-sound;
+      }
+
+-- ---- "Fresh tables are sound"
+pub fresh-typed : Typed fresh
+unfolding fresh
+fresh-typed =
+    record { tasks = refl; lines = refl; semaphores = refl; events = refl; mailboxes = refl; swis = refl; clocks = refl; heap = refl; state = refl }
+
+pub fresh-is-sound : Sound fresh
+fresh-is-sound = sound-means fresh fresh-sound
+
+-- ---- along any sequence of calls from sound tables: each call keeps them so
+pub along : (t : Tables) → Typed t → Sound t → (qs : List Asked) → AllWords t qs → Each (λ u q. Sound u × Kept u q) t qs
+unfolding Each
+along t typed s [] w = tt
+along t typed s (q ∷ qs) w =
+    let k = demand-2 t typed s q (w .0) in
+    ((s, k), along (next t q) (k .typed) (k .sound) qs (w .1))
+
+pub sound-after : (t : Tables) → Typed t → Sound t → (qs : List Asked) → AllWords t qs → Typed (after t qs) × Sound (after t qs)
+unfolding Each after
+sound-after t typed s [] w = (typed, s)
+sound-after t typed s (q ∷ qs) w =
+    let k = demand-2 t typed s q (w .0) in
+    sound-after (next t q) (k .typed) (k .sound) qs (w .1)

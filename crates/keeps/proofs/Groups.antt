@@ -1,0 +1,62 @@
+-- The rules of sound tables in the form in which a call keeps them, and what holds between a call's effect and the dispatch after it.
+use Prim.Native.Nat.{ℕ, _<_, _^_}
+use mathlib.Core.Path.{_≡_}
+use mathlib.Core.Logic.{_⊎_}
+use mathlib.Core.Bool.{true, false}
+use mathlib.Core.List.{List}
+use lib.Dec.{eqb}
+use Rattle.fold.specs.Lists.{bit, count}
+use Rattle.fold.specs.Rule.{Means}
+use Rattle.rules.specs.Tables.{Typed, taskCount, wordEnd, ready, task, state, DEPTH, SWIS, TASKS, CURRENT}
+use Rattle.rules.specs.Lines.{lineCount, postedLine, activeLine, line, taskHome, swiHome}
+use Rattle.rules.specs.Answer.{Call, codeOf}
+use Rattle.rules.specs.Dispatch.{swiDue, taskDue}
+use Rattle.rules.specs.Sound.{heapRule, clocksRule, tasksRule, linesRule, semaphoresRule, eventsRule, mailboxesRule, swisRule, activeRule}
+use Rattle.rules.specs.declared.Tables.{Tables}
+
+-- "All arguments are unsigned 32-bit"
+pub record Words (a b c d : ℕ) : Type 0 where
+  pub first : a < wordEnd
+  pub second : b < wordEnd
+  pub third : c < wordEnd
+  pub fourth : d < wordEnd
+
+-- line j is one of tasks
+abbrev pub OfTasks : ℕ → Type 0
+OfTasks j = (j < postedLine 0) ⊎ ((activeLine < j) × (j < lineCount))
+
+-- each task stands once in the line that is its own, and in no other; so does each posted Swi
+pub record Standing (ts ws ls : List ℕ) : Type 0 where
+  pub tasks : (x j : ℕ) → OfTasks j → count x (line ls j) ≡ bit (eqb (taskHome ts x) j)
+  pub swis : (x p : ℕ) → p < 16 → count x (line ls (postedLine p)) ≡ bit (eqb (swiHome ws x) (postedLine p))
+
+-- all rules but those on the state
+pub record Almost (t : Tables) : Type 0 where
+  pub typed : Typed t
+  pub heap : Means (heapRule (t .heap))
+  pub clocks : Means (clocksRule (t .clocks) (t .swis))
+  pub tasks : Means (tasksRule (t .tasks))
+  pub lines : Means (linesRule (t .lines))
+  pub standing : Standing (t .tasks) (t .swis) (t .lines)
+  pub semaphores : Means (semaphoresRule (t .semaphores) (t .lines))
+  pub events : Means (eventsRule (t .tasks) (t .events) (t .lines))
+  pub mailboxes : Means (mailboxesRule (t .tasks) (t .mailboxes) (t .lines))
+  pub swis : Means (swisRule (t .swis) (t .lines))
+  pub active : Means (activeRule (t .swis) (t .lines))
+
+pub record Ranges (st : List ℕ) : Type 0 where
+  pub depth : state st DEPTH < 9
+  pub swis : state st SWIS < 2
+  pub tasks : state st TASKS < 2
+  pub current : state st CURRENT < taskCount
+
+-- between a call's effect and dispatch: the current task is ready, or dispatch is about to choose another
+pub record Settling (t : Tables) : Type 0 where
+  pub almost : Almost t
+  pub ranges : Ranges (t .state)
+  pub current : (task (t .tasks) (state (t .state) CURRENT) .mode ≡ ready)
+      ⊎ ((swiDue (t .swis) (t .lines) (t .state) ≡ false) × (taskDue (t .lines) (t .state) ≡ true))
+
+-- a call, accepted, leaves such tables; `put` says where the tables that it changes stand
+abbrev pub Keeps : {A : Type 0} → (A → Tables) → Call A → Type 0
+Keeps put c = codeOf (c .cases) ≡ 0 → Settling (put (c .effect .next))

@@ -1,0 +1,162 @@
+-- What the calls of semaphores, events and mailboxes share: tests taken apart, free numbers, who waits in an object's line and is served, and the
+-- tables after a change of one object.
+use Prim.Native.Nat.{ℕ, _<_}
+use mathlib.Core.Path.{_≡_, ap, _∙_}
+use mathlib.Core.Logic.{_≢_, inl, inr, ⊎-elim}
+use mathlib.Core.Bool.{Bool, true, false, not, _&&_, false≢true}
+use mathlib.Core.List.{List}
+use native.Mathlib.Omega.{arith}
+use borrow.Author.Tests.{ne-eqb, eqb-true, eqb-false, not-false}
+use lib.Dec.{eqb}
+use lib.ListN.{length, getD}
+use Rattle.fold.specs.Lists.{without}
+use Rattle.fold.specs.Find.{firstBelow}
+use Rattle.fold.specs.Rule.{Rule, each, Means}
+use Rattle.fold.proofs.Laws.{same?}
+use Rattle.fold.proofs.Finds.{IsFirst, first-below-is}
+use Rattle.rules.specs.Answer.{T}
+use Rattle.rules.specs.Rows.{field}
+use Rattle.rules.specs.Tables.{Typed, tables, taskCount, ready, terminated, task, current}
+use Rattle.rules.specs.Lines.{postedLine, line, readyLine, first, homeBy, homeOf, taskHome, queued, moved, atBack}
+use Rattle.rules.specs.Waits.{outside, idle, switchOff, readied, woken}
+use Rattle.rules.specs.Dispatch.{context}
+use Rattle.rules.specs.Sound.{Sound, taskRule, semaphoresRule, eventsRule, mailboxesRule}
+use Rattle.rules.specs.Step.{withQueued}
+use Rattle.rules.specs.declared.Tables.{Tables}
+use Rattle.rules.specs.declared.Task.{Task}
+use Rattle.laws.proofs.Rows.{by-range, field-out}
+use Rattle.keeps.proofs.Groups.{OfTasks, Almost, Settling}
+use Rattle.keeps.proofs.Members.{bit-eq, count-at}
+use Rattle.keeps.proofs.TaskRows.{Stands, isReady, isAtSemaphore, isAtEvent, isAtMailbox, isNowhere, home-out, task-stands}
+use Rattle.keeps.proofs.Standing.{sound-almost}
+use Rattle.keeps.proofs.Waiting.{sound-ranges, still-ready, not-idle, waits-settle, woken-row, wakes-settle}
+use Rattle.keeps.proofs.Moves.{Welcome, moved-line}
+
+-- ---- tests
+pub other-fails : (a b : Bool) → (a && b) ≡ false → a ≡ true → b ≡ false
+other-fails true b e h = e
+other-fails false b e h = absurd (false≢true h)
+
+-- "a limit other than 0 outside a task"
+pub in-task : (x limit : ℕ) → outside x limit ≡ false → limit ≢ 0 → x ≡ T
+unfolding outside
+in-task x limit e n =
+    ⊎-elim
+    (λ (q : x ≡ T). q)
+    (λ (m : x ≢ T).
+    let z : not (eqb limit 0) ≡ false = other-fails (not (eqb x T)) (not (eqb limit 0)) e (ap not (ne-eqb x T m)) in
+    absurd (n (eqb-true limit 0 (not-false (eqb limit 0) z))))
+    (same? x T)
+
+-- ---- rows
+-- who has a word other than 0 has a row
+pub row-used : (w n : ℕ) (t : List ℕ) (i f : ℕ) → field w n t i f ≢ 0 → i < n
+row-used w n t i f u = by-range i n (λ p. p) (λ p. absurd (u (field-out w n t i f p)))
+
+-- a free number: below the end, and not in use
+pub free-is : (n : ℕ) (f : ℕ → Bool) → eqb (firstBelow n f) n ≡ false → (firstBelow n f < n) × (f (firstBelow n f) ≡ true)
+free-is n f e =
+    let r : IsFirst 0 n f (firstBelow n f) = first-below-is n f in
+    let l : firstBelow n f < n = omega (arith, r .high, eqb-false (firstBelow n f) n e) in
+    (l, r .has l)
+
+-- a table's rule after a change of one row
+pub each-but : (n i : ℕ) (f g : ℕ → Rule) → ((k : ℕ) → k < n → k ≢ i → Means (f k) → Means (g k)) → Means (g i)
+    → Means (each n f) → Means (each n g)
+each-but n i f g others row all k h = ⊎-elim (λ (e : k ≡ i). rw e row) (λ (m : k ≢ i). others k h m (all k h)) (same? k i)
+
+-- ---- who waits in line j
+module _ (t : Tables) (a : Almost t) (j : ℕ) (ours : OfTasks j) (k : ℕ) (h : k < length (line (t .lines) j)) where
+  pub member-home : taskHome (t .tasks) (getD (line (t .lines) j) k 0) ≡ j
+  member-home =
+      let x : ℕ = getD (line (t .lines) j) k 0 in
+      bit-eq (taskHome (t .tasks) x) j (omega (arith, a .standing .tasks x j ours, count-at (line (t .lines) j) k h))
+
+waiter-mode : (k : Task) → Stands k → homeOf k < postedLine 0 → (ready < k .mode) × (k .mode < terminated)
+waiter-mode k (isReady m l e) h = absurd (omega arith)
+waiter-mode k (isAtSemaphore m l e) h = omega arith
+waiter-mode k (isAtEvent m l e) h = omega arith
+waiter-mode k (isAtMailbox (inl m) l e) h = omega arith
+waiter-mode k (isAtMailbox (inr m) l e) h = omega arith
+waiter-mode k (isNowhere e) h = absurd (omega arith)
+
+-- the first of an object's line is a task that waits
+module _ (t : Tables) (a : Almost t) (j : ℕ) (low : j < postedLine 0) (some : 0 < length (line (t .lines) j)) where
+  pub first-task : first (t .lines) j < taskCount
+  first-task =
+      by-range (first (t .lines) j) taskCount (λ p. p)
+      (λ p. absurd (omega (arith, member-home t a j (inl low) 0 some, home-out (t .tasks) (first (t .lines) j) p)))
+
+  pub first-blocked : (ready < task (t .tasks) (first (t .lines) j) .mode) × (task (t .tasks) (first (t .lines) j) .mode < terminated)
+  first-blocked =
+      waiter-mode (task (t .tasks) (first (t .lines) j)) (task-stands (t .tasks) (a .tasks) (first (t .lines) j))
+      (omega (arith, member-home t a j (inl low) 0 some))
+
+  -- once it is served the line has lost it
+  pub first-leaves : (v : ℕ)
+      → line (woken (first (t .lines) j) 0 v (queued (t .tasks) (t .lines)) .lines) j ≡ without (first (t .lines) j) (line (t .lines) j)
+  unfolding homeBy
+  first-leaves v =
+      let i : ℕ = first (t .lines) j in
+      let k : Task = readied (task (t .tasks) i) 0 v in
+      let row : Means (taskRule i k) =
+      woken-row t a i first-task (first-blocked .0) (first-blocked .1) 0 v (omega arith) (λ e. absurd (omega arith)) in
+      moved-line t a atBack i k first-task row j (inl low)
+      ∙ rw (ne-eqb j (readyLine (k .priority)) (λ (e : j ≡ readyLine (k .priority)). omega arith))
+
+-- ---- from sound tables: the first of a line is served, or a wait begins
+module _ (t : Tables) (typed : Typed t) (s : Sound t) where
+  pub first-wakes : (j : ℕ) → j < postedLine 0 → 0 < length (line (t .lines) j) → (v : ℕ)
+      → Settling (withQueued t (woken (first (t .lines) j) 0 v (queued (t .tasks) (t .lines))))
+  first-wakes j low some v =
+      let a : Almost t = sound-almost t typed s in
+      let (from, to) = first-blocked t a j low some in
+      wakes-settle t a (first (t .lines) j) (first-task t a j low some) from to 0 v (omega arith) (λ e. absurd (omega arith)) (sound-ranges t s)
+      (still-ready t s)
+
+  -- a wait begins, and none of its cases holds
+  pub begins : (limit : ℕ) → limit ≢ 0 → outside (context (t .lines) (t .state)) limit ≡ false
+      → (w : Bool) → w ≡ true → (w && idle (t .state)) ≡ false → (w && switchOff (t .state)) ≡ false
+      → (k : Task) → (current (t .state) ≢ 0 → Means (taskRule (current (t .state)) k)) → Welcome t (current (t .state)) k
+      → (place : List ℕ → ℕ)
+      → Settling (withQueued t (moved place (current (t .state)) k (queued (t .tasks) (t .lines))))
+  begins limit n out w now busy off k row welcome place =
+      waits-settle t typed s (in-task (context (t .lines) (t .state)) limit out n) (other-fails w (switchOff (t .state)) off now) k
+      (row (not-idle t s (other-fails w (idle (t .state)) busy now))) welcome place
+
+-- ---- the objects change, and neither a task nor a line
+pub objects-change : (t : Tables) → Settling t → (ss es ms : List ℕ)
+    → length ss ≡ length (t .semaphores) → length es ≡ length (t .events) → length ms ≡ length (t .mailboxes)
+    → Means (semaphoresRule ss (t .lines)) → Means (eventsRule (t .tasks) es (t .lines)) → Means (mailboxesRule (t .tasks) ms (t .lines))
+    → Settling (tables (t .tasks) (t .lines) ss es ms (t .swis) (t .clocks) (t .heap) (t .state))
+objects-change t s ss es ms sl el ml sr er mr =
+    let a : Almost t = s .almost in
+    record {
+      almost =
+          record {
+            typed =
+                record {
+                  tasks = a .typed .tasks;
+                  lines = a .typed .lines;
+                  semaphores = sl ∙ a .typed .semaphores;
+                  events = el ∙ a .typed .events;
+                  mailboxes = ml ∙ a .typed .mailboxes;
+                  swis = a .typed .swis;
+                  clocks = a .typed .clocks;
+                  heap = a .typed .heap;
+                  state = a .typed .state;
+                };
+            heap = a .heap;
+            clocks = a .clocks;
+            tasks = a .tasks;
+            lines = a .lines;
+            standing = a .standing;
+            semaphores = sr;
+            events = er;
+            mailboxes = mr;
+            swis = a .swis;
+            active = a .active;
+          };
+      ranges = s .ranges;
+      current = s .current;
+    }

@@ -1,0 +1,160 @@
+-- Calls 70 to 76 keep what dispatch starts from.
+use Prim.Native.Nat.{ℕ, _+_, _-_, _<_, _%_}
+use mathlib.Core.Path.{_≡_, refl, sym, _∙_}
+use mathlib.Core.Logic.{_≢_, _⊎_, inl, inr, ⊎-elim}
+use mathlib.Core.List.{List}
+use native.Mathlib.Omega.{arith}
+use borrow.Author.Tests.{ltb-true}
+use lib.Dec.{eqb, ltb}
+use lib.ListN.{length, length-set}
+use lib.Seq.{getD-set-same, getD-set-other}
+use Rattle.fold.proofs.Laws.{same?}
+use Rattle.rules.specs.Answer.{Cases, After, called, accepted, done, notT, notTS}
+use Rattle.rules.specs.Tables.{Typed, wordEnd, tables, state, withState, DEPTH, SWIS, TASKS, TICK, CURRENT}
+use Rattle.rules.specs.Dispatch.{context}
+use Rattle.rules.specs.Sound.{Sound}
+use Rattle.rules.specs.Step.{withTicked}
+use Rattle.rules.specs.Switches.{offCases, offEffect, restoreCases, restoreEffect, inCases, inEffect, outCases, outEffect}
+use Rattle.rules.specs.Tick.{Ticked, tickedOf, clocksTicked, ticked, onState, switchCall}
+use Rattle.rules.specs.declared.Tables.{Tables}
+use Rattle.keeps.proofs.Groups.{Words, Almost, Ranges, Settling, Keeps}
+use Rattle.keeps.proofs.Standing.{sound-almost}
+use Rattle.keeps.proofs.Waiting.{sound-ranges, still-ready}
+use Rattle.keeps.proofs.Chosen.{chosen, Kept, kept, chosen-kept, unknown-kept, sound-settles}
+use Rattle.keeps.proofs.Ticking.{withClocked, clocks-tick, tasks-tick}
+
+-- ---- the state changes alone
+abbrev withStated : Tables → List ℕ → Tables
+withStated t st =
+    tables (t .tasks) (t .lines) (t .semaphores) (t .events) (t .mailboxes) (t .swis) (t .clocks) (t .heap) st
+
+state-almost : (t : Tables) → Almost t → (st : List ℕ) → length st ≡ 5 → Almost (withStated t st)
+state-almost t a st all =
+    record {
+      typed =
+          record {
+            tasks = a .typed .tasks;
+            lines = a .typed .lines;
+            semaphores = a .typed .semaphores;
+            events = a .typed .events;
+            mailboxes = a .typed .mailboxes;
+            swis = a .typed .swis;
+            clocks = a .typed .clocks;
+            heap = a .typed .heap;
+            state = all;
+          };
+      heap = a .heap;
+      clocks = a .clocks;
+      tasks = a .tasks;
+      lines = a .lines;
+      standing = a .standing;
+      semaphores = a .semaphores;
+      events = a .events;
+      mailboxes = a .mailboxes;
+      swis = a .swis;
+      active = a .active;
+    }
+
+-- one word of the state, not the current task, is v now
+module _ (st : List ℕ) (all : length st ≡ 5) (f v : ℕ) (front : f < 4) where
+  word-under : (g n : ℕ) → (g ≡ f → v < n) → state st g < n → state (withState st f v) g < n
+  word-under g n here h =
+      ⊎-elim
+      (λ (e : g ≡ f). rw (e, getD-set-same st f v 0 (omega arith)) (here e))
+      (λ (o : g ≢ f). rw (getD-set-other st f g v 0 o) h)
+      (same? g f)
+
+  current-stays : state (withState st f v) CURRENT ≡ state st CURRENT
+  current-stays = getD-set-other st f CURRENT v 0 (λ (e : 4 ≡ f). omega arith)
+
+  word-ranges : Ranges st → (f ≡ DEPTH → v < 9) → (f ≡ SWIS → v < 2) → (f ≡ TASKS → v < 2) → Ranges (withState st f v)
+  word-ranges r depth swis tasks =
+      record {
+        depth = word-under DEPTH 9 (λ e. depth (sym e)) (r .depth);
+        swis = word-under SWIS 2 (λ e. swis (sym e)) (r .swis);
+        tasks = word-under TASKS 2 (λ e. tasks (sym e)) (r .tasks);
+        current = rw current-stays (r .current);
+      }
+
+module _ (t : Tables) (typed : Typed t) (s : Sound t) where
+  word-settles : (f v : ℕ) → f < 4 → (f ≡ DEPTH → v < 9) → (f ≡ SWIS → v < 2) → (f ≡ TASKS → v < 2)
+      → Settling (withStated t (withState (t .state) f v))
+  word-settles f v front depth swis tasks =
+      record {
+        almost = state-almost t (sound-almost t typed s) (withState (t .state) f v) (length-set (t .state) f v ∙ typed .state);
+        ranges = word-ranges (t .state) (typed .state) f v front (sound-ranges t s) depth swis tasks;
+        current = inl (rw (current-stays (t .state) (typed .state) f v front) (still-ready t s));
+      }
+
+  -- a switch, off or on
+  switch-settles : (f v : ℕ) → (f ≡ SWIS) ⊎ (f ≡ TASKS) → v < 2 → Settling (withStated t (withState (t .state) f v))
+  switch-settles f v which small =
+      word-settles f v
+      (⊎-elim (λ (e : f ≡ 1). omega arith) (λ (e : f ≡ 2). omega arith) which)
+      (λ _. omega arith)
+      (λ _. small)
+      (λ _. small)
+
+  off-settles : (f : ℕ) → (f ≡ SWIS) ⊎ (f ≡ TASKS) → Settling (withStated t (offEffect (t .state) f .next))
+  unfolding offEffect
+  off-settles f which = switch-settles f 0 which (omega arith)
+
+  restore-settles : (f a : ℕ) → (f ≡ SWIS) ⊎ (f ≡ TASKS) → Settling (withStated t (restoreEffect (t .state) f a .next))
+  unfolding restoreEffect
+  restore-settles f a which =
+      chosen (λ (st : List ℕ). Settling (withStated t st)) (eqb a 1) _ _ (λ _. switch-settles f 1 which (omega arith)) (λ _. sound-settles t typed s)
+
+  -- the depth, one up or one down
+  in-settles : Settling (withStated t (inEffect (t .state) .next))
+  unfolding inEffect
+  in-settles =
+      chosen (λ (st : List ℕ). Settling (withStated t st)) (ltb (state (t .state) DEPTH) 8) _ _
+      (λ e.
+      let h = ltb-true (state (t .state) DEPTH) 8 e in
+      word-settles DEPTH (state (t .state) DEPTH + 1) (omega arith) (λ _. omega arith) (λ q. absurd (omega arith)) (λ q. absurd (omega arith)))
+      (λ _. sound-settles t typed s)
+
+  out-settles : Settling (withStated t (outEffect (t .state) .next))
+  unfolding outEffect
+  out-settles =
+      let h = sound-ranges t s .depth in
+      word-settles DEPTH (state (t .state) DEPTH - 1) (omega arith) (λ _. omega arith) (λ q. absurd (omega arith)) (λ q. absurd (omega arith))
+
+  -- the tick: the count, the clocks, then the tasks
+  tick-settles : Settling (withTicked t (ticked (tickedOf (t .tasks) (t .lines) (t .swis) (t .clocks) (t .state))))
+  unfolding ticked
+  tick-settles =
+      let u = withClocked t (clocksTicked (t .clocks) (t .swis) (t .lines)) in
+      let (a, r) = tasks-tick u (state (t .state) CURRENT) (clocks-tick t (sound-almost t typed s)) (still-ready t s) in
+      let v = (state (t .state) TICK + 1) % wordEnd in
+      record {
+        almost = state-almost _ a (withState (t .state) TICK v) (length-set (t .state) TICK v ∙ typed .state);
+        ranges =
+            word-ranges (t .state) (typed .state) TICK v (omega arith) (sound-ranges t s)
+            (λ e. absurd (omega arith)) (λ e. absurd (omega arith)) (λ e. absurd (omega arith));
+        current = inl (rw (current-stays (t .state) (typed .state) TICK v (omega arith)) r);
+      }
+
+  abbrev all : Ticked
+  all = tickedOf (t .tasks) (t .lines) (t .swis) (t .clocks) (t .state)
+
+  -- calls whose effect leaves such tables
+  state-kept : (c : Cases) (r : After (List ℕ)) → Settling (withStated t (r .next)) → Kept (withTicked t) (called c (onState all r))
+  state-kept c r h = kept (withTicked t) (called c (onState all r)) (λ _. h)
+
+  tick-kept : (c : Cases) → Kept (withTicked t) (called c (accepted done 0 (ticked all)))
+  tick-kept c = kept (withTicked t) (called c (accepted done 0 (ticked all))) (λ _. tick-settles)
+
+pub switches-keeps : (t : Tables) → Typed t → Sound t → (number a b c d : ℕ) → Words a b c d
+    → Keeps (withTicked t) (switchCall (tickedOf (t .tasks) (t .lines) (t .swis) (t .clocks) (t .state)) (context (t .lines) (t .state)) number a b c d)
+unfolding switchCall
+switches-keeps t typed s number a b c d w =
+    let x = context (t .lines) (t .state) in
+    let k = state-kept t typed s in
+    chosen-kept (withTicked t) (eqb number 0x70) (k (offCases (notTS x) a b c d) _ (off-settles t typed s SWIS (inl refl)))
+    (chosen-kept (withTicked t) (eqb number 0x71) (k (restoreCases (notTS x) a b c d) _ (restore-settles t typed s SWIS a (inl refl)))
+    (chosen-kept (withTicked t) (eqb number 0x72) (k (offCases (notT x) a b c d) _ (off-settles t typed s TASKS (inr refl)))
+    (chosen-kept (withTicked t) (eqb number 0x73) (k (restoreCases (notT x) a b c d) _ (restore-settles t typed s TASKS a (inr refl)))
+    (chosen-kept (withTicked t) (eqb number 0x74) (k (inCases (t .state) a b c d) _ (in-settles t typed s))
+    (chosen-kept (withTicked t) (eqb number 0x75) (k (outCases x a b c d) _ (out-settles t typed s))
+    (chosen-kept (withTicked t) (eqb number 0x76) (tick-kept t typed s (outCases x a b c d)) (unknown-kept (withTicked t) _))))))) .keeps

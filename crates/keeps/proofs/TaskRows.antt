@@ -1,0 +1,159 @@
+-- A task's row: what is read after it is stored, and in which line its rule lets it stand.
+use Prim.Native.Nat.{ℕ, _≤_, _<_}
+use mathlib.Core.Path.{_≡_, refl, ap}
+use mathlib.Core.Logic.{_≢_, _⊎_, inl, inr, ⊎-elim}
+use mathlib.Core.List.{List}
+use native.Mathlib.Omega.{arith}
+use lib.ListN.{length}
+use borrow.Author.Tests.{ne-eqb}
+use Rattle.fold.specs.Rule.{Means}
+use Rattle.fold.proofs.Laws.{same?}
+use Rattle.laws.proofs.Rows.{by-range, field-out, row-same, row-other, length-withRow}
+use Rattle.rules.specs.Tables.{taskCount, taskWidth, levels, ready, atSemaphore, atEvent, reading, writing, inactive, notInUse, task, taskWords, withTask, noTask}
+use Rattle.rules.specs.Lines.{nowhere, semaphoreLine, mailboxLine, eventLine, readyLine, homeBy, homeOf, taskHome}
+use Rattle.rules.specs.Sound.{otherRule, taskRule, tasksRule}
+use Rattle.rules.specs.declared.Task.{Task}
+use Rattle.keeps.proofs.Groups.{OfTasks}
+
+-- ---- read after write
+module _ (ts : List ℕ) (i : ℕ) where
+  pub length-withTask : (k : Task) → length (withTask ts i k) ≡ length ts
+  unfolding withTask
+  length-withTask k = length-withRow taskWidth taskCount ts i (taskWords k)
+
+  pub task-same : (k : Task) → length ts ≡ 256 → i < taskCount → task (withTask ts i k) i ≡ k
+  unfolding task withTask
+  task-same k all lt =
+      let f : (f : ℕ) → f < taskWidth → _ = row-same taskWidth taskCount ts i (taskWords k) (omega arith) refl lt in
+      rw (f 0 (omega arith), f 1 (omega arith), f 2 (omega arith), f 3 (omega arith), f 4 (omega arith), f 5 (omega arith), f 6 (omega arith), f 7 (omega arith))
+
+  pub task-other : (k : Task) (x : ℕ) → x ≢ i → task (withTask ts i k) x ≡ task ts x
+  unfolding task withTask
+  task-other k x n =
+      let f : (g : ℕ) → _ = λ g. row-other taskWidth taskCount ts i (taskWords k) refl x g n in
+      rw (f 0, f 1, f 2, f 3, f 4, f 5, f 6, f 7)
+
+  -- no such task
+  pub task-out : taskCount ≤ i → task ts i ≡ noTask
+  unfolding task
+  task-out h =
+      let f : (g : ℕ) → _ = λ g. field-out taskWidth taskCount ts i g h in
+      rw (f 0, f 1, f 2, f 3, f 4, f 5, f 6, f 7)
+
+-- a row that its rule allows
+pub tasks-withTask : (ts : List ℕ) (i : ℕ) (k : Task) → length ts ≡ 256 → i < taskCount → Means (tasksRule ts) → Means (taskRule i k)
+    → Means (tasksRule (withTask ts i k))
+tasks-withTask ts i k all lt rule row x h =
+    ⊎-elim (λ (e : x ≡ i). rw (e, task-same ts i k all lt) row) (λ (n : x ≢ i). rw (task-other ts i k x n) (rule x h)) (same? x i)
+
+-- ---- the line of a row
+-- the line that each mode gives
+module _ (k : Task) where
+  home-ready : k .mode ≡ ready → homeOf k ≡ readyLine (k .priority)
+  unfolding homeBy
+  home-ready e = rw e
+
+  home-semaphore : k .mode ≡ atSemaphore → homeOf k ≡ semaphoreLine (k .object)
+  unfolding homeBy
+  home-semaphore e = rw e
+
+  home-event : k .mode ≡ atEvent → homeOf k ≡ eventLine (k .object)
+  unfolding homeBy
+  home-event e = rw e
+
+  home-reading : k .mode ≡ reading → homeOf k ≡ mailboxLine (k .object)
+  unfolding homeBy
+  home-reading e = rw e
+
+  home-writing : k .mode ≡ writing → homeOf k ≡ mailboxLine (k .object)
+  unfolding homeBy
+  home-writing e = rw e
+
+  home-none : k .mode ≢ ready → k .mode ≢ atSemaphore → k .mode ≢ atEvent → k .mode ≢ reading → k .mode ≢ writing → homeOf k ≡ nowhere
+  unfolding homeBy
+  home-none a b c d e =
+      rw
+      (ne-eqb (k .mode) ready a, ne-eqb (k .mode) atSemaphore b, ne-eqb (k .mode) atEvent c, ne-eqb (k .mode) reading d, ne-eqb (k .mode) writing e)
+
+pub home-out : (ts : List ℕ) (x : ℕ) → taskCount ≤ x → taskHome ts x ≡ nowhere
+unfolding homeBy
+home-out ts x h = ap homeOf (task-out ts x h)
+
+-- a row's line, with the mode that it has there and the range of what names it
+pub data Stands (k : Task) : Type 0 where
+  isReady : k .mode ≡ ready → k .priority < levels → homeOf k ≡ readyLine (k .priority) → Stands k
+  isAtSemaphore : k .mode ≡ atSemaphore → k .object < 16 → homeOf k ≡ semaphoreLine (k .object) → Stands k
+  isAtEvent : k .mode ≡ atEvent → k .object < 8 → homeOf k ≡ eventLine (k .object) → Stands k
+  isAtMailbox : (k .mode ≡ reading) ⊎ (k .mode ≡ writing) → k .object < 8 → homeOf k ≡ mailboxLine (k .object) → Stands k
+  isNowhere : homeOf k ≡ nowhere → Stands k
+
+other-stands : (k : Task) → Means (otherRule k) → Stands k
+unfolding otherRule
+other-stands k (_, (_, (_, (_, (_, (_, (atS, (atE, (reads, (writes, (_, (_, range)))))))))))) =
+    ⊎-elim
+    (λ (e : k .mode ≡ ready). isReady e (range (λ (z : k .mode ≡ notInUse). omega arith, λ (z : k .mode ≡ inactive). omega arith) .1) (home-ready k e))
+    (λ (a : k .mode ≢ ready).
+    ⊎-elim
+    (λ (e : k .mode ≡ atSemaphore). isAtSemaphore e (atS e .0 .0) (home-semaphore k e))
+    (λ (b : k .mode ≢ atSemaphore).
+    ⊎-elim
+    (λ (e : k .mode ≡ atEvent). isAtEvent e (atE e .0 .0) (home-event k e))
+    (λ (c : k .mode ≢ atEvent).
+    ⊎-elim
+    (λ (e : k .mode ≡ reading). isAtMailbox (inl e) (reads e .0 .0) (home-reading k e))
+    (λ (d : k .mode ≢ reading).
+    ⊎-elim
+    (λ (e : k .mode ≡ writing). isAtMailbox (inr e) (writes e .0 .0) (home-writing k e))
+    (λ (e : k .mode ≢ writing). isNowhere (home-none k a b c d e))
+    (same? (k .mode) writing))
+    (same? (k .mode) reading))
+    (same? (k .mode) atEvent))
+    (same? (k .mode) atSemaphore))
+    (same? (k .mode) ready)
+
+-- every row that its rule allows stands somewhere or nowhere; one that is not there stands nowhere
+pub row-stands : (i : ℕ) (k : Task) → Means (taskRule i k) → Stands k
+row-stands i k (idle, other) =
+    ⊎-elim
+    (λ (e : i ≡ 0). let (m, (p, _)) = idle e in isReady m (omega arith) (home-ready k m))
+    (λ (n : i ≢ 0). other-stands k (other n))
+    (same? i 0)
+
+pub task-stands : (ts : List ℕ) → Means (tasksRule ts) → (x : ℕ) → Stands (task ts x)
+task-stands ts m x = by-range x taskCount (λ h. row-stands x (task ts x) (m x h)) (λ h. isNowhere (home-out ts x h))
+
+-- ---- what the line says of the row
+pub stands-in : (k : Task) → Stands k → OfTasks (homeOf k) ⊎ (homeOf k ≡ nowhere)
+stands-in k (isReady m l e) = inl (inr (omega arith, omega arith))
+stands-in k (isAtSemaphore m l e) = inl (inl (omega arith))
+stands-in k (isAtEvent m l e) = inl (inl (omega arith))
+stands-in k (isAtMailbox m l e) = inl (inl (omega arith))
+stands-in k (isNowhere e) = inr e
+
+pub ready-row : (k : Task) → Stands k → (p : ℕ) → p < levels → homeOf k ≡ readyLine p → (k .mode ≡ ready) × (k .priority ≡ p)
+ready-row k (isReady m l e) p h q = (m, omega arith)
+ready-row k (isAtSemaphore m l e) p h q = absurd (omega arith)
+ready-row k (isAtEvent m l e) p h q = absurd (omega arith)
+ready-row k (isAtMailbox m l e) p h q = absurd (omega arith)
+ready-row k (isNowhere e) p h q = absurd (omega arith)
+
+pub semaphore-row : (k : Task) → Stands k → (s : ℕ) → s < 16 → homeOf k ≡ semaphoreLine s → (k .mode ≡ atSemaphore) × (k .object ≡ s)
+semaphore-row k (isReady m l e) s h q = absurd (omega arith)
+semaphore-row k (isAtSemaphore m l e) s h q = (m, omega arith)
+semaphore-row k (isAtEvent m l e) s h q = absurd (omega arith)
+semaphore-row k (isAtMailbox m l e) s h q = absurd (omega arith)
+semaphore-row k (isNowhere e) s h q = absurd (omega arith)
+
+pub event-row : (k : Task) → Stands k → (n : ℕ) → n < 8 → homeOf k ≡ eventLine n → (k .mode ≡ atEvent) × (k .object ≡ n)
+event-row k (isReady m l e) n h q = absurd (omega arith)
+event-row k (isAtSemaphore m l e) n h q = absurd (omega arith)
+event-row k (isAtEvent m l e) n h q = (m, omega arith)
+event-row k (isAtMailbox m l e) n h q = absurd (omega arith)
+event-row k (isNowhere e) n h q = absurd (omega arith)
+
+pub mailbox-row : (k : Task) → Stands k → (n : ℕ) → n < 8 → homeOf k ≡ mailboxLine n → ((k .mode ≡ reading) ⊎ (k .mode ≡ writing)) × (k .object ≡ n)
+mailbox-row k (isReady m l e) n h q = absurd (omega arith)
+mailbox-row k (isAtSemaphore m l e) n h q = absurd (omega arith)
+mailbox-row k (isAtEvent m l e) n h q = absurd (omega arith)
+mailbox-row k (isAtMailbox m l e) n h q = (m, omega arith)
+mailbox-row k (isNowhere e) n h q = absurd (omega arith)

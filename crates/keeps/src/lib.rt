@@ -1,0 +1,1 @@
+// That every call keeps sound tables sound: proofs alone, no code.
