@@ -1,14 +1,14 @@
 -- What demand 3 speaks of: a task that waits, its turn at a semaphore, and its turn in its priority's queue.
 use Prim.{Unit}
-use Prim.Native.Nat.{ℕ, _+_}
+use Prim.Native.Nat.{ℕ, _+_, _<_}
 use mathlib.Core.Path.{_≡_}
 use mathlib.Core.Logic.{_≢_, _⊎_}
 use mathlib.Core.Bool.{Bool, _&&_}
 use mathlib.Core.List.{List, [], _∷_}
 use lib.Dec.{eqb}
 use Rattle.fold.specs.Lists.{bit, count, ahead}
-use Rattle.rules.specs.Tables.{atSemaphore, ready, task}
-use Rattle.rules.specs.Lines.{line, semaphoreLine, readyLine}
+use Rattle.rules.specs.Tables.{levels, atSemaphore, ready, task, state, DEPTH, SWIS, TASKS}
+use Rattle.rules.specs.Lines.{line, semaphoreLine, activeLine, readyLine}
 use Rattle.rules.specs.Dispatch.{running}
 use Rattle.rules.specs.declared.Tables.{Tables}
 use Rattle.rules.specs.declared.Thread.the-variants.{Task}
@@ -50,3 +50,11 @@ Yields x t q = (running (t .lines) (t .state) ≡ Task x) × (q .number ≡ 0x03
 unfoldable pub Gone : ℕ → ℕ → Tables → List Asked → Type 0
 Gone p x t [] = count x (queue p t) ≡ 0
 Gone p x t (q ∷ qs) = (count x (queue p t) ≡ 0) ⊎ (Yields x t q ⊎ Gone p x (next t q) qs)
+
+-- ---- it may run: no task of a higher priority is ready, no interrupt is open, no Swi active, and both switches are on
+pub record Unhindered (p : ℕ) (t : Tables) : Type 0 where
+  pub higher : (r : ℕ) → p < r → r < levels → queue r t ≡ []
+  pub depth : state (t .state) DEPTH ≡ 0
+  pub active : line (t .lines) activeLine ≡ []
+  pub swis : state (t .state) SWIS ≢ 0
+  pub tasks : state (t .state) TASKS ≢ 0

@@ -1,0 +1,80 @@
+-- A ready task at the front of its queue, with no higher task ready, no interrupt open, no Swi active and both switches on: it runs.
+use Prim.Native.Nat.{ℕ, suc, _-_, _<_, _≤_}
+use mathlib.Core.Path.{_≡_, refl, sym, ap, _∙_}
+use mathlib.Core.Logic.{_≢_, ⊎-elim}
+use mathlib.Core.Bool.{true, false}
+use mathlib.Core.List.{List, [], _∷_}
+use native.Mathlib.Omega.{arith}
+use borrow.Author.Tests.{eq-eqb, ne-eqb, lt-ltb}
+use lib.Dec.{eqb, ltb}
+use lib.ListN.{length, getD}
+use Rattle.fold.specs.Lists.{count, ahead}
+use Rattle.fold.specs.Find.{highestBelow}
+use Rattle.fold.proofs.Laws.{same?}
+use Rattle.fold.proofs.Finds.{IsHighest, high-is, high-one}
+use Rattle.rules.specs.Tables.{Typed, levels, state, current, DEPTH, SWIS, TASKS, CURRENT}
+use Rattle.rules.specs.Lines.{activeLine, readyLine, line, anyone, first}
+use Rattle.rules.specs.Dispatch.{running, highestReady, front, taskDue}
+use Rattle.rules.specs.Sound.{Sound}
+use Rattle.rules.specs.declared.Tables.{Tables}
+use Rattle.rules.specs.declared.Thread.{Thread}
+use Rattle.rules.specs.declared.Thread.the-variants.{Task}
+use Rattle.runs.specs.Turn.{ReadyAt, queue, Unhindered}
+use Rattle.keeps.proofs.Waiting.{current-in}
+use Rattle.turns.proofs.Ahead.{first-ahead}
+use Rattle.turns.proofs.Turns.{in-queue, ready-level}
+
+-- who stands in a list with nobody before it is the first
+some : (i : ℕ) (xs : List ℕ) → 0 < count i xs → 0 < length xs
+unfolding count
+some i [] h = absurd (omega arith)
+some i (x ∷ xs) h = omega arith
+
+at-front : (i : ℕ) (xs : List ℕ) → 0 < count i xs → ahead i xs ≡ [] → getD xs 0 0 ≡ i
+unfolding count
+at-front i xs h e =
+    ⊎-elim
+    (λ (q : getD xs 0 0 ≡ i). q)
+    (λ (n : getD xs 0 0 ≢ i). absurd (omega (arith, ap (count (getD xs 0 0)) e, first-ahead i xs (some i xs h) n)))
+    (same? (getD xs 0 0) i)
+
+one-less : (p : ℕ) → suc p - 1 ≡ p
+one-less p = omega arith
+
+module _ (t : Tables) (typed : Typed t) (s : Sound t) (p i : ℕ) (is : ReadyAt p i t) (free : Unhindered p t) (first-there : ahead i (queue p t) ≡ []) where
+  nobody-active : anyone (t .lines) activeLine ≡ false
+  nobody-active = rw (free .active)
+
+  due : taskDue (t .lines) (t .state) ≡ true
+  unfolding taskDue
+  due =
+      rw (
+        eq-eqb (state (t .state) DEPTH) 0 (free .depth),
+        nobody-active,
+        ne-eqb (state (t .state) SWIS) 0 (free .swis),
+        ne-eqb (state (t .state) TASKS) 0 (free .tasks),
+      )
+
+  highest : highestReady levels (t .lines) ≡ suc p
+  unfolding highestReady
+  highest =
+      high-one levels (λ r. anyone (t .lines) (readyLine r)) (highestBelow levels (λ r. anyone (t .lines) (readyLine r))) (suc p)
+      (high-is levels (λ r. anyone (t .lines) (readyLine r)))
+      record {
+        high = ready-level t typed s p i is;
+        has = λ l. ap (λ (n : ℕ). anyone (t .lines) (readyLine n)) (one-less p) ∙ lt-ltb 0 (length (queue p t)) (some i (queue p t) (in-queue t typed s p i is));
+        after = λ r l h. rw (free .higher r (omega (arith, l)) h);
+      }
+
+  current-is : state (t .state) CURRENT ≡ i
+  unfolding front
+  current-is =
+      s .dispatch .1 due
+      ∙ ap (λ (n : ℕ). first (t .lines) (readyLine (n - 1))) highest
+      ∙ ap (λ (n : ℕ). first (t .lines) (readyLine n)) (one-less p)
+      ∙ at-front i (queue p t) (in-queue t typed s p i is) first-there
+
+  pub runs-there : running (t .lines) (t .state) ≡ Task i
+  unfolding running
+  runs-there =
+      rw (free .depth, nobody-active) (ap (λ (n : ℕ). Task n) (current-in (t .state) (s .state .1 .1 .1 .0) ∙ current-is))

@@ -1,0 +1,1 @@
+// That a call leaves every other task its place: proofs alone, no code.
