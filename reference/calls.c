@@ -1,0 +1,81 @@
+/* The calls by name, for the programs around the core. */
+#include "calls.h"
+
+#include <stddef.h>
+
+const struct call_form call_forms[CALLS] = {
+    { 0x00, "create task", { "priority" }, "0246" },
+    { 0x01, "delete task", { "task" }, "02345" },
+    { 0x02, "set priority", { "task", "priority" }, "02345" },
+    { 0x03, "yield", { NULL }, "0249" },
+    { 0x04, "end task", { NULL }, "02459" },
+    { 0x05, "sleep", { "ticks" }, "02459" },
+    { 0x06, "last result", { "task" }, "034" },
+
+    { 0x10, "create Swi", { "priority", "trigger" }, "0246" },
+    { 0x11, "delete Swi", { "Swi" }, "02345" },
+    { 0x12, "post Swi", { "Swi" }, "034" },
+    { 0x13, "add one and post", { "Swi" }, "034" },
+    { 0x14, "take one and post if 0", { "Swi" }, "034" },
+    { 0x15, "set bits and post", { "Swi", "mask" }, "034" },
+    { 0x16, "clear bits and post if 0", { "Swi", "mask" }, "034" },
+    { 0x17, "end Swi", { NULL }, "0249" },
+    { 0x18, "taken trigger", { NULL }, "024" },
+
+    { 0x20, "create semaphore", { "kind", "count" }, "0246" },
+    { 0x21, "delete semaphore", { "semaphore" }, "02345" },
+    { 0x22, "pend semaphore", { "semaphore", "limit" }, "023459" },
+    { 0x23, "post semaphore", { "semaphore" }, "0347" },
+    { 0x24, "reset semaphore", { "semaphore", "count" }, "02345" },
+
+    { 0x30, "create event", { NULL }, "0246" },
+    { 0x31, "delete event", { "event" }, "02345" },
+    { 0x32, "pend event", { "event", "and-mask", "or-mask", "limit" }, "023459" },
+    { 0x33, "post event", { "event", "mask" }, "034" },
+
+    { 0x40, "create mailbox", { "capacity" }, "0246" },
+    { 0x41, "delete mailbox", { "mailbox" }, "02345" },
+    { 0x42, "post mailbox", { "mailbox", "word", "limit" }, "023459" },
+    { 0x43, "pend mailbox", { "mailbox", "limit" }, "023459" },
+
+    { 0x50, "create clock", { "Swi", "first ticks", "period" }, "02346" },
+    { 0x51, "delete clock", { "clock" }, "0234" },
+    { 0x52, "start clock", { "clock" }, "034" },
+    { 0x53, "stop clock", { "clock" }, "034" },
+
+    { 0x60, "take", { "bytes" }, "0248" },
+    { 0x61, "give back", { "offset", "bytes" }, "024" },
+
+    { 0x70, "Swis off", { NULL }, "024" },
+    { 0x71, "Swis restore", { "key" }, "024" },
+    { 0x72, "tasks off", { NULL }, "024" },
+    { 0x73, "tasks restore", { "key" }, "024" },
+    { 0x74, "interrupt in", { NULL }, "047" },
+    { 0x75, "interrupt out", { NULL }, "024" },
+    { 0x76, "tick", { NULL }, "024" },
+};
+
+const struct call_form *form_of(uint32_t number)
+{
+    for (unsigned i = 0; i < CALLS; i++)
+        if (call_forms[i].number == number)
+            return &call_forms[i];
+    return NULL;
+}
+
+void print_call(FILE *file, const struct call *call)
+{
+    const struct call_form *form = form_of(call->number);
+    const char *before = ": ";
+
+    fprintf(file, "%02lX %s", (unsigned long)call->number, form != NULL ? form->name : "unknown call");
+    for (unsigned i = 0; i < 4; i++) {
+        int is_used = form != NULL && form->argument[i] != NULL;
+
+        if (!is_used && call->argument[i] == 0)
+            continue;
+        fprintf(file, "%s%s %lu", before, is_used ? form->argument[i] : "unused", (unsigned long)call->argument[i]);
+        before = ", ";
+    }
+    putc('\n', file);
+}

@@ -1,0 +1,29 @@
+/* The calls by name, for the programs around the core. */
+#ifndef CALLS_H
+#define CALLS_H
+
+#include <stdint.h>
+#include <stdio.h>
+
+enum { CALLS = 42 };
+
+struct call {
+    uint32_t number, argument[4];
+};
+
+struct call_form {
+    uint32_t number;
+    const char *name;
+    const char *argument[4];   /* a null pointer where unused */
+    const char *codes;         /* every code that document 01 lets the call give, as digits, 0 for accepted */
+};
+
+extern const struct call_form call_forms[CALLS]; /* in rising number */
+
+/* The form of a call number, or a null pointer if it is unknown. */
+const struct call_form *form_of(uint32_t number);
+
+/* As in: 22 pend semaphore: semaphore 3, limit 4294967295 */
+void print_call(FILE *file, const struct call *call);
+
+#endif

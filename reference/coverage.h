@@ -1,0 +1,14 @@
+/* Counts what a run of calls reached: the codes of each call, and the deep states. */
+#ifndef COVERAGE_H
+#define COVERAGE_H
+
+#include "calls.h"
+#include "core.h"
+
+/* Notes one call: the tables before and after it, and its answer. */
+void coverage_note(const struct tables *before, const struct tables *after, const struct call *call, struct answer answer);
+
+/* Prints the counts; gives the number of pairs and states that never occurred. */
+unsigned coverage_print(FILE *file);
+
+#endif

@@ -1,0 +1,38 @@
+/* The call log: records of 20 bytes, read in place. */
+#ifndef LOG_H
+#define LOG_H
+
+#include <stddef.h>
+#include <stdint.h>
+
+enum {
+    RECORD_BYTES = 20,
+    LENGTH_BYTES = 2,      /* the length itself */
+    RECORD_LENGTH = 18,    /* what follows it */
+    RECORD_VERSION = 1
+};
+
+/* A reader: a log that is lent, and the position in it. */
+struct log {
+    const uint8_t *bytes;
+    size_t length;
+    size_t position;
+};
+
+struct record {
+    uint32_t call;
+    const uint8_t *arguments; /* sixteen bytes, a part of the log itself */
+};
+
+enum log_finding { LOG_RECORD, LOG_END, LOG_CUT, LOG_LENGTH, LOG_VERSION };
+
+/* The next record; only a good one moves the position. After a fault the position is the faulty record's byte offset. */
+enum log_finding log_next(struct log *log, struct record *record);
+
+/* Argument 0 to 3 of a record. */
+uint32_t log_argument(const struct record *record, unsigned which);
+
+/* The record of a call. */
+void log_write(uint8_t bytes[RECORD_BYTES], uint32_t call, uint32_t a, uint32_t b, uint32_t c, uint32_t d);
+
+#endif

@@ -1,0 +1,32 @@
+/* Makes random calls. The maker runs the core beside it, sees its tables and steers them into deep states. */
+#ifndef MAKER_H
+#define MAKER_H
+
+#include "calls.h"
+#include "core.h"
+
+struct maker {
+    struct tables tables;      /* after the calls made so far */
+    uint64_t random;
+    const struct style *style;
+    unsigned phase;            /* what the maker is after now */
+    unsigned steps_left;       /* in this phase */
+    uint32_t target;           /* the object of the phase */
+    uint32_t goal;             /* a length, a depth or a table */
+    unsigned descending;       /* whether the phase is past its goal */
+    uint32_t levels;           /* new tasks get a priority from 1 to this */
+    unsigned endless;          /* of 100 waits begun in this phase, those without limit */
+};
+
+/* The style is chosen by the seed. */
+void maker_start(struct maker *m, uint64_t seed);
+
+const char *maker_style(const struct maker *m);
+
+/* The next call. The caller carries it out on m->tables before it asks for another. */
+struct call maker_next(struct maker *m);
+
+/* A number from 0 to below n, from the same source. */
+uint32_t maker_below(struct maker *m, uint32_t n);
+
+#endif
