@@ -1,5 +1,5 @@
 -- What the tests of the reader say of `readAt`, what is read past the end, and where a record that was found lies.
-use Prim.Native.Nat.{ℕ, _+_, _-_, _≤_, _<_}
+use Prim.Native.Nat.{ℕ, _+_, _-_, _%_, _^_, _≤_, _<_}
 use mathlib.Core.Path.{_≡_, refl, sym, _∙_}
 use mathlib.Core.Bool.{Bool, true, false, cond as if}
 use mathlib.Core.List.{List, []}
@@ -8,7 +8,7 @@ use lib.Dec.{ltb, eqb}
 use lib.ListN.{length, getD, take, drop, List·getD-eq-default, drop-of-length-le, length-drop}
 use lib.Seq.{take-all}
 use borrow.Author.Tests.{lt-ltb, le-ltb, eq-eqb, ne-eqb, ltb-false}
-use Rattle.rules.specs.Log.{halfAt, wordAt, readAt, argumentBytes}
+use Rattle.rules.specs.Log.{halfAt, wordAt, readAt, argumentBytes, moveTo}
 use Rattle.rules.specs.declared.Read.{Read}
 use Rattle.rules.specs.declared.Read.the-variants.{Record, End, Cut, Length, Version}
 
@@ -121,3 +121,16 @@ record-fits s at number start h =
     start
     h in
     (omega (arith, ltb-false (length s) at (t .0), ltb-false (length s - at) 20 (t .1)), sym (t .2))
+
+-- ---- the position after it lies in the log too, or is the one before
+after-fits : (s : List ℕ) (at : ℕ) (r : Read) → readAt s at ≡ r → length s < 2 ^ 64 → at < 2 ^ 64 → moveTo r at < 2 ^ 64
+unfolding moveTo
+after-fits s at (Record number start) h p q = let t = record-fits s at number start h in omega (arith, t .0, t .1)
+after-fits s at End h p q = q
+after-fits s at (Cut n) h p q = q
+after-fits s at (Length n) h p q = q
+after-fits s at (Version n) h p q = q
+
+pub step-is : (s : List ℕ) (at : ℕ) {r : Read} {n : ℕ} → length s < 2 ^ 64 → at < 2 ^ 64 → r ≡ readAt s at → n ≡ moveTo r at % 2 ^ 64
+    → (r ≡ readAt s at) × (n ≡ moveTo r at)
+step-is s at {r} {n} p q e f = (e, omega (arith, f, after-fits s at r (sym e) p q))

@@ -5,6 +5,8 @@ ghost use Prim.Native.Nat.{_%_, _^_, _<_};
 ghost use lib.ListN.{getD};
 ghost use Rattle.rules.specs.Log.{halfAt, wordAt, readAt, argumentBytes, argument, moveTo};
 
+pub mod reader;
+
 fn wide(b: u8) -> u32
     ensures { λ r. ⌜ (r ≡ b) × (r < 256) ⌝ }
 {

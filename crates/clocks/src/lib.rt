@@ -247,3 +247,24 @@ pub fn aged(k: Clock) -> AgedClock
         fired: false,
     }
 }
+
+// The same on a record that is lent: it is aged in place. True: its Swi is posted.
+pub fn age(k: &mut Clock) -> bool
+    ensures { λ r. ⌜ (now (k .exit) ≡ aged (now (k .entry)) .clock) × (r ≡ aged (now (k .entry)) .fired) ⌝ }
+{
+    let older = aged(*k);
+    *k = older.clock;
+    older.fired
+}
+
+// A caller that has the record by value lends it here, so that no other function makes a reference to a record.
+pub fn age_one(k: Clock) -> AgedClock
+    ensures { λ r. ⌜ r ≡ aged k ⌝ }
+{
+    let mut one = k;
+    let fired = age(&mut one);
+    AgedClock {
+        clock: one,
+        fired: fired,
+    }
+}

@@ -18,9 +18,9 @@ use Rattle.rules.specs.Sound.{Sound}
 use Rattle.rules.specs.declared.Tables.{Tables}
 use Rattle.rules.specs.declared.Thread.the-variants.{Task}
 use Rattle.runs.specs.Run.{Asked, asked, Words, made, next, after, Always, Each, AllWords}
-use Rattle.runs.specs.Turn.{BlockedOn, beforeAt, posts, ReadyAt, queue, Undisturbed, Gone, Unhindered}
+use Rattle.runs.specs.Turn.{BlockedOn, beforeAt, posts, ServedIn, ReadyAt, queue, Undisturbed, Gone, Unhindered}
 use Rattle.turns.proofs.Begins.{begins, behind}
-use Rattle.turns.proofs.Waits.{ServedIn, turn, in-time}
+use Rattle.turns.proofs.Waits.{turn, in-time}
 use Rattle.turns.proofs.Queues as InTurn
 use Rattle.turns.proofs.Fronts.{runs-there}
 use Rattle.demands.proofs.Two.{demand-2, sound-after}
@@ -45,22 +45,21 @@ pub record Queues (p i : ℕ) (v : Tables) : Type 0 where
   -- and once each of them has, it is at the front
   pub front : (qs : List Asked) → AllWords v qs → Each (Undisturbed p i) v qs → ((x : ℕ) → 0 < count x (ahead i (queue p v)) → Gone p x v qs)
       → ahead i (queue p (after v qs)) ≡ []
+  -- it runs whenever it is there and nothing stands in its way, whatever calls were made
+  pub runs : (qs : List Asked) → AllWords v qs → ReadyAt p i (after v qs) → ahead i (queue p (after v qs)) ≡ [] → Unhindered p (after v qs)
+      → running (after v qs .lines) (after v qs .state) ≡ Task i
 
--- ---- it runs
-abbrev pub RunsAtFront : Tables → Type 0
-RunsAtFront t = (p i : ℕ) → ReadyAt p i t → ahead i (queue p t) ≡ [] → Unhindered p t → running (t .lines) (t .state) ≡ Task i
-
--- the call with which it begins to wait, and the tables after it
+-- the call with which it begins to wait
 abbrev pub pend : ℕ → Asked
 pend s = asked 0x22 s forever 0 0
 
--- task i began to wait at s behind k others, and the tables are u
-pub record Turn (s i k : ℕ) (u : Tables) : Type 0 where
-  pub waits : Waits s i k u
+-- task i began to wait at s behind these others, and the tables are u
+pub record Turn (s i : ℕ) (others : List ℕ) (u : Tables) : Type 0 where
+  pub behind : beforeAt s i u ≡ others
+  pub waits : Waits s i (length others) u
   -- from the moment when it is readied
-  pub queues : (qs : List Asked) → AllWords u qs → (x : ServedIn s i k u qs) → Queues (task (x .moment .tasks) i .priority) i (x .moment)
-  -- at any time
-  pub runs : (qs : List Asked) → AllWords u qs → RunsAtFront (after u qs)
+  pub queues : (qs : List Asked) → AllWords u qs → (x : ServedIn s i (length others) u qs)
+      → Queues (task (x .moment .tasks) i .priority) i (x .moment)
 
 -- ---- the parts
 keeps : (t : Tables) → Typed t → Sound t → (q : Asked) → Words q → Typed (next t q) × Sound (next t q)
@@ -72,6 +71,9 @@ queues-in-turn v typed sound p i r =
       order = λ qs w quiet. (InTurn.stays keeps p i v typed sound r qs w quiet, InTurn.order keeps p i v typed sound r qs w quiet);
       gone = InTurn.gone keeps p i v typed sound r;
       front = InTurn.front keeps p i v typed sound r;
+      runs =
+          λ qs w there first free.
+          let (ty, so) = sound-after v typed sound qs w in runs-there (after v qs) ty so p i there free first;
     }
 
 -- the first calls of a run, and the one after them, are words too
@@ -95,10 +97,11 @@ module _ (t : Tables) (typed : Typed t) (sound : Sound t) (s : ℕ) (word : s < 
       let (ty, so) = sound-after (next t (pend s)) (begun .0) (begun .1) (x .before) before in
       rw (x .now) (keeps (after (next t (pend s)) (x .before)) ty so (x .post) here)
 
-  pub demand-3 : Turn s (current (t .state)) (length (line (t .lines) (semaphoreLine s))) (next t (pend s))
+  pub demand-3 : Turn s (current (t .state)) (line (t .lines) (semaphoreLine s)) (next t (pend s))
   demand-3 =
       let w = begins t typed sound s word arrival waits in
       record {
+        behind = behind t typed sound s word arrival waits;
         waits =
             record {
               turn = turn keeps s (current (t .state)) _ (next t (pend s)) (begun .0) (begun .1) w behind-them;
@@ -108,8 +111,4 @@ module _ (t : Tables) (typed : Typed t) (sound : Sound t) (s : ℕ) (word : s < 
             λ qs words x.
             let (ty, so) = moment-sound qs words x in
             queues-in-turn (x .moment) ty so (task (x .moment .tasks) (current (t .state)) .priority) (current (t .state)) (x .ready, refl);
-        runs =
-            λ qs words p j r front free.
-            let (ty, so) = sound-after (next t (pend s)) (begun .0) (begun .1) qs words in
-            runs-there (after (next t (pend s)) qs) ty so p j r free front;
       }

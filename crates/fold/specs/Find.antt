@@ -1,6 +1,6 @@
 -- Tests over the numbers below a bound: all of them, the least that passes, the greatest that passes.
 use Prim.Native.Nat.{ℕ, zero, suc, _+_}
-use mathlib.Core.Bool.{Bool, true, false, _&&_, cond as if}
+use mathlib.Core.Bool.{Bool, true, _&&_, cond as if}
 
 -- f holds of each number below n
 unfoldable pub allBelow : ℕ → (ℕ → Bool) → Bool

@@ -24,7 +24,8 @@ use Rattle.refusals.specs.Refusals.{among, known, refusal, unknownNumber
 use Rattle.refusals.proofs.Known.{casesOf, agrees, one-of, Agrees, _&_}
 use Rattle.refusals.proofs.Unknown.{unknown-cases}
 use Rattle.refusals.proofs.Effects.{effects}
-use Rattle.refusals.proofs.First.{None, first-holds, first-given, first-none, first-same, by-bool}
+use Rattle.refusals.specs.Refusals.{None}
+use Rattle.refusals.proofs.First.{first-holds, first-given, first-none, first-same, by-bool}
 
 -- the call of the definition
 abbrev callFor : Tables → Asked → Call Tables

@@ -10,11 +10,8 @@ use borrow.Author.Tests.{eq-eqb, ne-eqb}
 use Rattle.fold.specs.Lists.{count, ahead, allOf}
 use Rattle.fold.proofs.Laws.{same?}
 use Rattle.rules.specs.Answer.{Cases, firstGiven}
+use Rattle.refusals.specs.Refusals.{None}
 use Rattle.refusals.proofs.Known.{All}
-
--- none of these codes' cases holds
-abbrev pub None : List ℕ → Cases → Type 0
-None ks c = allOf (λ j. not (c j)) ks ≡ true
 
 pub by-bool : {X : Type 0} (b : Bool) → (b ≡ true → X) → (b ≡ false → X) → X
 by-bool true f g = f refl

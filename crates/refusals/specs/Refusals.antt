@@ -1,10 +1,12 @@
--- 01's table of refusals, row by row: of each row, whether what it has under 'Given when' holds for this call on these tables.
+-- 01's table of refusals, row by row: of each row, whether what it has under 'Given when' holds for this call on these tables. The tests of one
+-- object, argument or switch are those that the calls' definitions use; which call asks for which, and in which row, is written here anew.
 use Prim.Native.Nat.{ℕ}
+use mathlib.Core.Path.{_≡_}
 use mathlib.Core.Bool.{Bool, true, false, not, _&&_, _||_, cond as if}
 use mathlib.Core.List.{List, [], _∷_}
 use lib.Dec.{eqb, ltb, leb}
-use Rattle.fold.specs.Lists.{count}
-use Rattle.rules.specs.Answer.{T, S, I, unused}
+use Rattle.fold.specs.Lists.{count, allOf}
+use Rattle.rules.specs.Answer.{Cases, T, S, I, unused}
 use Rattle.rules.specs.Tables.{taskCount, swiCount, semaphoreCount, eventCount, mailboxCount, clockCount, heapUnits, levels, minusOne, forever, mailboxMost, notInUse, terminated, inactive, task, swi, semaphore, event, mailbox, clock, state, current, USED, KIND, COUNT, BITS, CAPACITY, MESSAGES, POSTED, DEPTH, SWIS}
 use Rattle.rules.specs.Lines.{semaphoreLine, eventLine, mailboxLine, anyone}
 use Rattle.rules.specs.Waits.{switchOff, idle}
@@ -14,7 +16,7 @@ use Rattle.rules.specs.Semaphores.{freeSemaphore, most, isBinary}
 use Rattle.rules.specs.Events.{freeEvent, matched}
 use Rattle.rules.specs.Mailboxes.{freeMailbox, isFull, waitsFirst}
 use Rattle.rules.specs.Clocks.{freeClock}
-use Rattle.rules.specs.Heap.{isBlock, isRun, lowestRun, unitsOf}
+use Rattle.rules.specs.Heap.{isBlock, lowestRun, unitsOf}
 use Rattle.rules.specs.Tables.{reading}
 use Rattle.rules.specs.Dispatch.{context}
 use Rattle.rules.specs.Sound.{sound}
@@ -61,11 +63,12 @@ byS = 0x17 ∷ 0x18 ∷ []
 abbrev pub byI : List ℕ
 byI = 0x75 ∷ 0x76 ∷ []
 
--- the limit of the calls that have one, 0 of the others: "22 pend (semaphore, limit)", "32 pend (event, and-mask, or-mask, limit)",
--- "42 post (mailbox, word, limit)", "43 pend (mailbox, limit)"
+-- the calls that have a limit
 abbrev pub limited : List ℕ
 limited = 0x22 ∷ 0x32 ∷ 0x42 ∷ 0x43 ∷ []
 
+-- the limit of the calls that have one, 0 of the others: "22 pend (semaphore, limit)", "32 pend (event, and-mask, or-mask, limit)",
+-- "42 post (mailbox, word, limit)", "43 pend (mailbox, limit)"
 unfoldable pub limitOf : Asked → ℕ
 limitOf q = if (among (0x22 ∷ 0x43 ∷ []) q) (q .b) (if (among (0x42 ∷ []) q) (q .c) (if (among (0x32 ∷ []) q) (q .d) 0))
 
@@ -199,3 +202,7 @@ refusal t q k =
     (if (eqb k 7) (atItsEnd t q)
     (if (eqb k 8) (noHeapRoom t q)
     (if (eqb k 9) (switchedOff t q) false)))))))))
+
+-- no case of these codes holds
+abbrev pub None : List ℕ → Cases → Type 0
+None ks c = allOf (λ k. not (c k)) ks ≡ true

@@ -1,6 +1,6 @@
 -- 01, 'Clocks': calls 50 to 53.
 use Prim.Native.Nat.{ℕ}
-use mathlib.Core.Bool.{Bool, _||_, cond as if}
+use mathlib.Core.Bool.{_||_, cond as if}
 use mathlib.Core.List.{List}
 use lib.Dec.{eqb}
 use Rattle.fold.specs.Find.{firstBelow}

@@ -1,6 +1,6 @@
 -- 01, 'Dispatch': who runs, and what is done after each accepted call.
 use Prim.Native.Nat.{ℕ, suc, _-_}
-use mathlib.Core.Bool.{Bool, not, _&&_, _||_, cond as if}
+use mathlib.Core.Bool.{Bool, not, _&&_, cond as if}
 use mathlib.Core.List.{List}
 use lib.Dec.{eqb, ltb}
 use Rattle.fold.specs.Find.{highestBelow}

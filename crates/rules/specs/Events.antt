@@ -11,7 +11,6 @@ use Rattle.rules.specs.Tables.{eventCount, eventWidth, event, withEvent,
 use Rattle.rules.specs.Lines.{eventLine, anyone, first, moved, atBack}
 use Rattle.rules.specs.Waits.{Served, served, queue, requeued, outside, switchOff, idle, waiting, woken}
 use Rattle.rules.specs.Swis.{cleared}
-use Rattle.rules.specs.declared.Task.{Task}
 
 unfoldable pub freeEvent : List ℕ → ℕ
 freeEvent es = firstBelow eventCount (λ i. eqb (event es i USED) 0)

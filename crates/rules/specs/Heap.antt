@@ -20,7 +20,7 @@ firstOf = 1
 abbrev pub laterIn : ℕ
 laterIn = 2
 
--- the entry of unit u; past the heap nothing can be had, and nothing changes
+-- the entry of unit u, free past the heap's end, where `isRun` lets nothing be had and `withUnits` changes nothing
 abbrev pub unit : List ℕ → ℕ → ℕ
 unit h u = if (ltb u heapUnits) (getD h u 0) free
 

@@ -1,5 +1,5 @@
 -- 01, 'The tables': the lines in which tasks and Swis stand, all in one table, and the line of each task and Swi.
-use Prim.Native.Nat.{ℕ, _+_, _*_, _-_}
+use Prim.Native.Nat.{ℕ, _+_, _*_}
 use mathlib.Core.Bool.{Bool, cond as if}
 use mathlib.Core.List.{List, []}
 use lib.Dec.{eqb, ltb}
@@ -54,7 +54,8 @@ line ls j = if (ltb j lineCount) (listed lineMost ls (j * lineWidth)) []
 unfoldable pub withLine : List ℕ → ℕ → List ℕ → List ℕ
 withLine ls j xs = if (ltb j lineCount) (withListed lineMost ls (j * lineWidth) xs) ls
 
--- Calls reach a line in these ways only: whether anyone stands there, the first, leaving, joining at the back, and joining at a place.
+-- Calls reach a line of tasks in these ways only: whether anyone stands there, the first, leaving, joining at the back, and joining at a place;
+-- of the active Swis, besides, the last (`Swis.top`) and whether one is among them (`Swis.isActive`).
 abbrev pub anyone : List ℕ → ℕ → Bool
 anyone ls j = ltb 0 (length (line ls j))
 

@@ -1,7 +1,7 @@
 -- 01, 'The call log': what stands at a position of a log, and a record's arguments.
 use Prim.Native.Nat.{ℕ, _+_, _-_, _*_}
 use mathlib.Core.Bool.{cond as if}
-use mathlib.Core.List.{List, []}
+use mathlib.Core.List.{List}
 use lib.ListN.{length, getD, take, drop}
 use lib.Dec.{ltb, eqb}
 use Rattle.rules.specs.declared.Read.{Read}

@@ -27,12 +27,12 @@ linesFor (Cut o) s n t rest = wordText cutWord o ∷ []
 linesFor (Length o) s n t rest = wordText lengthWord o ∷ []
 linesFor (Version o) s n t rest = wordText versionWord o ∷ []
 
--- the lines from a position on, after n records, of at most k records and what ends them
+-- the lines from a position on, after n records: at most k of them
 unfoldable pub linesFrom : ℕ → List ℕ → ℕ → ℕ → Tables → List (List ℕ)
 linesFrom zero s at n t = []
 linesFrom (suc k) s at n t = linesFor (readAt s at) s n t (λ next u. linesFrom k s next (suc n) u)
 
--- a log of this many bytes has no more records than this
+-- a log of this many bytes has no more records than a twentieth of it, and one line more ends it
 unfoldable pub replayLines : List ℕ → List (List ℕ)
 replayLines s = linesFrom (suc (length s / 20)) s 0 0 fresh
 

@@ -110,7 +110,7 @@ mailboxRule ts ms ls m =
 abbrev pub mailboxesRule : List ℕ → List ℕ → List ℕ → Rule
 mailboxesRule ts ms ls = each mailboxCount (mailboxRule ts ms ls)
 
--- ---- Swis: "the taken trigger of a Swi not active" is 0
+-- ---- Swis: "the taken trigger of a Swi not active" is 0, and so that of one not in use, which is not active
 unfoldable pub swiRule : List ℕ → List ℕ → ℕ → Rule
 swiRule ws ls i =
     (swi ws i USED under 2)

@@ -1,9 +1,9 @@
 -- One call: from tables and a call to the next tables, the answer and the running thread. `step` is a call on sound tables, `call` tests first.
 use Prim.Native.Nat.{ℕ, _+_}
-use mathlib.Core.Bool.{Bool, not, _&&_, cond as if}
+use mathlib.Core.Bool.{Bool, _&&_, cond as if}
 use mathlib.Core.List.{List}
 use lib.Dec.{eqb, ltb, leb}
-use Rattle.rules.specs.Answer.{Cases, given, Call, called, After, after, answered, answer, unknown}
+use Rattle.rules.specs.Answer.{Call, called, After, after, answered, answer, unknown}
 use Rattle.rules.specs.Tables.{tables}
 use Rattle.rules.specs.Lines.{Queued, queued}
 use Rattle.rules.specs.Waits.{Served, served}
@@ -87,6 +87,6 @@ finished r =
 unfoldable pub step : Tables → ℕ → ℕ → ℕ → ℕ → ℕ → Step
 step t number a b c d = finished (answered t (callOf t (context (t .lines) (t .state)) number a b c d))
 
--- "10: the tables are not sound"; "with code 10 the thread given is T0"
+-- code 10, "the tables are not sound"; "with code 10 the thread given is T0"
 unfoldable pub call : Tables → ℕ → ℕ → ℕ → ℕ → ℕ → Step
 call t number a b c d = if (sound t) (step t number a b c d) (stepOf t (answer 10 0 0) (Task 0))

@@ -3,7 +3,7 @@ use Prim.Native.Nat.{ℕ, _+_, _-_}
 use mathlib.Core.Bool.{Bool, not, _||_, cond as if}
 use mathlib.Core.List.{List}
 use lib.Dec.{eqb, ltb}
-use Rattle.rules.specs.Answer.{Cases, given, never, After, accepted, done, notT, notI, notTS, unused}
+use Rattle.rules.specs.Answer.{Cases, given, never, After, accepted, done, notI, unused}
 use Rattle.rules.specs.Tables.{state, withState, DEPTH}
 
 -- ---- "70, 71 Swis off and restore (T S); 72, 73 tasks (T): off answers 1 if they were on, else 0; restore takes key 1 (on) or 0 (no change)."

@@ -5,7 +5,6 @@ use mathlib.Core.Bool.{_&&_, cond as if}
 use mathlib.Core.List.{List, [], _∷_}
 use lib.Dec.{ltb, leb}
 use lib.ListN.{length, getD, set}
-use Rattle.fold.specs.Lists.{zeros}
 use Rattle.rules.specs.Rows.{field, withField, withRow, listed, withListed}
 use Rattle.rules.specs.declared.Tables.{Tables}
 use Rattle.rules.specs.declared.Task.{Task}
@@ -70,7 +69,7 @@ minusOne = 4294967295
 abbrev pub forever : ℕ
 forever = 4294967295
 
--- ---- tasks: "Modes: running or ready, blocked, terminated, inactive"; blocked is one of five
+-- ---- tasks: "Modes: running or ready (..), blocked, terminated, inactive (..)"; blocked is one of five
 abbrev pub notInUse : ℕ
 notInUse = 0
 
@@ -98,7 +97,8 @@ terminated = 7
 abbrev pub inactive : ℕ
 inactive = 8
 
--- task i's row; all 0 where there is none
+-- task i's row; all 0 where there is none. `object` is the semaphore, event or mailbox at which it waits, by its mode; `left` the ticks left of a
+-- limited wait or sleep, 0 without end; `first` and `second` are an event waiter's and-mask and or-mask, and `first` a writer's word
 unfoldable pub task : List ℕ → ℕ → Task
 task ts i =
     record {
@@ -155,7 +155,7 @@ mailboxRow ms i ws = withRow mailboxWidth mailboxCount ms i ws
 unfoldable pub messages : List ℕ → ℕ → List ℕ
 messages ms i = if (ltb i mailboxCount) (listed mailboxMost ms (i * mailboxWidth + 1)) []
 
--- more than a mailbox holds changes nothing
+-- more than a row has room for changes nothing
 unfoldable pub withMessages : List ℕ → ℕ → List ℕ → List ℕ
 withMessages ms i xs = if (ltb i mailboxCount && leb (length xs) mailboxMost) (withListed mailboxMost ms (i * mailboxWidth + 1) xs) ms
 
@@ -260,7 +260,8 @@ abbrev pub tables : List ℕ → List ℕ → List ℕ → List ℕ → List ℕ
 tables ts ls ss es ms ws cs h st =
     record { tasks = ts; lines = ls; semaphores = ss; events = es; mailboxes = ms; swis = ws; clocks = cs; heap = h; state = st }
 
--- what their types say of them: each array's length
+-- what their types say of them: each array's length. That a word is below 4,294,967,296 and a byte below 256 is said by its type too, and
+-- no rule repeats it.
 pub record Typed (t : Tables) : Type 0 where
   pub tasks : length (t .tasks) ≡ 256
   pub lines : length (t .lines) ≡ 2145

@@ -1,10 +1,10 @@
 -- 01, 'Tick': call 76, and the switches' calls by number.
 use Prim.Native.Nat.{ℕ, _+_, _-_, _%_}
-use mathlib.Core.Bool.{Bool, true, false, not, cond as if}
+use mathlib.Core.Bool.{Bool, true, false, cond as if}
 use mathlib.Core.List.{List}
 use lib.Dec.{eqb}
 use Rattle.fold.specs.Find.{rising}
-use Rattle.rules.specs.Answer.{Cases, Call, called, After, after, accepted, unknown, done, notT, notTS}
+use Rattle.rules.specs.Answer.{Call, called, After, after, accepted, unknown, done, notT, notTS}
 use Rattle.rules.specs.Tables.{taskCount, clockCount, wordEnd, task, withTask, clock, withClock, state, withState, sleeping, SWIS, TASKS, TICK}
 use Rattle.rules.specs.Lines.{Queued, queued}
 use Rattle.rules.specs.Waits.{woken}

@@ -1,5 +1,5 @@
 // Document 01 as types. A table is an array of numbers, a row for each object and a word for each field; what the numbers
-// mean, and what each call does to them, is said in specs/, a file for each section of the document.
+// mean, and what each call does to them, is said in specs/, a file for each section of the document, and Rows, Lines, Waits and Step for what the sections share.
 
 // 32 rows of 8: mode, priority, object, left, first, second, outcome, value.
 pub type Tasks = [u32; 256];
@@ -53,7 +53,7 @@ pub struct Task {
     pub value: u32,
 }
 
-// A clock's row, while it is aged.
+// A clock's row.
 pub struct Clock {
     pub used: u32,
     pub swi: u32,

@@ -1,10 +1,9 @@
 -- What demand 3 speaks of: a task that waits, its turn at a semaphore, and its turn in its priority's queue.
-use Prim.{Unit}
-use Prim.Native.Nat.{ℕ, _+_, _<_}
+use Prim.Native.Nat.{ℕ, _+_, _<_, _≤_}
 use mathlib.Core.Path.{_≡_}
 use mathlib.Core.Logic.{_≢_, _⊎_}
-use mathlib.Core.Bool.{Bool, _&&_}
-use mathlib.Core.List.{List, [], _∷_}
+use mathlib.Core.Bool.{Bool, true, _&&_}
+use mathlib.Core.List.{List, [], _∷_, _++_}
 use lib.Dec.{eqb}
 use Rattle.fold.specs.Lists.{bit, count, ahead}
 use Rattle.rules.specs.Tables.{levels, atSemaphore, ready, task, state, DEPTH, SWIS, TASKS}
@@ -12,7 +11,7 @@ use Rattle.rules.specs.Lines.{line, semaphoreLine, activeLine, readyLine}
 use Rattle.rules.specs.Dispatch.{running}
 use Rattle.rules.specs.declared.Tables.{Tables}
 use Rattle.rules.specs.declared.Thread.the-variants.{Task}
-use Rattle.runs.specs.Run.{Asked, made, next}
+use Rattle.runs.specs.Run.{Asked, made, next, after, Always}
 
 -- ---- the waiter
 -- task i is blocked on semaphore s, and those who stand before it
@@ -30,6 +29,23 @@ isPost s t q = eqb (q .number) 0x23 && eqb (q .a) s && eqb (made t q .answer .co
 unfoldable pub posts : ℕ → Tables → List Asked → ℕ
 posts s t [] = 0
 posts s t (q ∷ qs) = bit (isPost s t q) + posts s (next t q) qs
+
+-- among these calls is the one that served task i: all along before it i waited, it is an accepted post on s after at most k others, and it
+-- leaves i ready with outcome 0 and value 0
+pub record ServedIn (s i k : ℕ) (u : Tables) (qs : List Asked) : Type 0 where
+  pub before : List Asked
+  pub post : Asked
+  pub rest : List Asked
+  pub split : qs ≡ before ++ (post ∷ rest)
+  pub waits : Always (BlockedOn s i) u before
+  pub few : posts s u before ≤ k
+  pub posted : isPost s (after u before) post ≡ true
+  -- the tables right after that post
+  pub moment : Tables
+  pub now : moment ≡ next (after u before) post
+  pub ready : task (moment .tasks) i .mode ≡ ready
+  pub outcome : task (moment .tasks) i .outcome ≡ 0
+  pub value : task (moment .tasks) i .value ≡ 0
 
 -- ---- the ready task
 abbrev pub ReadyAt : ℕ → ℕ → Tables → Type 0

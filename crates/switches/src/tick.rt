@@ -24,7 +24,7 @@ pub fn clock_tick(clocks: &mut Clocks, swis: &mut Swis, lines: &mut Lines, n: us
     ensures { λ _. ⌜ clockedOf (now (clocks .exit)) (now (swis .exit)) (now (lines .exit)) ≡ clockTick (clockedOf (now (clocks .entry)) (now (swis .entry)) (now (lines .entry))) n ⌝ }
 {
     let k = rows::words::clock(clocks, n);
-    let older = clocks::aged(k);
+    let older = clocks::age_one(k);
     rows::words::set_clock(clocks, n, older.clock);
     post_if(older.fired, swis, lines, k.swi);
 }

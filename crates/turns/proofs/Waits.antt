@@ -11,25 +11,8 @@ use Rattle.rules.specs.Tables.{Typed, ready, task}
 use Rattle.rules.specs.Sound.{Sound}
 use Rattle.rules.specs.declared.Tables.{Tables}
 use Rattle.runs.specs.Run.{Asked, Words, next, after, Always, Each, AllWords}
-use Rattle.runs.specs.Turn.{BlockedOn, beforeAt, isPost, posts}
+use Rattle.runs.specs.Turn.{BlockedOn, beforeAt, isPost, posts, ServedIn}
 use Rattle.turns.proofs.Turns.{Waiter, Served, waiter-stays}
-
--- among these calls is the one that served task i: all along before it i waited, it is an accepted post on s after at most k others, and it
--- leaves i ready with outcome 0 and value 0
-pub record ServedIn (s i k : ℕ) (u : Tables) (qs : List Asked) : Type 0 where
-  pub before : List Asked
-  pub post : Asked
-  pub rest : List Asked
-  pub split : qs ≡ before ++ (post ∷ rest)
-  pub waits : Always (BlockedOn s i) u before
-  pub few : posts s u before ≤ k
-  pub posted : isPost s (after u before) post ≡ true
-  -- the tables right after that post
-  pub moment : Tables
-  pub now : moment ≡ next (after u before) post
-  pub ready : task (moment .tasks) i .mode ≡ ready
-  pub outcome : task (moment .tasks) i .outcome ≡ 0
-  pub value : task (moment .tasks) i .value ≡ 0
 
 -- ---- the tables at the start of a run
 pub always-head : (P : Tables → Type 0) (u : Tables) (qs : List Asked) → Always P u qs → P u

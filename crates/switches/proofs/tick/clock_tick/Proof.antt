@@ -11,4 +11,4 @@ clock-tick-spec =
     (λ c κs. search needs)
     (λ c κs. search needs)
     (λ c κs. search needs)
-    (λ c. let b = c .before .before .before .before .before .before .before .before in clock-ticked (b .args .clocks .now) (b .args .swis .now) (b .args .lines .now) (b .args .n) (c .before .before .before .before .before .before .clock .ensures) (c .before .before .before .before .before .aged .ensures) (c .before .before .before .set-clock .ensures) (c .post-if .ensures)))
+    (λ c. let b = c .before .before .before .before .before .before .before .before in clock-ticked (b .args .clocks .now) (b .args .swis .now) (b .args .lines .now) (b .args .n) (c .before .before .before .before .before .before .clock .ensures) (c .before .before .before .before .before .age-one .ensures) (c .before .before .before .set-clock .ensures) (c .post-if .ensures)))
