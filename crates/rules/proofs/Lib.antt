@@ -9,3 +9,4 @@ pub mod Logs
 pub mod Broken
 pub mod Busy
 pub mod Unsound
+pub mod Waiters

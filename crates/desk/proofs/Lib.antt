@@ -1,0 +1,5 @@
+pub mod Steps
+pub mod Whole
+pub mod Bounds
+pub mod Going
+pub mod Moved

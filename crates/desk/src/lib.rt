@@ -1,0 +1,323 @@
+// The replay of a log that comes part by part, as text. The calls are made on lent tables, and of the log only the bytes of a record
+// that is not whole yet are kept.
+use kernel::calls::Said;
+use rules::Clocks;
+use rules::Events;
+use rules::Heap;
+use rules::Lines;
+use rules::Mailboxes;
+use rules::Read;
+use rules::Semaphores;
+use rules::State;
+use rules::Swis;
+use rules::Tasks;
+use text::Text;
+ghost use mathlib.Core.Path.{_≡_};
+ghost use Prim.Native.Nat.{_<_, _≤_};
+ghost use lib.ListN.{length, take, drop};
+ghost use lib.Seq.{sets};
+ghost use Rattle.rules.specs.Log.{argumentBytes};
+ghost use Rattle.rules.specs.Tables.{tables};
+ghost use Rattle.rules.specs.Step.{stepOf};
+ghost use Rattle.rules.specs.Replay.{recordCall};
+ghost use Rattle.text.specs.Put.{Put};
+ghost use Rattle.desk.specs.Part.{lastText, partOf};
+ghost use Rattle.desk.specs.Done.{Lined, Gone, Turned};
+
+// A part of a log: the bytes that waited, and those that came.
+pub type Part = [u8; 2560];
+
+// The call of a record, by its argument bytes.
+fn record_call(
+    tasks: &mut Tasks,
+    lines: &mut Lines,
+    semaphores: &mut Semaphores,
+    events: &mut Events,
+    mailboxes: &mut Mailboxes,
+    swis: &mut Swis,
+    clocks: &mut Clocks,
+    heap: &mut Heap,
+    state: &mut State,
+    number: u8,
+    bytes: &[u8],
+) -> Said
+    ensures { λ r. ⌜ stepOf (tables
+        (now (tasks .exit)) (now (lines .exit)) (now (semaphores .exit))
+        (now (events .exit)) (now (mailboxes .exit)) (now (swis .exit))
+        (now (clocks .exit)) (now (heap .exit)) (now (state .exit)))
+        (r .answer) (r .thread)
+        ≡ recordCall (tables
+        (now (tasks .entry)) (now (lines .entry)) (now (semaphores .entry))
+        (now (events .entry)) (now (mailboxes .entry)) (now (swis .entry))
+        (now (clocks .entry)) (now (heap .entry)) (now (state .entry)))
+        number (now (bytes .entry)) ⌝ }
+{
+    let a = calllog::argument(bytes, 0);
+    let b = calllog::argument(bytes, 1);
+    let c = calllog::argument(bytes, 2);
+    let d = calllog::argument(bytes, 3);
+    kernel::entries::call_in_place(
+        tasks,
+        lines,
+        semaphores,
+        events,
+        mailboxes,
+        swis,
+        clocks,
+        heap,
+        state,
+        number as u32,
+        a,
+        b,
+        c,
+        d,
+    )
+}
+
+// The call of record n, and its line.
+pub fn record_line(
+    tasks: &mut Tasks,
+    lines: &mut Lines,
+    semaphores: &mut Semaphores,
+    events: &mut Events,
+    mailboxes: &mut Mailboxes,
+    swis: &mut Swis,
+    clocks: &mut Clocks,
+    heap: &mut Heap,
+    state: &mut State,
+    log: &[u8],
+    number: u8,
+    start: usize,
+    n: u64,
+    out: &mut Text,
+    at: usize,
+) -> usize
+    ensures { λ r. ⌜ Lined (recordCall (tables
+        (now (tasks .entry)) (now (lines .entry)) (now (semaphores .entry))
+        (now (events .entry)) (now (mailboxes .entry)) (now (swis .entry))
+        (now (clocks .entry)) (now (heap .entry)) (now (state .entry)))
+        number (argumentBytes (now (log .entry)) start)) n (tables
+        (now (tasks .exit)) (now (lines .exit)) (now (semaphores .exit))
+        (now (events .exit)) (now (mailboxes .exit)) (now (swis .exit))
+        (now (clocks .exit)) (now (heap .exit)) (now (state .exit)))
+        (now (out .entry)) at (now (out .exit)) r ⌝ }
+{
+    let bytes = calllog::arguments(log, start);
+    let said = record_call(
+        tasks,
+        lines,
+        semaphores,
+        events,
+        mailboxes,
+        swis,
+        clocks,
+        heap,
+        state,
+        number,
+        bytes,
+    );
+    let answer = said.answer;
+    let thread = said.thread;
+    text::put_line(out, at, n, answer, thread)
+}
+
+// The last line, where something else than a record was found.
+pub fn put_last(out: &mut Text, at: usize, found: Read, offset: u64, n: u64) -> usize
+    ensures { λ r. ⌜ Put (now (out .entry)) at (lastText found offset n) (now (out .exit)) r ⌝ }
+{
+    match found {
+        Read::Record {
+            number: _,
+            start: _,
+        } => at,
+        Read::End => text::put_word(out, at, b"end", n),
+        Read::Cut(k) => text::put_word(
+            out,
+            at,
+            b"cut",
+            std::num::wrapping_add_u64(offset, k as u64),
+        ),
+        Read::Length(k) => text::put_word(
+            out,
+            at,
+            b"length",
+            std::num::wrapping_add_u64(offset, k as u64),
+        ),
+        Read::Version(k) => text::put_word(
+            out,
+            at,
+            b"version",
+            std::num::wrapping_add_u64(offset, k as u64),
+        ),
+    }
+}
+
+// Where the records of a part stopped.
+pub struct Ran {
+    pub at: usize,
+    pub count: u64,
+    pub len: usize,
+    pub ended: bool,
+}
+
+// The records of a part that starts at an offset of the log, after `count` others.
+pub fn records(
+    tasks: &mut Tasks,
+    lines: &mut Lines,
+    semaphores: &mut Semaphores,
+    events: &mut Events,
+    mailboxes: &mut Mailboxes,
+    swis: &mut Swis,
+    clocks: &mut Clocks,
+    heap: &mut Heap,
+    state: &mut State,
+    log: &[u8],
+    last: bool,
+    offset: u64,
+    count: u64,
+    out: &mut Text,
+) -> Ran
+    ensures { λ r. ⌜ Gone (partOf last (now (log .entry)) offset count (tables
+        (now (tasks .entry)) (now (lines .entry)) (now (semaphores .entry))
+        (now (events .entry)) (now (mailboxes .entry)) (now (swis .entry))
+        (now (clocks .entry)) (now (heap .entry)) (now (state .entry))))
+        (now (log .entry)) offset (tables
+        (now (tasks .exit)) (now (lines .exit)) (now (semaphores .exit))
+        (now (events .exit)) (now (mailboxes .exit)) (now (swis .exit))
+        (now (clocks .exit)) (now (heap .exit)) (now (state .exit)))
+        (now (out .entry)) (now (out .exit)) r ⌝ }
+{
+    let mut at = 0;
+    let mut n = count;
+    let mut len = 0;
+    while last | (20 <= log.len() - at) {
+        let found = calllog::read_at(log, at);
+        let Read::Record { number, start } = found else {
+            let end = put_last(out, len, found, offset, n);
+            return Ran {
+                at: log.len(),
+                count: n,
+                len: end,
+                ended: true,
+            };
+        };
+        n = std::num::wrapping_add_u64(n, 1);
+        len = record_line(
+            tasks,
+            lines,
+            semaphores,
+            events,
+            mailboxes,
+            swis,
+            clocks,
+            heap,
+            state,
+            log,
+            number,
+            start,
+            n,
+            out,
+            len,
+        );
+        at = calllog::move_to(found, at);
+    }
+    Ran {
+        at,
+        count: n,
+        len,
+        ended: false,
+    }
+}
+
+// The first n bytes; all where there are fewer.
+fn front<'a>(bytes: &'a [u8], n: usize) -> &'a [u8]
+    ensures { λ r. ⌜ now r ≡ take n (now (bytes .entry)) ⌝ }
+{
+    if n < bytes.len() {
+        return &bytes[..n];
+    }
+    bytes
+}
+
+// Of the first n bytes, those from `at` on to the front; how many they are.
+fn to_front(part: &mut [u8], at: usize, n: usize) -> usize
+    ensures { λ r. ⌜ (now (part .exit) ≡ sets (now (part .entry)) 0 (drop at (take n (now (part .entry)))))
+        × (r ≡ length (drop at (take n (now (part .entry))))) ⌝ }
+{
+    let end = rows::lines::least(n, part.len());
+    let mut from = at;
+    let mut i = 0;
+    while from < end {
+        part[i] = part[from];
+        i += 1;
+        from += 1;
+    }
+    i
+}
+
+// What a replay has come to, beside its tables: how many bytes wait at the front of the part, their offset in the log, how many
+// records there were, how long the text is, and whether the replay has ended.
+pub struct Progress {
+    pub held: usize,
+    pub offset: u64,
+    pub count: u64,
+    pub len: usize,
+    pub ended: bool,
+}
+
+// One turn of a replay: the first n bytes of the part are replayed, and those that wait are moved to its front.
+pub fn replay_part(
+    tasks: &mut Tasks,
+    lines: &mut Lines,
+    semaphores: &mut Semaphores,
+    events: &mut Events,
+    mailboxes: &mut Mailboxes,
+    swis: &mut Swis,
+    clocks: &mut Clocks,
+    heap: &mut Heap,
+    state: &mut State,
+    part: &mut Part,
+    n: usize,
+    last: bool,
+    offset: u64,
+    count: u64,
+    out: &mut Text,
+) -> Progress
+    ensures { λ r. ⌜ Turned (partOf last (take n (now (part .entry))) offset count (tables
+        (now (tasks .entry)) (now (lines .entry)) (now (semaphores .entry))
+        (now (events .entry)) (now (mailboxes .entry)) (now (swis .entry))
+        (now (clocks .entry)) (now (heap .entry)) (now (state .entry))))
+        (tables
+        (now (tasks .exit)) (now (lines .exit)) (now (semaphores .exit))
+        (now (events .exit)) (now (mailboxes .exit)) (now (swis .exit))
+        (now (clocks .exit)) (now (heap .exit)) (now (state .exit)))
+        (now (part .entry)) (now (part .exit)) (now (out .entry)) (now (out .exit)) r ⌝ }
+    ensures { λ r. ⌜ (r .held < 20) × (r .len ≤ 16384) ⌝ }
+{
+    let log = front(part, n);
+    let ran = records(
+        tasks,
+        lines,
+        semaphores,
+        events,
+        mailboxes,
+        swis,
+        clocks,
+        heap,
+        state,
+        log,
+        last,
+        offset,
+        count,
+        out,
+    );
+    let at = ran.at;
+    let held = to_front(part, at, n);
+    Progress {
+        held,
+        offset: std::num::wrapping_add_u64(offset, at as u64),
+        count: ran.count,
+        len: ran.len,
+        ended: ran.ended,
+    }
+}

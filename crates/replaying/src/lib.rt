@@ -1,0 +1,151 @@
+// A log that can be read is replayed, and its text is written. What is written is computed in `desk`; here bytes are read and written.
+use desk::Part;
+use desk::Progress;
+use rules::Clocks;
+use rules::Events;
+use rules::Heap;
+use rules::Lines;
+use rules::Mailboxes;
+use rules::Semaphores;
+use rules::State;
+use rules::Swis;
+use rules::Tasks;
+use text::Text;
+
+// What a read left in a part: how many bytes are there now, whether nothing follows, whether it failed.
+struct Came {
+    n: usize,
+    last: bool,
+    failed: bool,
+}
+
+// Reads behind the bytes that wait. There is always room: fewer than 20 of them wait.
+fn read_behind(fd: i32, part: &mut [u8], held: usize) -> Came {
+    if part.len() <= held {
+        return Came {
+            n: 0,
+            last: true,
+            failed: true,
+        };
+    }
+    let got = libc::read(fd, &mut part[held..]);
+    let more = io::count(got, &part[held..]);
+    Came {
+        n: held + more,
+        last: got == 0,
+        failed: got < 0,
+    }
+}
+
+// Writes the text, and says so. Who reads it may have gone, which is no fault.
+fn write_text(text: &[u8], len: usize) -> bool {
+    if text.len() < len {
+        return false;
+    }
+    if io::write_all(libc::STDOUT_FILENO, &text[..len]) {
+        return true;
+    }
+    let error = os::errno();
+    if (error != libc::EPIPE) & (error != libc::EBADF) {
+        os::fail(b"standard output");
+    }
+    false
+}
+
+fn stopped(p: Progress) -> Progress {
+    let mut over = p;
+    over.ended = true;
+    over
+}
+
+// One turn: what was read is replayed, and its text is written.
+fn turn(
+    tasks: &mut Tasks,
+    lines: &mut Lines,
+    semaphores: &mut Semaphores,
+    events: &mut Events,
+    mailboxes: &mut Mailboxes,
+    swis: &mut Swis,
+    clocks: &mut Clocks,
+    heap: &mut Heap,
+    state: &mut State,
+    part: &mut Part,
+    out: &mut Text,
+    p: Progress,
+    fd: i32,
+    name: &[u8],
+) -> Progress {
+    let came = read_behind(fd, part, p.held);
+    if came.failed {
+        os::fail(name);
+        return stopped(p);
+    }
+    let next = desk::replay_part(
+        tasks,
+        lines,
+        semaphores,
+        events,
+        mailboxes,
+        swis,
+        clocks,
+        heap,
+        state,
+        part,
+        came.n,
+        came.last,
+        p.offset,
+        p.count,
+        out,
+    );
+    if write_text(out, next.len) {
+        return next;
+    }
+    stopped(next)
+}
+
+// Replays what can be read at fd; `name` is told where a read fails.
+// A loop has to end, and nothing says that a log does: the turns are counted down from a number that no run comes to.
+pub fn replay_all(fd: i32, name: &[u8]) {
+    let fresh = kernel::entries::fresh();
+    let mut tasks = fresh.tasks;
+    let mut lines = fresh.lines;
+    let mut semaphores = fresh.semaphores;
+    let mut events = fresh.events;
+    let mut mailboxes = fresh.mailboxes;
+    let mut swis = fresh.swis;
+    let mut clocks = fresh.clocks;
+    let mut heap = fresh.heap;
+    let mut state = fresh.state;
+    let mut part = [0u8; 2560];
+    let mut out = [0u8; 16384];
+    let mut p = Progress {
+        held: 0,
+        offset: 0,
+        count: 0,
+        len: 0,
+        ended: false,
+    };
+    let mut turns = u64::MAX;
+    while 0 < turns {
+        if p.ended {
+            return;
+        }
+        p = turn(
+            &mut tasks,
+            &mut lines,
+            &mut semaphores,
+            &mut events,
+            &mut mailboxes,
+            &mut swis,
+            &mut clocks,
+            &mut heap,
+            &mut state,
+            &mut part,
+            &mut out,
+            p,
+            fd,
+            name,
+        );
+        turns -= 1;
+    }
+}
