@@ -5,3 +5,4 @@ pub mod BySteps
 pub mod Story
 pub mod Example
 pub mod ByPriority
+pub mod OneAnswer
