@@ -96,13 +96,13 @@ module _ (last : Bool) (s : List ℕ) (o n₀ : ℕ) (t₀ : Tables) (xs : List 
 
       -- a record
       pub sofar-more : (number begin : ℕ) → f ≡ Record number begin → {m : ℕ} → m ≡ kept (n + 1) → {u : Tables} {zs : List ℕ} {r : ℕ}
-          → Lined (recordCall t number (argumentBytes s begin)) m u ys len zs r → {next : ℕ} → next ≡ moveTo (Record number begin) at % 2 ^ 64 → length s < 2 ^ 64
+          → Lined (recordCall t number (argumentBytes s (at + 4))) m u ys len zs r → {next : ℕ} → next ≡ moveTo f at
           → Sofar u zs next m r
       unfolding moveTo
-      sofar-more number begin e {m} up {u} {zs} {r} line {next} moved small =
+      sofar-more number begin e {m} up {u} {zs} {r} at-place {next} moved =
           let fits = record-fits s at number begin (sym found ∙ e) in
-          let moved-is : next ≡ (begin + 16) % 2 ^ 64 = moved in
-          let next-is : next ≡ begin + 16 = omega arith in
+          let line : Lined (recordCall t number (argumentBytes s begin)) m u ys len zs r = rw (fits .1) at-place in
+          let next-is : next ≡ begin + 16 = rw e at moved in
           let p : partAt last s o at n t ≡ lineBefore (kept (n + 1)) (recordCall t number (argumentBytes s begin)) (λ v. partAt last s o (begin + 16) (kept (n + 1)) v) =
           part-step last s o at n t ∙ rw (readable-is, ← found, e) in
           rw next-is
@@ -114,12 +114,12 @@ module _ (last : Bool) (s : List ℕ) (o n₀ : ℕ) (t₀ : Tables) (xs : List 
           })
 
       -- and the place is nearer to the end
-      pub sofar-less : (number begin : ℕ) → f ≡ Record number begin → {next : ℕ} → next ≡ moveTo (Record number begin) at % 2 ^ 64 → length s < 2 ^ 64
+      pub sofar-less : (number begin : ℕ) → f ≡ Record number begin → {next : ℕ} → next ≡ moveTo f at
           → length s - next < length s - at
       unfolding moveTo
-      sofar-less number begin e {next} moved small =
+      sofar-less number begin e {next} moved =
           let fits = record-fits s at number begin (sym found ∙ e) in
-          let moved-is : next ≡ (begin + 16) % 2 ^ 64 = moved in
+          let next-is : next ≡ begin + 16 = rw e at moved in
           omega arith
 
 -- ---- a turn: the text fits, and the rest is in front

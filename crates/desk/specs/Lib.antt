@@ -1,2 +1,3 @@
 pub mod Part
 pub mod Done
+pub mod Known

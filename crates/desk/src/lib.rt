@@ -13,22 +13,148 @@ use rules::Swis;
 use rules::Tasks;
 use text::Text;
 ghost use mathlib.Core.Path.{_≡_};
-ghost use Prim.Native.Nat.{_<_, _≤_};
+ghost use Prim.Native.Nat.{_+_, _<_, _≤_};
 ghost use lib.ListN.{length, take, drop};
 ghost use lib.Seq.{sets};
 ghost use Rattle.rules.specs.Log.{argumentBytes};
 ghost use Rattle.rules.specs.Tables.{tables};
-ghost use Rattle.rules.specs.Step.{stepOf};
+ghost use Rattle.rules.specs.Step.{call, stepOf};
 ghost use Rattle.rules.specs.Replay.{recordCall};
 ghost use Rattle.text.specs.Put.{Put};
 ghost use Rattle.desk.specs.Part.{lastText, partOf};
+ghost use Rattle.desk.specs.Known.{Known};
 ghost use Rattle.desk.specs.Done.{Lined, Gone, Turned};
 
 // A part of a log: the bytes that waited, and those that came.
 pub type Part = [u8; 2560];
 
+fn words_of(s: &[u32]) -> usize
+    ensures { λ r. ⌜ r ≡ length (now (s .entry)) ⌝ }
+{
+    s.len()
+}
+
+fn bytes_of(s: &[u8]) -> usize
+    ensures { λ r. ⌜ r ≡ length (now (s .entry)) ⌝ }
+{
+    s.len()
+}
+
+// Whether the tables are sound. What each call keeps needs their lengths too, which a lent array's type does not tell a proof.
+fn tested(
+    tasks: &Tasks,
+    lines: &Lines,
+    semaphores: &Semaphores,
+    events: &Events,
+    mailboxes: &Mailboxes,
+    swis: &Swis,
+    clocks: &Clocks,
+    heap: &Heap,
+    state: &State,
+) -> bool
+    ensures { λ r. ⌜ Known r (tables
+        (now (tasks .entry)) (now (lines .entry)) (now (semaphores .entry))
+        (now (events .entry)) (now (mailboxes .entry)) (now (swis .entry))
+        (now (clocks .entry)) (now (heap .entry)) (now (state .entry))) ⌝ }
+{
+    (words_of(tasks) == 256)
+        & (bytes_of(lines) == 2145)
+        & (words_of(semaphores) == 48)
+        & (words_of(events) == 16)
+        & (words_of(mailboxes) == 80)
+        & (words_of(swis) == 96)
+        & (words_of(clocks) == 80)
+        & (bytes_of(heap) == 256)
+        & (words_of(state) == 5)
+        & sound::is_sound(
+            tasks,
+            lines,
+            semaphores,
+            events,
+            mailboxes,
+            swis,
+            clocks,
+            heap,
+            state,
+        )
+}
+
+// One call, which tests the tables only where they are not known to be sound.
+fn known_call(
+    known: bool,
+    tasks: &mut Tasks,
+    lines: &mut Lines,
+    semaphores: &mut Semaphores,
+    events: &mut Events,
+    mailboxes: &mut Mailboxes,
+    swis: &mut Swis,
+    clocks: &mut Clocks,
+    heap: &mut Heap,
+    state: &mut State,
+    number: u32,
+    a: u32,
+    b: u32,
+    c: u32,
+    d: u32,
+) -> Said
+    requires { ⌜ Known known (tables
+        (now tasks) (now lines) (now semaphores)
+        (now events) (now mailboxes) (now swis)
+        (now clocks) (now heap) (now state)) ⌝ }
+    ensures { λ r. ⌜ stepOf (tables
+        (now (tasks .exit)) (now (lines .exit)) (now (semaphores .exit))
+        (now (events .exit)) (now (mailboxes .exit)) (now (swis .exit))
+        (now (clocks .exit)) (now (heap .exit)) (now (state .exit)))
+        (r .answer) (r .thread)
+        ≡ call (tables
+        (now (tasks .entry)) (now (lines .entry)) (now (semaphores .entry))
+        (now (events .entry)) (now (mailboxes .entry)) (now (swis .entry))
+        (now (clocks .entry)) (now (heap .entry)) (now (state .entry)))
+        number a b c d ⌝ }
+    ensures { λ _. ⌜ Known known (tables
+        (now (tasks .exit)) (now (lines .exit)) (now (semaphores .exit))
+        (now (events .exit)) (now (mailboxes .exit)) (now (swis .exit))
+        (now (clocks .exit)) (now (heap .exit)) (now (state .exit))) ⌝ }
+{
+    if known {
+        return kernel::calls::step(
+            tasks,
+            lines,
+            semaphores,
+            events,
+            mailboxes,
+            swis,
+            clocks,
+            heap,
+            state,
+            number,
+            a,
+            b,
+            c,
+            d,
+        );
+    }
+    kernel::entries::call_in_place(
+        tasks,
+        lines,
+        semaphores,
+        events,
+        mailboxes,
+        swis,
+        clocks,
+        heap,
+        state,
+        number,
+        a,
+        b,
+        c,
+        d,
+    )
+}
+
 // The call of a record, by its argument bytes.
 fn record_call(
+    known: bool,
     tasks: &mut Tasks,
     lines: &mut Lines,
     semaphores: &mut Semaphores,
@@ -41,6 +167,10 @@ fn record_call(
     number: u8,
     bytes: &[u8],
 ) -> Said
+    requires { ⌜ Known known (tables
+        (now tasks) (now lines) (now semaphores)
+        (now events) (now mailboxes) (now swis)
+        (now clocks) (now heap) (now state)) ⌝ }
     ensures { λ r. ⌜ stepOf (tables
         (now (tasks .exit)) (now (lines .exit)) (now (semaphores .exit))
         (now (events .exit)) (now (mailboxes .exit)) (now (swis .exit))
@@ -51,12 +181,17 @@ fn record_call(
         (now (events .entry)) (now (mailboxes .entry)) (now (swis .entry))
         (now (clocks .entry)) (now (heap .entry)) (now (state .entry)))
         number (now (bytes .entry)) ⌝ }
+    ensures { λ _. ⌜ Known known (tables
+        (now (tasks .exit)) (now (lines .exit)) (now (semaphores .exit))
+        (now (events .exit)) (now (mailboxes .exit)) (now (swis .exit))
+        (now (clocks .exit)) (now (heap .exit)) (now (state .exit))) ⌝ }
 {
     let a = calllog::argument(bytes, 0);
     let b = calllog::argument(bytes, 1);
     let c = calllog::argument(bytes, 2);
     let d = calllog::argument(bytes, 3);
-    kernel::entries::call_in_place(
+    known_call(
+        known,
         tasks,
         lines,
         semaphores,
@@ -74,8 +209,9 @@ fn record_call(
     )
 }
 
-// The call of record n, and its line.
-pub fn record_line(
+// The call of record n, which stands at a place of the log, and its line.
+fn record_line(
+    known: bool,
     tasks: &mut Tasks,
     lines: &mut Lines,
     semaphores: &mut Semaphores,
@@ -86,24 +222,33 @@ pub fn record_line(
     heap: &mut Heap,
     state: &mut State,
     log: &[u8],
+    place: usize,
     number: u8,
-    start: usize,
     n: u64,
     out: &mut Text,
     at: usize,
 ) -> usize
+    requires { ⌜ Known known (tables
+        (now tasks) (now lines) (now semaphores)
+        (now events) (now mailboxes) (now swis)
+        (now clocks) (now heap) (now state)) ⌝ }
     ensures { λ r. ⌜ Lined (recordCall (tables
         (now (tasks .entry)) (now (lines .entry)) (now (semaphores .entry))
         (now (events .entry)) (now (mailboxes .entry)) (now (swis .entry))
         (now (clocks .entry)) (now (heap .entry)) (now (state .entry)))
-        number (argumentBytes (now (log .entry)) start)) n (tables
+        number (argumentBytes (now (log .entry)) (place + 4))) n (tables
         (now (tasks .exit)) (now (lines .exit)) (now (semaphores .exit))
         (now (events .exit)) (now (mailboxes .exit)) (now (swis .exit))
         (now (clocks .exit)) (now (heap .exit)) (now (state .exit)))
         (now (out .entry)) at (now (out .exit)) r ⌝ }
+    ensures { λ _. ⌜ Known known (tables
+        (now (tasks .exit)) (now (lines .exit)) (now (semaphores .exit))
+        (now (events .exit)) (now (mailboxes .exit)) (now (swis .exit))
+        (now (clocks .exit)) (now (heap .exit)) (now (state .exit))) ⌝ }
 {
-    let bytes = calllog::arguments(log, start);
+    let bytes = calllog::reader::read_arguments(log, place);
     let said = record_call(
+        known,
         tasks,
         lines,
         semaphores,
@@ -160,7 +305,83 @@ pub struct Ran {
     pub ended: bool,
 }
 
-// The records of a part that starts at an offset of the log, after `count` others.
+// The records of a part that starts at an offset of the log, after `count` others, with what is known of the tables.
+fn known_records(
+    known: bool,
+    tasks: &mut Tasks,
+    lines: &mut Lines,
+    semaphores: &mut Semaphores,
+    events: &mut Events,
+    mailboxes: &mut Mailboxes,
+    swis: &mut Swis,
+    clocks: &mut Clocks,
+    heap: &mut Heap,
+    state: &mut State,
+    log: &[u8],
+    last: bool,
+    offset: u64,
+    count: u64,
+    out: &mut Text,
+) -> Ran
+    requires { ⌜ Known known (tables
+        (now tasks) (now lines) (now semaphores)
+        (now events) (now mailboxes) (now swis)
+        (now clocks) (now heap) (now state)) ⌝ }
+    ensures { λ r. ⌜ Gone (partOf last (now (log .entry)) offset count (tables
+        (now (tasks .entry)) (now (lines .entry)) (now (semaphores .entry))
+        (now (events .entry)) (now (mailboxes .entry)) (now (swis .entry))
+        (now (clocks .entry)) (now (heap .entry)) (now (state .entry))))
+        (now (log .entry)) offset (tables
+        (now (tasks .exit)) (now (lines .exit)) (now (semaphores .exit))
+        (now (events .exit)) (now (mailboxes .exit)) (now (swis .exit))
+        (now (clocks .exit)) (now (heap .exit)) (now (state .exit)))
+        (now (out .entry)) (now (out .exit)) r ⌝ }
+{
+    let mut at = 0;
+    let mut n = count;
+    let mut len = 0;
+    while last | (20 <= log.len() - at) {
+        let step = calllog::reader::read_next(log, at);
+        let found = step.found;
+        let Read::Record { number, start: _ } = found else {
+            let end = put_last(out, len, found, offset, n);
+            return Ran {
+                at: log.len(),
+                count: n,
+                len: end,
+                ended: true,
+            };
+        };
+        n = std::num::wrapping_add_u64(n, 1);
+        len = record_line(
+            known,
+            tasks,
+            lines,
+            semaphores,
+            events,
+            mailboxes,
+            swis,
+            clocks,
+            heap,
+            state,
+            log,
+            at,
+            number,
+            n,
+            out,
+            len,
+        );
+        at = step.at;
+    }
+    Ran {
+        at,
+        count: n,
+        len,
+        ended: false,
+    }
+}
+
+// The same, where the tables are tested once.
 pub fn records(
     tasks: &mut Tasks,
     lines: &mut Lines,
@@ -187,46 +408,34 @@ pub fn records(
         (now (clocks .exit)) (now (heap .exit)) (now (state .exit)))
         (now (out .entry)) (now (out .exit)) r ⌝ }
 {
-    let mut at = 0;
-    let mut n = count;
-    let mut len = 0;
-    while last | (20 <= log.len() - at) {
-        let found = calllog::read_at(log, at);
-        let Read::Record { number, start } = found else {
-            let end = put_last(out, len, found, offset, n);
-            return Ran {
-                at: log.len(),
-                count: n,
-                len: end,
-                ended: true,
-            };
-        };
-        n = std::num::wrapping_add_u64(n, 1);
-        len = record_line(
-            tasks,
-            lines,
-            semaphores,
-            events,
-            mailboxes,
-            swis,
-            clocks,
-            heap,
-            state,
-            log,
-            number,
-            start,
-            n,
-            out,
-            len,
-        );
-        at = calllog::move_to(found, at);
-    }
-    Ran {
-        at,
-        count: n,
-        len,
-        ended: false,
-    }
+    let known = tested(
+        tasks,
+        lines,
+        semaphores,
+        events,
+        mailboxes,
+        swis,
+        clocks,
+        heap,
+        state,
+    );
+    known_records(
+        known,
+        tasks,
+        lines,
+        semaphores,
+        events,
+        mailboxes,
+        swis,
+        clocks,
+        heap,
+        state,
+        log,
+        last,
+        offset,
+        count,
+        out,
+    )
 }
 
 // The first n bytes; all where there are fewer.

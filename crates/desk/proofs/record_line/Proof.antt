@@ -1,5 +1,5 @@
-use Rattle.desk.proofs.Going.{lined}
 use borrow.Author.Needs.{needs}
+use Rattle.desk.proofs.Going.{lined}
 use Rattle.desk.proofs.record_line.Statement.{statement}
 use Rattle.desk.proofs.record_line.Tie as tie
 
@@ -10,4 +10,4 @@ record-line-spec =
     (λ c κs. search needs)
     (λ c κs. search needs)
     (λ c κs. search needs)
-    (λ c. rw (← c .before .before .before .before .before .before .before .before .before .before .before .before .before .arguments .ensures) (lined _ _ _ _ _ (c .before .before .before .record-call .ensures) (c .put-line .ensures))))
+    (λ c. (rw (← c .before .before .before .before .before .before .before .before .before .before .before .before .before .read-arguments .ensures) (lined _ _ _ _ _ (c .before .before .before .record-call .ensures .0) (c .put-line .ensures)), c .before .before .before .record-call .ensures .1)))
