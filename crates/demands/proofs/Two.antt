@@ -4,16 +4,12 @@ use Prim.{tt}
 use Prim.Native.Nat.{ℕ}
 use mathlib.Core.Path.{_≡_, refl, sym, ap, subst, _∙_}
 use mathlib.Core.Logic.{_≢_}
-use mathlib.Core.Bool.{Bool, true, false, not, cond as if, true≢false, false≢true}
+use mathlib.Core.Bool.{not, false≢true}
 use mathlib.Core.List.{List, [], _∷_}
 use native.Mathlib.Omega.{arith}
-use borrow.Author.Tests.{not-true}
-use lib.ListN.{length, getD, set}
-use lib.Seq.{set-getD}
-use Rattle.rules.specs.Tables.{Typed, levels, state, withState, CURRENT}
+use Rattle.rules.specs.Tables.{Typed}
 use Rattle.rules.specs.Fresh.{fresh}
-use Rattle.rules.specs.Swis.{Posts, posts}
-use Rattle.rules.specs.Dispatch.{running, swiDue, swiDispatched, taskDue, front, taskDispatched, dispatched, dispatchedOf}
+use Rattle.rules.specs.Dispatch.{running, dispatched, dispatchedOf}
 use Rattle.rules.specs.Sound.{Sound, sound}
 use Rattle.rules.specs.Step.{step, call, finished}
 use Rattle.rules.proofs.Agree.{sound-means, means-sound}
@@ -22,11 +18,11 @@ use Rattle.rules.specs.declared.Tables.{Tables}
 use Rattle.rules.specs.declared.Step.{Step}
 use Rattle.runs.specs.Run.{Asked, Words, made, next, after, Each, AllWords}
 use Rattle.refusals.proofs.Demand.{exactly-in}
-use Rattle.refusals.proofs.First.{by-bool}
 use Rattle.refusals.specs.Refusals.{refusal}
 use Rattle.fold.specs.Lists.{count}
 use Rattle.keeps.proofs.Groups as Groups
 use Rattle.keeps.proofs.Keeps.{step-typed, step-sound}
+use Rattle.keeps.proofs.Nothing.{nothing-left}
 
 pub record Kept (t : Tables) (q : Asked) : Type 0 where
   -- what the call does is the definition's step: the test of soundness may be skipped, and code 10 never comes
@@ -39,23 +35,6 @@ pub record Kept (t : Tables) (q : Asked) : Type 0 where
   pub thread : made t q .thread ≡ running (next t q .lines) (next t q .state)
   pub settled : dispatched (next t q .swis) (next t q .lines) (next t q .state)
       ≡ dispatchedOf (next t q .swis) (next t q .lines) (next t q .state)
-
--- ---- dispatch has nothing left to do on sound tables
-module _ (t : Tables) (s : Sound t) where
-  no-swi : swiDispatched (t .state) (posts (t .swis) (t .lines)) ≡ posts (t .swis) (t .lines)
-  unfolding swiDispatched
-  no-swi = rw (not-true (swiDue (t .swis) (t .lines) (t .state)) (s .dispatch .0))
-
-  no-task : taskDispatched (t .lines) (t .state) ≡ t .state
-  unfolding taskDispatched
-  no-task =
-      by-bool (taskDue (t .lines) (t .state))
-      (λ e. rw e (ap (set (t .state) 4) (sym (s .dispatch .1 e)) ∙ set-getD (t .state) 4 0))
-      (λ e. rw e)
-
-  nothing-left : dispatched (t .swis) (t .lines) (t .state) ≡ dispatchedOf (t .swis) (t .lines) (t .state)
-  unfolding dispatched
-  nothing-left = rw (no-swi, no-task)
 
 step-thread : (t : Tables) (q : Asked)
     → step t (q .number) (q .a) (q .b) (q .c) (q .d) .thread

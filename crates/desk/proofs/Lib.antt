@@ -3,4 +3,3 @@ pub mod Whole
 pub mod Bounds
 pub mod Going
 pub mod Moved
-pub mod Knowing

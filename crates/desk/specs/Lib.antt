@@ -1,3 +1,2 @@
 pub mod Part
 pub mod Done
-pub mod Known

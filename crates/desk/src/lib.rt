@@ -18,139 +18,15 @@ ghost use lib.ListN.{length, take, drop};
 ghost use lib.Seq.{sets};
 ghost use Rattle.rules.specs.Log.{argumentBytes};
 ghost use Rattle.rules.specs.Tables.{tables};
-ghost use Rattle.rules.specs.Step.{call, stepOf};
+ghost use Rattle.rules.specs.Step.{stepOf};
 ghost use Rattle.rules.specs.Replay.{recordCall};
 ghost use Rattle.text.specs.Put.{Put};
 ghost use Rattle.desk.specs.Part.{lastText, partOf};
-ghost use Rattle.desk.specs.Known.{Known};
+ghost use Rattle.kernel.specs.Known.{Known};
 ghost use Rattle.desk.specs.Done.{Lined, Gone, Turned};
 
 // A part of a log: the bytes that waited, and those that came.
 pub type Part = [u8; 2560];
-
-fn words_of(s: &[u32]) -> usize
-    ensures { λ r. ⌜ r ≡ length (now (s .entry)) ⌝ }
-{
-    s.len()
-}
-
-fn bytes_of(s: &[u8]) -> usize
-    ensures { λ r. ⌜ r ≡ length (now (s .entry)) ⌝ }
-{
-    s.len()
-}
-
-// Whether the tables are sound. What each call keeps needs their lengths too, which a lent array's type does not tell a proof.
-fn tested(
-    tasks: &Tasks,
-    lines: &Lines,
-    semaphores: &Semaphores,
-    events: &Events,
-    mailboxes: &Mailboxes,
-    swis: &Swis,
-    clocks: &Clocks,
-    heap: &Heap,
-    state: &State,
-) -> bool
-    ensures { λ r. ⌜ Known r (tables
-        (now (tasks .entry)) (now (lines .entry)) (now (semaphores .entry))
-        (now (events .entry)) (now (mailboxes .entry)) (now (swis .entry))
-        (now (clocks .entry)) (now (heap .entry)) (now (state .entry))) ⌝ }
-{
-    (words_of(tasks) == 256)
-        & (bytes_of(lines) == 2145)
-        & (words_of(semaphores) == 48)
-        & (words_of(events) == 16)
-        & (words_of(mailboxes) == 80)
-        & (words_of(swis) == 96)
-        & (words_of(clocks) == 80)
-        & (bytes_of(heap) == 256)
-        & (words_of(state) == 5)
-        & sound::is_sound(
-            tasks,
-            lines,
-            semaphores,
-            events,
-            mailboxes,
-            swis,
-            clocks,
-            heap,
-            state,
-        )
-}
-
-// One call, which tests the tables only where they are not known to be sound.
-fn known_call(
-    known: bool,
-    tasks: &mut Tasks,
-    lines: &mut Lines,
-    semaphores: &mut Semaphores,
-    events: &mut Events,
-    mailboxes: &mut Mailboxes,
-    swis: &mut Swis,
-    clocks: &mut Clocks,
-    heap: &mut Heap,
-    state: &mut State,
-    number: u32,
-    a: u32,
-    b: u32,
-    c: u32,
-    d: u32,
-) -> Said
-    requires { ⌜ Known known (tables
-        (now tasks) (now lines) (now semaphores)
-        (now events) (now mailboxes) (now swis)
-        (now clocks) (now heap) (now state)) ⌝ }
-    ensures { λ r. ⌜ stepOf (tables
-        (now (tasks .exit)) (now (lines .exit)) (now (semaphores .exit))
-        (now (events .exit)) (now (mailboxes .exit)) (now (swis .exit))
-        (now (clocks .exit)) (now (heap .exit)) (now (state .exit)))
-        (r .answer) (r .thread)
-        ≡ call (tables
-        (now (tasks .entry)) (now (lines .entry)) (now (semaphores .entry))
-        (now (events .entry)) (now (mailboxes .entry)) (now (swis .entry))
-        (now (clocks .entry)) (now (heap .entry)) (now (state .entry)))
-        number a b c d ⌝ }
-    ensures { λ _. ⌜ Known known (tables
-        (now (tasks .exit)) (now (lines .exit)) (now (semaphores .exit))
-        (now (events .exit)) (now (mailboxes .exit)) (now (swis .exit))
-        (now (clocks .exit)) (now (heap .exit)) (now (state .exit))) ⌝ }
-{
-    if known {
-        return kernel::calls::step(
-            tasks,
-            lines,
-            semaphores,
-            events,
-            mailboxes,
-            swis,
-            clocks,
-            heap,
-            state,
-            number,
-            a,
-            b,
-            c,
-            d,
-        );
-    }
-    kernel::entries::call_in_place(
-        tasks,
-        lines,
-        semaphores,
-        events,
-        mailboxes,
-        swis,
-        clocks,
-        heap,
-        state,
-        number,
-        a,
-        b,
-        c,
-        d,
-    )
-}
 
 // The call of a record, by its argument bytes.
 fn record_call(
@@ -190,7 +66,7 @@ fn record_call(
     let b = calllog::argument(bytes, 1);
     let c = calllog::argument(bytes, 2);
     let d = calllog::argument(bytes, 3);
-    known_call(
+    kernel::known::known_call(
         known,
         tasks,
         lines,
@@ -408,7 +284,7 @@ pub fn records(
         (now (clocks .exit)) (now (heap .exit)) (now (state .exit)))
         (now (out .entry)) (now (out .exit)) r ⌝ }
 {
-    let known = tested(
+    let known = kernel::known::tested(
         tasks,
         lines,
         semaphores,

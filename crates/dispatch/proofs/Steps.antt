@@ -1,13 +1,16 @@
 -- What the steps of dispatch leave, one after the other.
 use Prim.Native.Nat.{ℕ, _+_, _-_}
 use mathlib.Core.Path.{_≡_, refl, sym, ap, _∙_}
+use mathlib.Core.Logic.{_≢_}
 use mathlib.Core.Bool.{Bool, true, false}
 use mathlib.Core.List.{List}
+use borrow.Author.Tests.{eq-eqb, ne-eqb}
+use lib.Dec.{ltb}
 use lib.ListN.{set}
-use Rattle.rules.specs.Tables.{levels, swi, withSwi}
+use Rattle.rules.specs.Tables.{levels, swi, withSwi, state, DEPTH, SWIS}
 use Rattle.rules.specs.Lines.{first, left, joined, postedLine, activeLine}
 use Rattle.rules.specs.Swis.{Posts, posts}
-use Rattle.rules.specs.Dispatch.{started, swiDue, highestPosted, swiDispatched, taskDue, front, taskDispatched, Dispatched, dispatchedOf, dispatched}
+use Rattle.rules.specs.Dispatch.{started, swiDue, activeLevel, highestPosted, swiDispatched, taskDue, front, taskDispatched}
 
 -- a Swi starts
 pub started-is : (ws ls : List ℕ) (i j : ℕ) {n v u : ℕ} {ws₁ ws₂ ws₃ ls₁ ls₂ : List ℕ}
@@ -16,6 +19,20 @@ pub started-is : (ws ls : List ℕ) (i j : ℕ) {n v u : ℕ} {ws₁ ws₂ ws₃
     → (p : ℕ) → j ≡ postedLine p → posts ws₃ ls₂ ≡ started i p (posts ws ls)
 unfolding started
 started-is ws ls i j a b c d e f g h p q = rw (h, g, f, e, d, c, b, a, q)
+
+-- whether one is due
+module _ (ws ls st : List ℕ) where
+  pub not-at-depth : state st DEPTH ≢ 0 → swiDue ws ls st ≡ false
+  unfolding swiDue
+  not-at-depth n = rw (ne-eqb _ _ n)
+
+  pub not-while-off : state st DEPTH ≡ 0 → state st SWIS ≡ 0 → swiDue ws ls st ≡ false
+  unfolding swiDue
+  not-while-off z o = rw (eq-eqb _ _ z, eq-eqb _ _ o)
+
+  pub by-level : state st DEPTH ≡ 0 → state st SWIS ≢ 0 → {a h : ℕ} → a ≡ activeLevel ws ls → h ≡ highestPosted ls → ltb a h ≡ swiDue ws ls st
+  unfolding swiDue
+  by-level z o p q = rw (eq-eqb _ _ z, ne-eqb _ _ o, p, q)
 
 -- one is due, and starts; or none is
 module _ (ws ls st : List ℕ) {t : Bool} (is : t ≡ swiDue ws ls st) where
@@ -40,10 +57,3 @@ module _ (ls st : List ℕ) {t : Bool} (is : t ≡ taskDue ls st) where
   pub task-stays : t ≡ false → st ≡ taskDispatched ls st
   unfolding taskDispatched
   task-stays w = rw (sym is ∙ w)
-
--- both, one after the other
-pub dispatched-is : (ws ls st : List ℕ) {ws₁ ls₁ st₁ : List ℕ} → posts ws₁ ls₁ ≡ swiDispatched st (posts ws ls) → st₁ ≡ taskDispatched ls₁ st
-    → dispatchedOf ws₁ ls₁ st₁ ≡ dispatched ws ls st
-unfolding dispatched
-dispatched-is ws ls st {ws₁} {ls₁} a b =
-    ap (dispatchedOf ws₁ ls₁) b ∙ ap (λ (x : Posts). dispatchedOf (x .swis) (x .lines) (taskDispatched (x .lines) st)) a

@@ -8,7 +8,6 @@ ghost use Prim.Native.Nat.{ℕ};
 ghost use Rattle.rules.specs.Lines.{postedLine};
 ghost use Rattle.rules.specs.Swis.{posts};
 ghost use Rattle.rules.specs.Dispatch.{context, running, started, swiDispatched, taskDispatched};
-ghost use Rattle.rules.specs.Dispatch.{dispatchedOf, dispatched};
 
 // The context of a call: 0 a task, 1 a Swi, 2 an interrupt.
 pub fn context(lines: &Lines, state: &State) -> u32
@@ -59,13 +58,21 @@ pub fn start(swis: &mut Swis, lines: &mut Lines, i: u8, j: usize)
     rows::lines::join(lines, 48, i);
 }
 
-// The first Swi at the highest posted priority starts, if one is due.
+// The first Swi at the highest posted priority starts, if one is due. That is tested here and not by `due::swi_due`, so that the highest
+// priority is searched for once.
 pub fn dispatch_swis(swis: &mut Swis, lines: &mut Lines, state: &State)
     ensures { λ _. ⌜ posts (now (swis .exit)) (now (lines .exit))
         ≡ swiDispatched (now (state .entry)) (posts (now (swis .entry)) (now (lines .entry))) ⌝ }
 {
-    if due::swi_due(swis, lines, state) {
-        let j = 32 + fold::one_less(due::highest_posted(lines));
+    if state[rows::words::DEPTH] != 0 {
+        return;
+    }
+    if state[rows::words::SWIS] == 0 {
+        return;
+    }
+    let level = due::highest_posted(lines);
+    if due::active_level(swis, lines) < level {
+        let j = 32 + fold::one_less(level);
         let i = rows::lines::first(lines, j);
         start(swis, lines, i, j);
     }
@@ -79,13 +86,4 @@ pub fn dispatch_tasks(lines: &Lines, state: &mut State)
     if due::task_due(lines, state) {
         state[4] = number(due::front(lines));
     }
-}
-
-// The dispatch rule.
-pub fn dispatch(swis: &mut Swis, lines: &mut Lines, state: &mut State)
-    ensures { λ _. ⌜ dispatchedOf (now (swis .exit)) (now (lines .exit)) (now (state .exit))
-        ≡ dispatched (now (swis .entry)) (now (lines .entry)) (now (state .entry)) ⌝ }
-{
-    dispatch_swis(swis, lines, state);
-    dispatch_tasks(lines, state);
 }

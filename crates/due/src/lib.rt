@@ -77,10 +77,13 @@ pub fn swi_due(swis: &Swis, lines: &Lines, state: &State) -> bool
 pub fn task_due(lines: &Lines, state: &State) -> bool
     ensures { λ r. ⌜ r ≡ taskDue (now (lines .entry)) (now (state .entry)) ⌝ }
 {
-    (state[rows::words::DEPTH] == 0)
-        & !anyone(lines, 48)
-        & (state[rows::words::SWIS] != 0)
-        & (state[rows::words::TASKS] != 0)
+    if state[rows::words::DEPTH] != 0 {
+        return false;
+    }
+    if anyone(lines, 48) {
+        return false;
+    }
+    (state[rows::words::SWIS] != 0) & (state[rows::words::TASKS] != 0)
 }
 
 // The front of the highest non-empty ready queue; 0 where all are empty.

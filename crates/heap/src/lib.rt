@@ -2,15 +2,17 @@
 use rows::answers::accepted;
 use rows::answers::refused;
 use rows::answers::unused;
+use rows::lines::least;
 use rules::Answer;
 use rules::Heap;
 ghost use mathlib.Core.Path.{_≡_};
 ghost use mathlib.Core.List.{_∷_};
 ghost use Prim.Native.Nat.{_-_, _≤_};
 ghost use lib.ListN.{replicate};
-ghost use Rattle.rules.specs.Answer.{after, answered, called, codeOf};
-ghost use Rattle.rules.specs.Heap.{unit, withUnits, unitsOf, lowestRun, blockSize, isBlock};
+ghost use Rattle.rules.specs.Answer.{after, answered, called};
+ghost use Rattle.rules.specs.Heap.{withUnits, unitsOf, lowestRun, blockSize, isBlock};
 ghost use Rattle.rules.specs.Heap.{takeCases, takeEffect, giveCases, giveEffect, heapCall};
+ghost use Rattle.heap.specs.Free.{noneFree, firstFree, adjacent};
 
 // A heap entry is free, first of a block or later in one.
 pub const FREE: u8 = 0;
@@ -26,26 +28,80 @@ pub fn units(bytes: u32) -> usize
     (bytes as usize + 7) / 8
 }
 
+// Of the 16 units from u on none is free; a unit past the heap's end counts as free. It looks at
+// each one, with no branch, so that the compiler makes it one comparison of 16 bytes.
+fn none_free(heap: &Heap, u: usize) -> bool
+    ensures { λ r. ⌜ r ≡ noneFree (now (heap .entry)) u ⌝ }
+{
+    if 240 < u {
+        return false;
+    }
+    let mut none = true;
+    let mut k = 0;
+    while k < 16 {
+        none = none & (heap[u + k] != FREE);
+        k += 1;
+    }
+    none
+}
+
+// A unit from which on the first free one is the same as from `from` on: 16 at a time are passed.
+fn past_full(heap: &Heap, from: usize) -> usize
+    ensures { λ r. ⌜ firstFree (now (heap .entry)) r ≡ firstFree (now (heap .entry)) from ⌝ }
+{
+    let mut u = from;
+    while none_free(heap, u) {
+        u += 16;
+    }
+    u
+}
+
+// The first free unit from `from` on, which is at most 256; 256 where there is none.
+fn first_free(heap: &Heap, from: usize) -> usize
+    ensures { λ r. ⌜ r ≡ firstFree (now (heap .entry)) from ⌝ }
+{
+    let mut u = past_full(heap, from);
+    while u < 256 {
+        if heap[u] == FREE {
+            return u;
+        }
+        u += 1;
+    }
+    u
+}
+
+// How many adjacent units from u on have this entry, n at most.
+fn adjacent(heap: &Heap, u: usize, n: usize, entry: u8) -> usize
+    ensures { λ r. ⌜ r ≡ adjacent (now (heap .entry)) u n entry ⌝ }
+{
+    if 256 <= u {
+        return 0;
+    }
+    let most = least(n, 256 - u);
+    let mut k = 0;
+    while k < most {
+        if heap[u + k] != entry {
+            return k;
+        }
+        k += 1;
+    }
+    k
+}
+
 // Where the lowest run of n adjacent free units starts; 256 where there is none.
 pub fn lowest_run(heap: &Heap, n: usize) -> usize
     ensures { λ r. ⌜ (r ≡ lowestRun (now (heap .entry)) n) × (r ≤ 256) ⌝ }
 {
-    // k units from u on are free, and no run of n starts before u
+    // no run of n starts before u
     let mut u = 0;
-    let mut k = 0;
-    while k < n {
-        let at = u + k;
-        if 256 <= at {
-            return 256;
+    while u < 256 {
+        let k = adjacent(heap, u, n, FREE);
+        if k == n {
+            return u;
         }
-        if heap[at] == FREE {
-            k += 1;
-        } else {
-            u = at + 1;
-            k = 0;
-        }
+        u = first_free(heap, u + k);
     }
-    u
+    256
 }
 
 // The units of the block whose first is u: it, and those that follow as later ones.
@@ -55,15 +111,7 @@ pub fn block_size(heap: &Heap, u: usize) -> usize
     if 255 <= u {
         return 1;
     }
-    let most = 255 - u;
-    let mut k = 0;
-    while k < most {
-        if heap[u + 1 + k] != LATER {
-            return k + 1;
-        }
-        k += 1;
-    }
-    k + 1
+    adjacent(heap, u + 1, 255 - u, LATER) + 1
 }
 
 // The entries of n units from u on: the first one's, and the later ones'. Past the heap nothing
@@ -100,73 +148,40 @@ pub fn is_block(heap: &Heap, a: u32, b: u32) -> bool
 
 // ---- 60 take (bytes)
 
-pub fn take_code(heap: &Heap, x: u32, a: u32, b: u32, c: u32, d: u32) -> u32
-    ensures { λ r. ⌜ r ≡ codeOf (takeCases (now (heap .entry)) x a b c d) ⌝ }
-{
-    if x != 0 {
-        return 2;
-    }
-    if (a == 0) | !(a <= 2048) | unused(0, b, c, d) {
-        return 4;
-    }
-    if lowest_run(heap, units(a)) == 256 {
-        return 8;
-    }
-    0
-}
-
-pub fn take_effect(heap: &mut Heap, a: u32) -> Answer
-    ensures { λ r. ⌜ after r (now (heap .exit)) ≡ takeEffect (now (heap .entry)) a ⌝ }
-{
-    let n = units(a);
-    let u = lowest_run(heap, n);
-    mark(heap, u, n, FIRST, LATER);
-    accepted(0, (u * 8) as u32)
-}
-
 pub fn take(heap: &mut Heap, x: u32, a: u32, b: u32, c: u32, d: u32) -> Answer
     ensures { λ r. ⌜ after r (now (heap .exit)) ≡ answered (now (heap .entry))
         (called (takeCases (now (heap .entry)) x a b c d) (takeEffect (now (heap .entry)) a)) ⌝ }
 {
-    let code = take_code(heap, x, a, b, c, d);
-    if code != 0 {
-        return refused(code);
+    if x != 0 {
+        return refused(2);
     }
-    take_effect(heap, a)
+    if (a == 0) | !(a <= 2048) | unused(0, b, c, d) {
+        return refused(4);
+    }
+    let n = units(a);
+    let u = lowest_run(heap, n);
+    if u == 256 {
+        return refused(8);
+    }
+    mark(heap, u, n, FIRST, LATER);
+    accepted(0, (u * 8) as u32)
 }
 
 // ---- 61 give back (offset, bytes)
-
-pub fn give_code(heap: &Heap, x: u32, a: u32, b: u32, c: u32, d: u32) -> u32
-    ensures { λ r. ⌜ r ≡ codeOf (giveCases (now (heap .entry)) x a b c d) ⌝ }
-{
-    if x != 0 {
-        return 2;
-    }
-    if !is_block(heap, a, b) | unused(0, 0, c, d) {
-        return 4;
-    }
-    0
-}
-
-pub fn give_effect(heap: &mut Heap, a: u32) -> Answer
-    ensures { λ r. ⌜ after r (now (heap .exit)) ≡ giveEffect (now (heap .entry)) a ⌝ }
-{
-    let u = (a / 8) as usize;
-    let n = block_size(heap, u);
-    mark(heap, u, n, FREE, FREE);
-    accepted(0, 0)
-}
 
 pub fn give_back(heap: &mut Heap, x: u32, a: u32, b: u32, c: u32, d: u32) -> Answer
     ensures { λ r. ⌜ after r (now (heap .exit)) ≡ answered (now (heap .entry))
         (called (giveCases (now (heap .entry)) x a b c d) (giveEffect (now (heap .entry)) a)) ⌝ }
 {
-    let code = give_code(heap, x, a, b, c, d);
-    if code != 0 {
-        return refused(code);
+    if x != 0 {
+        return refused(2);
     }
-    give_effect(heap, a)
+    if !is_block(heap, a, b) | unused(0, 0, c, d) {
+        return refused(4);
+    }
+    // the block has as many units as b bytes take, so it is not measured again
+    mark(heap, (a / 8) as usize, units(b), FREE, FREE);
+    accepted(0, 0)
 }
 
 // ---- the calls by number

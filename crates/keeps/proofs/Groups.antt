@@ -1,5 +1,5 @@
 -- The rules of sound tables in the form in which a call keeps them, and what holds between a call's effect and the dispatch after it.
-use Prim.Native.Nat.{ℕ, _<_, _^_}
+use Prim.Native.Nat.{ℕ, _≤_, _<_, _^_}
 use mathlib.Core.Path.{_≡_}
 use mathlib.Core.Logic.{_⊎_}
 use mathlib.Core.Bool.{true, false}
@@ -24,6 +24,10 @@ pub record Words (a b c d : ℕ) : Type 0 where
 -- line j is one of tasks
 abbrev pub OfTasks : ℕ → Type 0
 OfTasks j = (j < postedLine 0) ⊎ ((activeLine < j) × (j < lineCount))
+
+-- those who stand in a line of Swis are the same
+abbrev pub SwisStay : List ℕ → List ℕ → Type 0
+SwisStay ls ls′ = (j : ℕ) → postedLine 0 ≤ j → j ≤ activeLine → line ls′ j ≡ line ls j
 
 -- each task stands once in the line that is its own, and in no other; so does each posted Swi
 pub record Standing (ts ws ls : List ℕ) : Type 0 where

@@ -27,3 +27,6 @@ pub mod OfHeap
 pub mod OfSwitches
 pub mod Effects
 pub mod Keeps
+pub mod Nothing
+pub mod Aside
+pub mod Quiet

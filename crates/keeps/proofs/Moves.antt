@@ -56,7 +56,7 @@ queued-typed t q typed tasks lines =
     }
 
 -- a line of Swis is nobody's home among tasks
-not-swi : (h j : ℕ) → OfTasks h ⊎ (h ≡ nowhere) → postedLine 0 ≤ j → j ≤ activeLine → j ≢ h
+pub not-swi : (h j : ℕ) → OfTasks h ⊎ (h ≡ nowhere) → postedLine 0 ≤ j → j ≤ activeLine → j ≢ h
 not-swi h j (inl (inl l)) low high e = omega arith
 not-swi h j (inl (inr (l, _))) low high e = omega arith
 not-swi h j (inr n) low high e = omega arith

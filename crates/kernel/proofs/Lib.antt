@@ -1,2 +1,5 @@
 pub mod Ranges
+pub mod Parts
+pub mod Settles
 pub mod Steps
+pub mod Knowing

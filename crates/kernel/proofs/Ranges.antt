@@ -1,6 +1,7 @@
 -- "Call numbers fall into ranges of sixteen, one range for each kind": from a kind's own call to the call on all tables.
-use Prim.Native.Nat.{ℕ, _+_, _≤_, _<_}
+use Prim.Native.Nat.{ℕ, _+_, _*_, _/_, _≤_, _<_}
 use mathlib.Core.Path.{_≡_, refl, sym, ap, _∙_}
+use mathlib.Core.Logic.{_≢_}
 use mathlib.Core.Bool.{true, false, and-false}
 use native.Mathlib.Omega.{arith}
 use native.Mathlib.Nat.{le-trans}
@@ -23,10 +24,27 @@ use Rattle.rules.specs.declared.Answer.{Answer}
 use Rattle.rules.specs.declared.Tables.{Tables}
 
 -- ---- a number in a range, and one past it
-within : (n k : ℕ) → k ≤ n → n < k + 16 → inRange n k ≡ true
+-- the range's number, and where the range is
+pub from : (n k : ℕ) → n / 16 ≡ k → k * 16 ≤ n
+from n k e = omega arith
+
+pub below : (n k : ℕ) → n / 16 ≡ k → n < k * 16 + 16
+below n k e = omega arith
+
+-- in none of the eight ranges
+beyond-four : (n : ℕ) → n / 16 ≢ 0 → n / 16 ≢ 1 → n / 16 ≢ 2 → n / 16 ≢ 3 → 0x40 ≤ n
+beyond-four n a b c d = omega arith
+
+beyond-eight : (n : ℕ) → 0x40 ≤ n → n / 16 ≢ 4 → n / 16 ≢ 5 → n / 16 ≢ 6 → n / 16 ≢ 7 → 0x80 ≤ n
+beyond-eight n l a b c d = omega arith
+
+pub beyond : (n : ℕ) → n / 16 ≢ 0 → n / 16 ≢ 1 → n / 16 ≢ 2 → n / 16 ≢ 3 → n / 16 ≢ 4 → n / 16 ≢ 5 → n / 16 ≢ 6 → n / 16 ≢ 7 → 0x80 ≤ n
+beyond n a b c d = beyond-eight n (beyond-four n a b c d)
+
+pub within : (n k : ℕ) → k ≤ n → n < k + 16 → inRange n k ≡ true
 within n k l h = rw (le-leb k n l) (lt-ltb n (k + 16) h)
 
-past : (n m : ℕ) → m ≤ n → (k : ℕ) → leb (k + 16) m ≡ true → inRange n k ≡ false
+pub past : (n m : ℕ) → m ≤ n → (k : ℕ) → leb (k + 16) m ≡ true → inRange n k ≡ false
 past n m l k e = rw (le-ltb n (k + 16) (le-trans (leb-true (k + 16) m e) l)) (and-false (leb k n))
 
 -- ---- a call that is, on all tables, the call k of a kind on its own tables q

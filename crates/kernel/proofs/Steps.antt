@@ -1,38 +1,32 @@
 -- A whole call: its kind's call, dispatch after an accepted one, and the running thread.
 use Prim.Native.Nat.{ℕ}
 use mathlib.Core.Path.{_≡_, sym, ap, _∙_}
-use mathlib.Core.Logic.{_≢_}
 use mathlib.Core.Bool.{Bool, true, false, not, cond as if}
-use mathlib.Core.List.{List}
-use borrow.Author.Tests.{eq-eqb, ne-eqb, not-true, not-false}
+use borrow.Author.Tests.{not-true, not-false}
 use Rattle.rules.specs.Answer.{after, answer, answered}
-use Rattle.rules.specs.Dispatch.{running, context, Dispatched, dispatchedOf, dispatched}
+use Rattle.rules.specs.Dispatch.{running, context, Dispatched}
 use Rattle.rules.specs.Sound.{sound}
-use Rattle.rules.specs.Step.{callOf, settled, withDispatched, stepOf, finished, step, call}
+use Rattle.rules.specs.Step.{callOf, withDispatched, stepOf, finished, step, call}
+use Rattle.rules.proofs.Agree.{sound-means}
+use Rattle.kernel.specs.Settle.{settledAfter}
+use Rattle.kernel.proofs.Settles.{settles-is}
 use Rattle.rules.specs.declared.Answer.{Answer}
 use Rattle.rules.specs.declared.Step.{Step}
 use Rattle.rules.specs.declared.Tables.{Tables}
 use Rattle.rules.specs.declared.Thread.{Thread}
 use Rattle.rules.specs.declared.Thread.the-variants.{Task}
 
--- ---- dispatch follows an accepted call, and no other
-module _ (code : ℕ) (ws ls st : List ℕ) where
-  pub settled-accepted : code ≡ 0 → {x : Dispatched} → x ≡ dispatched ws ls st → x ≡ settled code ws ls st
-  settled-accepted z e = rw (eq-eqb code 0 z) e
-
-  pub settled-refused : code ≢ 0 → dispatchedOf ws ls st ≡ settled code ws ls st
-  settled-refused n = rw (ne-eqb code 0 n)
-
--- ---- the parts of a call, one after the other
-module _ (t : Tables) (n a b c d : ℕ) where
+-- ---- the parts of a call on sound tables, one after the other
+module _ (t : Tables) (is : sound t ≡ true) (n a b c d : ℕ) where
   pub step-is : {x : ℕ} {r : Answer} {u : Tables} {y : Dispatched} {who : Thread}
       → x ≡ context (t .lines) (t .state) → after r u ≡ answered t (callOf t x n a b c d)
-      → y ≡ settled (r .code) (u .swis) (u .lines) (u .state) → who ≡ running (y .lines) (y .state)
+      → y ≡ settledAfter n r (u .swis) (u .lines) (u .state) → who ≡ running (y .lines) (y .state)
       → stepOf (withDispatched u y) r who ≡ step t n a b c d
   unfolding step finished
   step-is {x} {r} {u} {y} p q s w =
       ap (stepOf (withDispatched u y) r) w
-      ∙ ap (λ (z : Dispatched). stepOf (withDispatched u z) r (running (z .lines) (z .state))) s
+      ∙ ap (λ (z : Dispatched). stepOf (withDispatched u z) r (running (z .lines) (z .state)))
+      (s ∙ settles-is t (sound-means t is) x n a b c d q)
       ∙ ap finished q
       ∙ ap (λ (k : ℕ). finished (answered t (callOf t k n a b c d))) p
 

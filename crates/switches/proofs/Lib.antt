@@ -1,2 +1,3 @@
+pub mod Still
 pub mod Steps
 pub mod Ticks

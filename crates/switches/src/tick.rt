@@ -9,6 +9,7 @@ ghost use mathlib.Core.Path.{_≡_};
 ghost use Rattle.rules.specs.Lines.{queued};
 ghost use Rattle.rules.specs.Swis.{posts};
 ghost use Rattle.rules.specs.Tick.{clockedOf, postedIf, clockTick, clocksTicked, oneLess, endedWith, taskTick, tasksTicked, tickedOf, ticked};
+ghost use Rattle.switches.specs.Still.{clocksStill, eightStill, eightTick};
 
 // The Swi of a clock that has come to 0 is posted.
 pub fn post_if(fired: bool, swis: &mut Swis, lines: &mut Lines, i: u32)
@@ -24,14 +25,34 @@ pub fn clock_tick(clocks: &mut Clocks, swis: &mut Swis, lines: &mut Lines, n: us
     ensures { λ _. ⌜ clockedOf (now (clocks .exit)) (now (swis .exit)) (now (lines .exit)) ≡ clockTick (clockedOf (now (clocks .entry)) (now (swis .entry)) (now (lines .entry))) n ⌝ }
 {
     let k = rows::words::clock(clocks, n);
+    if k.left == 0 {
+        return;
+    }
     let older = clocks::age_one(k);
     rows::words::set_clock(clocks, n, older.clock);
     post_if(older.fired, swis, lines, k.swi);
 }
 
+// No clock has ticks left. The words are put together first, so that one test serves all sixteen.
+pub fn clocks_still(clocks: &Clocks) -> bool
+    ensures { λ r. ⌜ r ≡ clocksStill (now (clocks .entry)) ⌝ }
+{
+    let mut left: u32 = 0;
+    let mut n: usize = 0;
+    while n < 16 {
+        left = left | rows::words::clock_word(clocks, n, 4);
+        n += 1;
+    }
+    left == 0
+}
+
+// All clocks, one tick older: nothing to do where none has ticks left.
 pub fn clocks_tick(clocks: &mut Clocks, swis: &mut Swis, lines: &mut Lines)
     ensures { λ _. ⌜ clockedOf (now (clocks .exit)) (now (swis .exit)) (now (lines .exit)) ≡ clocksTicked (now (clocks .entry)) (now (swis .entry)) (now (lines .entry)) ⌝ }
 {
+    if clocks_still(clocks) {
+        return;
+    }
     let mut n: usize = 0;
     while n < 16 {
         clock_tick(clocks, swis, lines, n);
@@ -81,13 +102,43 @@ pub fn task_tick(tasks: &mut Tasks, lines: &mut Lines, i: u32)
     rows::words::set_task(tasks, i as usize, one_less(k));
 }
 
+// None of the eight tasks from 8 g on has ticks left: one test for them all.
+pub fn eight_still(tasks: &Tasks, g: u8) -> bool
+    ensures { λ r. ⌜ r ≡ eightStill (now (tasks .entry)) g ⌝ }
+{
+    let at = (g as usize) * 8;
+    let mut left: u32 = 0;
+    let mut k: usize = 0;
+    while k < 8 {
+        left = left | rows::words::task_word(tasks, at + k, 3);
+        k += 1;
+    }
+    left == 0
+}
+
+// The eight tasks from 8 g on, one tick older: nothing to do where none has ticks left.
+pub fn eight_tick(tasks: &mut Tasks, lines: &mut Lines, g: u8)
+    ensures { λ _. ⌜ queued (now (tasks .exit)) (now (lines .exit)) ≡ eightTick (queued (now (tasks .entry)) (now (lines .entry))) g ⌝ }
+{
+    if eight_still(tasks, g) {
+        return;
+    }
+    let at = (g as u32) * 8;
+    let mut k: u32 = 0;
+    while k < 8 {
+        task_tick(tasks, lines, at + k);
+        k += 1;
+    }
+}
+
+// All tasks, one tick older, by eights.
 pub fn tasks_tick(tasks: &mut Tasks, lines: &mut Lines)
     ensures { λ _. ⌜ queued (now (tasks .exit)) (now (lines .exit)) ≡ tasksTicked (now (tasks .entry)) (now (lines .entry)) ⌝ }
 {
-    let mut i: u32 = 0;
-    while i < 32 {
-        task_tick(tasks, lines, i);
-        i += 1;
+    let mut g: u8 = 0;
+    while g < 4 {
+        eight_tick(tasks, lines, g);
+        g += 1;
     }
 }
 

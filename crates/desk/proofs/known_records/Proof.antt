@@ -3,7 +3,7 @@ use native.Mathlib.Omega.{arith}
 use lib.ListN.{length}
 use borrow.Author.Needs.{needs}
 use Rattle.rules.specs.Tables.{tables}
-use Rattle.desk.specs.Known.{Known}
+use Rattle.kernel.specs.Known.{Known}
 use Rattle.desk.proofs.Going.{Sofar, sofar-none, sofar-waits, sofar-over, sofar-more, sofar-less}
 use Rattle.desk.proofs.known_records.Statement.{statement}
 use Rattle.desk.proofs.known_records.Tie as tie

@@ -1,5 +1,5 @@
 use borrow.Author.Needs.{needs}
-use Rattle.kernel.proofs.Steps.{settled-accepted, settled-refused}
+use Rattle.kernel.proofs.Parts.{settled-refused, settled-accepted}
 use Rattle.kernel.proofs.calls.settle.Statement.{statement}
 use Rattle.kernel.proofs.calls.settle.Tie as tie
 
@@ -7,6 +7,8 @@ pub settle-spec : {M : Type 1} → statement M
 settle-spec =
     tie.close
     (tie.spec
+    (λ c. settled-refused _ _ _ _ _ (c .if1 .taken))
     (λ c κs. search needs)
-    (λ c. settled-accepted _ _ _ _ (c .before .before .before .before .if1 .taken) (c .dispatch .ensures))
-    (λ c. settled-refused _ _ _ _ (c .if1 .left)))
+    (λ c κs. search needs)
+    (λ c κs. search needs)
+    (λ c. settled-accepted _ _ _ _ _ (c .before .before .before .before .before .before .before .before .if1 .left) (c .before .before .before .before .before .before .before .left-by .ensures) (c .before .before .before .settle-swis .ensures) (c .settle-tasks .ensures)))

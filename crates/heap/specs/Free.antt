@@ -1,0 +1,23 @@
+-- Free units and adjacent ones, as the search for a run and the measure of a block look for them.
+use Prim.Native.Nat.{ℕ, _+_, _-_, min}
+use mathlib.Core.Bool.{Bool, not}
+use mathlib.Core.List.{List}
+use lib.Dec.{eqb}
+use Rattle.fold.specs.Find.{allBelow, firstBelow, firstFrom}
+use Rattle.rules.specs.Tables.{heapUnits}
+use Rattle.rules.specs.Heap.{unit, free}
+
+abbrev pub isFree : List ℕ → ℕ → Bool
+isFree h u = eqb (unit h u) free
+
+-- of the 16 units from u on none; a unit past the heap's end counts as free
+unfoldable pub noneFree : List ℕ → ℕ → Bool
+noneFree h u = allBelow 16 (λ k. not (isFree h (u + k)))
+
+-- the first from u on, which is at most 256; 256 where there is none
+unfoldable pub firstFree : List ℕ → ℕ → ℕ
+firstFree h u = firstFrom u (heapUnits - u) (isFree h)
+
+-- how many adjacent units from u on have entry e, n at most
+unfoldable pub adjacent : List ℕ → ℕ → ℕ → ℕ → ℕ
+adjacent h u n e = firstBelow (min n (heapUnits - u)) (λ k. not (eqb (unit h (u + k)) e))

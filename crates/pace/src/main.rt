@@ -1,0 +1,119 @@
+// Makes the calls of the log on standard input with `step`, again and again, and prints a sum over all answers: for measuring.
+use pacing::Calls;
+use rules::Clocks;
+use rules::Events;
+use rules::Heap;
+use rules::Lines;
+use rules::Mailboxes;
+use rules::Semaphores;
+use rules::State;
+use rules::Swis;
+use rules::Tasks;
+ghost use Rattle.rules.specs.Tables.{tables};
+ghost use Rattle.kernel.specs.Known.{Known};
+
+// The first n calls, on tables that were tested.
+fn make_calls(
+    known: bool,
+    tasks: &mut Tasks,
+    lines: &mut Lines,
+    semaphores: &mut Semaphores,
+    events: &mut Events,
+    mailboxes: &mut Mailboxes,
+    swis: &mut Swis,
+    clocks: &mut Clocks,
+    heap: &mut Heap,
+    state: &mut State,
+    calls: &Calls,
+    n: usize,
+    from: u32,
+) -> u32
+    requires { ⌜ Known known (tables
+        (now tasks) (now lines) (now semaphores)
+        (now events) (now mailboxes) (now swis)
+        (now clocks) (now heap) (now state)) ⌝ }
+{
+    let mut sum = from;
+    let mut k = 0;
+    while k < 3276 {
+        if n <= k {
+            return sum;
+        }
+        let said = kernel::known::known_call(
+            known,
+            tasks,
+            lines,
+            semaphores,
+            events,
+            mailboxes,
+            swis,
+            clocks,
+            heap,
+            state,
+            calls[k * 5],
+            calls[k * 5 + 1],
+            calls[k * 5 + 2],
+            calls[k * 5 + 3],
+            calls[k * 5 + 4],
+        );
+        let answer = said.answer;
+        let thread = said.thread;
+        sum = pacing::add(sum, answer, thread);
+        k += 1;
+    }
+    sum
+}
+
+// All of them, from fresh tables.
+fn one_round(calls: &Calls, n: usize, from: u32) -> u32 {
+    let fresh = kernel::entries::fresh();
+    let mut tasks = fresh.tasks;
+    let mut lines = fresh.lines;
+    let mut semaphores = fresh.semaphores;
+    let mut events = fresh.events;
+    let mut mailboxes = fresh.mailboxes;
+    let mut swis = fresh.swis;
+    let mut clocks = fresh.clocks;
+    let mut heap = fresh.heap;
+    let mut state = fresh.state;
+    let known = kernel::known::tested(
+        &tasks,
+        &lines,
+        &semaphores,
+        &events,
+        &mailboxes,
+        &swis,
+        &clocks,
+        &heap,
+        &state,
+    );
+    make_calls(
+        known,
+        &mut tasks,
+        &mut lines,
+        &mut semaphores,
+        &mut events,
+        &mut mailboxes,
+        &mut swis,
+        &mut clocks,
+        &mut heap,
+        &mut state,
+        calls,
+        n,
+        from,
+    )
+}
+
+fn main() {
+    let mut log = [0u8; 65520];
+    let n = pacing::read_log(&mut log) / 20;
+    let mut calls = [0u32; 16380];
+    pacing::as_calls(&log, &mut calls, n);
+    let mut sum = 0;
+    let mut left = pacing::rounds();
+    while 0 < left {
+        sum = one_round(&calls, n, sum);
+        left -= 1;
+    }
+    pacing::print_sum(sum);
+}

@@ -1,0 +1,89 @@
+// The same with the two entries that test the tables before each call: with `call_in_place`, or with `call` if a second argument is there.
+use pacing::Calls;
+
+// The calls in place on tables that are kept, from fresh ones.
+fn in_place(calls: &Calls, n: usize, from: u32) -> u32 {
+    let fresh = kernel::entries::fresh();
+    let mut tasks = fresh.tasks;
+    let mut lines = fresh.lines;
+    let mut semaphores = fresh.semaphores;
+    let mut events = fresh.events;
+    let mut mailboxes = fresh.mailboxes;
+    let mut swis = fresh.swis;
+    let mut clocks = fresh.clocks;
+    let mut heap = fresh.heap;
+    let mut state = fresh.state;
+    let mut sum = from;
+    let mut k = 0;
+    while k < 3276 {
+        if n <= k {
+            return sum;
+        }
+        let said = kernel::entries::call_in_place(
+            &mut tasks,
+            &mut lines,
+            &mut semaphores,
+            &mut events,
+            &mut mailboxes,
+            &mut swis,
+            &mut clocks,
+            &mut heap,
+            &mut state,
+            calls[k * 5],
+            calls[k * 5 + 1],
+            calls[k * 5 + 2],
+            calls[k * 5 + 3],
+            calls[k * 5 + 4],
+        );
+        let answer = said.answer;
+        let thread = said.thread;
+        sum = pacing::add(sum, answer, thread);
+        k += 1;
+    }
+    sum
+}
+
+// The calls on tables by value.
+fn by_value(calls: &Calls, n: usize, from: u32) -> u32 {
+    let mut tables = kernel::entries::fresh();
+    let mut sum = from;
+    let mut k = 0;
+    while k < 3276 {
+        if n <= k {
+            return sum;
+        }
+        let after = kernel::entries::call(
+            tables,
+            calls[k * 5],
+            calls[k * 5 + 1],
+            calls[k * 5 + 2],
+            calls[k * 5 + 3],
+            calls[k * 5 + 4],
+        );
+        let answer = after.answer;
+        let thread = after.thread;
+        sum = pacing::add(sum, answer, thread);
+        tables = after.tables;
+        k += 1;
+    }
+    sum
+}
+
+fn main() {
+    let mut log = [0u8; 65520];
+    let n = pacing::read_log(&mut log) / 20;
+    let mut calls = [0u32; 16380];
+    pacing::as_calls(&log, &mut calls, n);
+    let kept = os::arg_count() < 3;
+    let mut sum = 0;
+    let mut left = pacing::rounds();
+    while 0 < left {
+        if kept {
+            sum = in_place(&calls, n, sum);
+        } else {
+            sum = by_value(&calls, n, sum);
+        }
+        left -= 1;
+    }
+    pacing::print_sum(sum);
+}

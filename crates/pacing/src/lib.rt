@@ -1,0 +1,84 @@
+// What the programs that time the call core have in common: the calls of a log as words, and a sum over all answers.
+use rules::Answer;
+use rules::Thread;
+use text::Text;
+
+// Of a log the first 3,276 records are used.
+pub type Log = [u8; 65520];
+
+// A call's number and its four arguments, one call after the other.
+pub type Calls = [u32; 16380];
+
+// Reads standard input, once: a file gives all that fits.
+pub fn read_log(log: &mut [u8]) -> usize {
+    let got = libc::read(libc::STDIN_FILENO, log);
+    io::count(got, log)
+}
+
+fn wide(b: u8) -> u32 {
+    b as u32
+}
+
+// The first n records as words.
+pub fn as_calls(log: &Log, calls: &mut Calls, n: usize) {
+    let mut k = 0;
+    while k < 3276 {
+        if n <= k {
+            return;
+        }
+        let bytes = calllog::reader::read_arguments(log, k * 20);
+        calls[k * 5] = wide(log[k * 20 + 3]);
+        calls[k * 5 + 1] = calllog::argument(bytes, 0);
+        calls[k * 5 + 2] = calllog::argument(bytes, 1);
+        calls[k * 5 + 3] = calllog::argument(bytes, 2);
+        calls[k * 5 + 4] = calllog::argument(bytes, 3);
+        k += 1;
+    }
+}
+
+fn thread_word(thread: Thread) -> u32 {
+    match thread {
+        Thread::Task(i) => 84 ^ i,
+        Thread::Swi(i) => 83 ^ i,
+        Thread::Interrupt => 73,
+    }
+}
+
+// The sum goes on by an answer and a thread; their order counts.
+pub fn add(sum: u32, answer: Answer, thread: Thread) -> u32 {
+    let with_value = std::num::wrapping_add_u32(sum ^ answer.code, answer.value);
+    std::num::wrapping_add_u32(with_value ^ answer.outcome, thread_word(thread))
+}
+
+// How often the log is gone through, by the program's argument: 0 is once, 1 ten times, 2 a hundred times and so on.
+pub fn rounds() -> u32 {
+    let mut name = io::buffer();
+    let length = os::arg(1, &mut name);
+    if length == 0 {
+        return 1;
+    }
+    match name[0] {
+        b'1' => 10,
+        b'2' => 100,
+        b'3' => 1000,
+        b'4' => 10000,
+        _ => 1,
+    }
+}
+
+fn write_text(text: &[u8], len: usize) {
+    if len <= text.len() {
+        io::write_all(libc::STDOUT_FILENO, &text[..len]);
+    }
+}
+
+fn write_sum(out: &mut Text, sum: u32) {
+    let n = text::put_word(out, 0, b"sum", sum as u64);
+    write_text(out, n);
+}
+
+// Prints the sum.
+pub fn print_sum(sum: u32) {
+    let mut out = [0u8; 16384];
+    write_sum(&mut out, sum);
+}

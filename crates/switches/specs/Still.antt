@@ -1,0 +1,23 @@
+-- Clocks and tasks with no ticks left, which a tick leaves as they are.
+use Prim.Native.Nat.{ℕ, _+_, _*_}
+use mathlib.Core.Bool.{Bool}
+use mathlib.Core.List.{List}
+use lib.Dec.{eqb}
+use Rattle.fold.specs.Find.{allBelow, rising}
+use Rattle.rules.specs.Tables.{clockCount, clock, task}
+use Rattle.rules.specs.Lines.{Queued}
+use Rattle.rules.specs.Tick.{taskTick}
+
+-- none of the numbers below n has ticks left
+unfoldable pub still : ℕ → (ℕ → ℕ) → Bool
+still n left = allBelow n (λ k. eqb (left k) 0)
+
+abbrev pub clocksStill : List ℕ → Bool
+clocksStill cs = still clockCount (λ n. clock cs n .left)
+
+-- ---- the tasks by eights: eight g has the tasks from 8 g on
+abbrev pub eightStill : List ℕ → ℕ → Bool
+eightStill ts g = still 8 (λ k. task ts (g * 8 + k) .left)
+
+abbrev pub eightTick : Queued → ℕ → Queued
+eightTick q g = rising 8 (λ p k. taskTick p (g * 8 + k)) q

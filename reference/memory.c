@@ -1,0 +1,27 @@
+/* Runs a program, its output dropped, and prints the most memory that it had, in KiB. */
+#include <fcntl.h>
+#include <stdio.h>
+#include <sys/resource.h>
+#include <sys/wait.h>
+#include <unistd.h>
+
+int main(int argc, char **argv)
+{
+    struct rusage usage;
+    pid_t child;
+    int status;
+
+    if (argc < 2)
+        return 2;
+    child = fork();
+    if (child == 0) {
+        dup2(open("/dev/null", O_WRONLY), STDOUT_FILENO);
+        execv(argv[1], argv + 1);
+        _exit(2);
+    }
+    if (child < 0 || waitpid(child, &status, 0) != child || !WIFEXITED(status) || WEXITSTATUS(status) != 0)
+        return 2;
+    getrusage(RUSAGE_CHILDREN, &usage);
+    printf("%ld\n", usage.ru_maxrss);
+    return 0;
+}

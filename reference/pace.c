@@ -1,0 +1,64 @@
+/*
+ * Makes the calls of the log on standard input with core_call, again and again, and prints a sum over all answers: for measuring. It does what the
+ * programs `pace` and `pace_entries` do with the call core: the records are words first, and each round starts with fresh tables.
+ */
+#include "core.h"
+#include "log.h"
+
+#include <stdio.h>
+#include <unistd.h>
+
+enum { RECORDS = 3276, WORDS = 5 };
+
+static uint8_t bytes[RECORDS * RECORD_BYTES];
+static uint32_t calls[RECORDS * WORDS];
+
+static size_t read_calls(void)
+{
+    ssize_t got = read(STDIN_FILENO, bytes, sizeof bytes);
+    size_t n = got > 0 ? (size_t)got / RECORD_BYTES : 0;
+
+    for (size_t k = 0; k < n; k++) {
+        struct record record = { .call = bytes[k * RECORD_BYTES + 3], .arguments = bytes + k * RECORD_BYTES + 4 };
+
+        calls[k * WORDS] = record.call;
+        for (unsigned i = 0; i < 4; i++)
+            calls[k * WORDS + 1 + i] = log_argument(&record, i);
+    }
+    return n;
+}
+
+static uint32_t add(uint32_t sum, struct answer answer, struct thread thread)
+{
+    sum = (sum ^ (uint32_t)answer.code) + answer.value;
+    return (sum ^ (uint32_t)answer.outcome) + ((uint32_t)(uint8_t)thread.kind ^ thread.number);
+}
+
+static uint32_t one_round(size_t n, uint32_t sum)
+{
+    static struct tables t;
+
+    core_fresh(&t);
+    for (const uint32_t *call = calls; call < calls + n * WORDS; call += WORDS) {
+        struct answer answer = core_call(&t, call[0], call[1], call[2], call[3], call[4]);
+
+        sum = add(sum, answer, core_running(&t));
+    }
+    return sum;
+}
+
+/* The argument: 0 is one round, 1 ten, 2 a hundred and so on. */
+int main(int argc, char **argv)
+{
+    size_t n = read_calls();
+    uint32_t sum = 0;
+    uint32_t rounds = 1;
+
+    if (argc > 1)
+        for (int i = '0'; i < argv[1][0] && i < '4'; i++)
+            rounds *= 10;
+    while (rounds-- > 0)
+        sum = one_round(n, sum);
+    printf("sum %lu\n", (unsigned long)sum);
+    return 0;
+}
