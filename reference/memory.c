@@ -1,4 +1,5 @@
 /* Runs a program, its output dropped, and prints the most memory that it had, in KiB. */
+#define _DEFAULT_SOURCE
 #include <fcntl.h>
 #include <stdio.h>
 #include <sys/resource.h>
@@ -19,9 +20,8 @@ int main(int argc, char **argv)
         execv(argv[1], argv + 1);
         _exit(2);
     }
-    if (child < 0 || waitpid(child, &status, 0) != child || !WIFEXITED(status) || WEXITSTATUS(status) != 0)
+    if (child < 0 || wait4(child, &status, 0, &usage) != child || !WIFEXITED(status) || WEXITSTATUS(status) != 0)
         return 2;
-    getrusage(RUSAGE_CHILDREN, &usage);
     printf("%ld\n", usage.ru_maxrss);
     return 0;
 }

@@ -1,7 +1,7 @@
 -- Demand 3's worked example: in the run of `Story` every premise of `demand-3` is met for task 3, and what it says comes true. Here k is 2, one
 -- accepted post comes before the one that readies task 3, and j is 2.
 use Prim.Native.Nat.{ℕ, _<_}
-use mathlib.Core.Path.{_≡_, refl, sym, ap, subst}
+use mathlib.Core.Path.{_≡_, refl, sym, subst}
 use mathlib.Core.Logic.{_≢_, inl, inr, ⊎-elim}
 use mathlib.Core.List.{List, [], _∷_}
 use native.Mathlib.Omega.{arith}

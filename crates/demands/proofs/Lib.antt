@@ -1,5 +1,6 @@
 pub mod One
 pub mod Two
+pub mod Log
 pub mod Three
 pub mod BySteps
 pub mod Story

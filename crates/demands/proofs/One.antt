@@ -13,8 +13,7 @@ use Rattle.rules.specs.declared.Tables.{Tables}
 use Rattle.rules.specs.declared.Step.{Step}
 use Rattle.rules.specs.declared.Thread.the-variants.{Task}
 use Rattle.runs.specs.Run.{Asked, made}
-use Rattle.refusals.specs.Refusals.{refusal}
-use Rattle.refusals.specs.Refusals.{None}
+use Rattle.refusals.specs.Refusals.{refusal, None}
 use Rattle.refusals.proofs.Demand.{code-is, exactly-in, accepted-in, left-alone}
 
 -- `refusal t q k` is the row of code k in 01's table (refusals/specs); `None ks (refusal t q)` says that no row of these codes holds

@@ -4,7 +4,7 @@
 -- yielded it is at the front; it runs whenever it is there with no higher task ready, no interrupt open, no Swi active and both schedulers on."
 use Prim.{tt}
 use Prim.Native.Nat.{ℕ, _+_, _<_, _≤_}
-use mathlib.Core.Path.{_≡_, refl, sym, ap}
+use mathlib.Core.Path.{_≡_, refl, ap}
 use mathlib.Core.Logic.{_⊎_}
 use mathlib.Core.List.{List, [], _∷_, _++_, Sublistᴰ}
 use native.Mathlib.Omega.{arith}
@@ -19,11 +19,12 @@ use Rattle.rules.specs.declared.Tables.{Tables}
 use Rattle.rules.specs.declared.Thread.the-variants.{Task}
 use Rattle.runs.specs.Run.{Asked, asked, Words, made, next, after, Always, Each, AllWords}
 use Rattle.runs.specs.Turn.{BlockedOn, beforeAt, posts, ServedIn, ReadyAt, queue, Undisturbed, Gone, Unhindered}
+use Rattle.turns.proofs.Made.{next-typed, next-sound}
 use Rattle.turns.proofs.Begins.{begins, behind}
 use Rattle.turns.proofs.Waits.{turn, in-time}
 use Rattle.turns.proofs.Queues as InTurn
 use Rattle.turns.proofs.Fronts.{runs-there}
-use Rattle.demands.proofs.Two.{demand-2, sound-after}
+use Rattle.demands.proofs.Two.{sound-after}
 
 -- ---- the waiter: task i at semaphore s, behind k others, in tables u
 pub record Waits (s i k : ℕ) (u : Tables) : Type 0 where
@@ -62,15 +63,12 @@ pub record Turn (s i : ℕ) (others : List ℕ) (u : Tables) : Type 0 where
       → Queues (task (x .moment .tasks) i .priority) i (x .moment)
 
 -- ---- the parts
-keeps : (t : Tables) → Typed t → Sound t → (q : Asked) → Words q → Typed (next t q) × Sound (next t q)
-keeps t typed sound q w = let k = demand-2 t typed sound q w in (k .typed, k .sound)
-
 queues-in-turn : (v : Tables) → Typed v → Sound v → (p i : ℕ) → ReadyAt p i v → Queues p i v
 queues-in-turn v typed sound p i r =
     record {
-      order = λ qs w quiet. (InTurn.stays keeps p i v typed sound r qs w quiet, InTurn.order keeps p i v typed sound r qs w quiet);
-      gone = InTurn.gone keeps p i v typed sound r;
-      front = InTurn.front keeps p i v typed sound r;
+      order = λ qs w quiet. (InTurn.stays p i v typed sound r qs w quiet, InTurn.order p i v typed sound r qs w quiet);
+      gone = InTurn.gone p i v typed sound r;
+      front = InTurn.front p i v typed sound r;
       runs =
           λ qs w there first free.
           let (ty, so) = sound-after v typed sound qs w in runs-there (after v qs) ty so p i there free first;
@@ -85,7 +83,9 @@ words-before u (p ∷ qs) q rest w = let (before, here) = words-before (next u p
 module _ (t : Tables) (typed : Typed t) (sound : Sound t) (s : ℕ) (word : s < wordEnd) (arrival : semaphore (t .semaphores) s KIND < 2)
     (waits : made t (pend s) .answer .outcome ≡ nowWaiting) where
   begun : Typed (next t (pend s)) × Sound (next t (pend s))
-  begun = keeps t typed sound (pend s) record { first = word; second = omega arith; third = omega arith; fourth = omega arith }
+  begun =
+      let w : Words (pend s) = record { first = word; second = omega arith; third = omega arith; fourth = omega arith } in
+      (next-typed t typed sound (pend s) w, next-sound t typed sound (pend s) w)
 
   behind-them : length (beforeAt s (current (t .state)) (next t (pend s))) ≤ length (line (t .lines) (semaphoreLine s))
   behind-them = omega (arith, ap length (behind t typed sound s word arrival waits))
@@ -95,7 +95,8 @@ module _ (t : Tables) (typed : Typed t) (sound : Sound t) (s : ℕ) (word : s < 
   moment-sound qs w x =
       let (before, here) = words-before (next t (pend s)) (x .before) (x .post) (x .rest) (rw (x .split) at w) in
       let (ty, so) = sound-after (next t (pend s)) (begun .0) (begun .1) (x .before) before in
-      rw (x .now) (keeps (after (next t (pend s)) (x .before)) ty so (x .post) here)
+      let u = after (next t (pend s)) (x .before) in
+      rw (x .now) (next-typed u ty so (x .post) here, next-sound u ty so (x .post) here)
 
   pub demand-3 : Turn s (current (t .state)) (line (t .lines) (semaphoreLine s)) (next t (pend s))
   demand-3 =
@@ -104,8 +105,8 @@ module _ (t : Tables) (typed : Typed t) (sound : Sound t) (s : ℕ) (word : s < 
         behind = behind t typed sound s word arrival waits;
         waits =
             record {
-              turn = turn keeps s (current (t .state)) _ (next t (pend s)) (begun .0) (begun .1) w behind-them;
-              inTime = in-time keeps s (current (t .state)) _ (next t (pend s)) (begun .0) (begun .1) w behind-them;
+              turn = turn s (current (t .state)) _ (next t (pend s)) (begun .0) (begun .1) w behind-them;
+              inTime = in-time s (current (t .state)) _ (next t (pend s)) (begun .0) (begun .1) w behind-them;
             };
         queues =
             λ qs words x.

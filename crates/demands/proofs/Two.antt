@@ -1,17 +1,17 @@
 -- Demand 2: "From sound tables each call leaves sound tables and has exactly the effect in document 01, .., and the running thread is the one
--- its dispatch rule names."
+-- its dispatch rule names." That "log records are read by exactly its layout" is in `Log`.
 use Prim.{tt}
-use Prim.Native.Nat.{ℕ}
 use mathlib.Core.Path.{_≡_, refl, sym, ap, subst, _∙_}
 use mathlib.Core.Logic.{_≢_}
 use mathlib.Core.Bool.{not, false≢true}
 use mathlib.Core.List.{List, [], _∷_}
 use native.Mathlib.Omega.{arith}
+use Rattle.fold.specs.Lists.{count}
 use Rattle.rules.specs.Tables.{Typed}
 use Rattle.rules.specs.Fresh.{fresh}
 use Rattle.rules.specs.Dispatch.{running, dispatched, dispatchedOf}
 use Rattle.rules.specs.Sound.{Sound, sound}
-use Rattle.rules.specs.Step.{step, call, finished}
+use Rattle.rules.specs.Step.{step, finished}
 use Rattle.rules.proofs.Agree.{sound-means, means-sound}
 use Rattle.rules.proofs.Faster.{fresh-sound}
 use Rattle.rules.specs.declared.Tables.{Tables}
@@ -19,10 +19,8 @@ use Rattle.rules.specs.declared.Step.{Step}
 use Rattle.runs.specs.Run.{Asked, Words, made, next, after, Each, AllWords}
 use Rattle.refusals.proofs.Demand.{exactly-in}
 use Rattle.refusals.specs.Refusals.{refusal}
-use Rattle.fold.specs.Lists.{count}
-use Rattle.keeps.proofs.Groups as Groups
-use Rattle.keeps.proofs.Keeps.{step-typed, step-sound}
 use Rattle.keeps.proofs.Nothing.{nothing-left}
+use Rattle.turns.proofs.Made.{is-step, next-typed, next-sound}
 
 pub record Kept (t : Tables) (q : Asked) : Type 0 where
   -- what the call does is the definition's step: the test of soundness may be skipped, and code 10 never comes
@@ -44,29 +42,19 @@ step-thread t q = refl
 
 -- ---- one call
 module _ (t : Tables) (typed : Typed t) (s : Sound t) (q : Asked) (w : Words q) where
-  is-step : made t q ≡ step t (q .number) (q .a) (q .b) (q .c) (q .d)
-  unfolding call
-  is-step = rw (means-sound t s)
-
   not-10 : made t q .answer .code ≢ 10
   unfolding count refusal
   not-10 e = false≢true (sym (ap not (means-sound t s)) ∙ exactly-in t q 10 (omega arith) .0 e .0)
 
-  words : Groups.Words (q .a) (q .b) (q .c) (q .d)
-  words = record { first = w .first; second = w .second; third = w .third; fourth = w .fourth }
-
-  next-sound : Sound (next t q)
-  next-sound = subst (λ (r : Step). Sound (r .tables)) (sym is-step) (step-sound t typed s (q .number) (q .a) (q .b) (q .c) (q .d) words)
-
   pub demand-2 : Kept t q
   demand-2 =
       record {
-        effect = is-step;
+        effect = is-step t s q;
         tested = not-10;
-        typed = subst (λ (r : Step). Typed (r .tables)) (sym is-step) (step-typed t typed s (q .number) (q .a) (q .b) (q .c) (q .d) words);
-        sound = next-sound;
-        thread = subst (λ (r : Step). r .thread ≡ running (r .tables .lines) (r .tables .state)) (sym is-step) (step-thread t q);
-        settled = nothing-left (next t q) next-sound;
+        typed = next-typed t typed s q w;
+        sound = next-sound t typed s q w;
+        thread = subst (λ (r : Step). r .thread ≡ running (r .tables .lines) (r .tables .state)) (sym (is-step t s q)) (step-thread t q);
+        settled = nothing-left (next t q) (next-sound t typed s q w);
       }
 
 -- ---- "Fresh tables are sound"

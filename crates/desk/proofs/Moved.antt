@@ -7,7 +7,7 @@ use native.Mathlib.Numerals.{add-one}
 use native.Mathlib.Nat.{zero-add}
 use native.Mathlib.Omega.{arith}
 use lib.ListN.{length, getD, take, drop, set, length-take, length-drop}
-use lib.Seq.{sets, length-sets, take-all, take-suc, getD-drop, getD-take, length-take-le, sets-eq, take-append-seam}
+use lib.Seq.{sets, length-sets, take-all, take-suc, getD-drop, getD-take, length-take-le}
 use Rattle.fold.proofs.Runs.{getD-sets-out, sets-snoc}
 
 -- those from `at` on, of the first n of part xs
@@ -51,9 +51,3 @@ module _ (xs : List ℕ) (at n : ℕ) where
       moved-all h =
           let l : length (drop at (take n xs)) ≤ i = omega (arith, m .from-is, rest-length) in
           (m .bytes ∙ rw (take-all i (drop at (take n xs)) l), omega (arith, m .below))
-
--- bytes that wait are what a part begins with afterwards
-pub in-front : (xs ws : List ℕ) → length ws ≤ length xs → take (length ws) (sets xs 0 ws) ≡ ws
-in-front xs ws h =
-    let e : 0 + length ws ≤ length xs = omega arith in
-    ap (take (length ws)) (sets-eq ws xs 0 e) ∙ take-append-seam ws (drop (0 + length ws) xs)

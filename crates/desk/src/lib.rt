@@ -1,5 +1,7 @@
 // The replay of a log that comes part by part, as text. The calls are made on lent tables, and of the log only the bytes of a record
 // that is not whole yet are kept.
+pub mod last;
+
 use kernel::calls::Said;
 use rules::Clocks;
 use rules::Events;
@@ -20,8 +22,7 @@ ghost use Rattle.rules.specs.Log.{argumentBytes};
 ghost use Rattle.rules.specs.Tables.{tables};
 ghost use Rattle.rules.specs.Step.{stepOf};
 ghost use Rattle.rules.specs.Replay.{recordCall};
-ghost use Rattle.text.specs.Put.{Put};
-ghost use Rattle.desk.specs.Part.{lastText, partOf};
+ghost use Rattle.desk.specs.Part.{partOf};
 ghost use Rattle.kernel.specs.Known.{Known};
 ghost use Rattle.desk.specs.Done.{Lined, Gone, Turned};
 
@@ -142,37 +143,6 @@ fn record_line(
     text::put_line(out, at, n, answer, thread)
 }
 
-// The last line, where something else than a record was found.
-pub fn put_last(out: &mut Text, at: usize, found: Read, offset: u64, n: u64) -> usize
-    ensures { λ r. ⌜ Put (now (out .entry)) at (lastText found offset n) (now (out .exit)) r ⌝ }
-{
-    match found {
-        Read::Record {
-            number: _,
-            start: _,
-        } => at,
-        Read::End => text::put_word(out, at, b"end", n),
-        Read::Cut(k) => text::put_word(
-            out,
-            at,
-            b"cut",
-            std::num::wrapping_add_u64(offset, k as u64),
-        ),
-        Read::Length(k) => text::put_word(
-            out,
-            at,
-            b"length",
-            std::num::wrapping_add_u64(offset, k as u64),
-        ),
-        Read::Version(k) => text::put_word(
-            out,
-            at,
-            b"version",
-            std::num::wrapping_add_u64(offset, k as u64),
-        ),
-    }
-}
-
 // Where the records of a part stopped.
 pub struct Ran {
     pub at: usize,
@@ -220,7 +190,7 @@ fn known_records(
         let step = calllog::reader::read_next(log, at);
         let found = step.found;
         let Read::Record { number, start: _ } = found else {
-            let end = put_last(out, len, found, offset, n);
+            let end = last::put_last(out, len, found, offset, n);
             return Ran {
                 at: log.len(),
                 count: n,

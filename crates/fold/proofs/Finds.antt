@@ -103,15 +103,6 @@ pub first-below-is : (n : ℕ) (f : ℕ → Bool) → IsFirst 0 n f (firstBelow 
 unfolding firstBelow
 first-below-is n f = rw zero-add at (first-is 0 n f)
 
--- there is one such
-pub first-one : (s e : ℕ) (f : ℕ → Bool) (r q : ℕ) → IsFirst s e f r → IsFirst s e f q → r ≡ q
-first-one s e f r q a b = le-antisymm (not-above r q a b) (not-above q r b a)
-  where
-    not-above : (r q : ℕ) → IsFirst s e f r → IsFirst s e f q → r ≤ q
-    not-above r q a b =
-        let g : q < r → ⊥ = λ l. true≢false (sym (b .has (omega arith)) ∙ a .before q (omega arith) l) in
-        omega arith
-
 -- ---- the highest: a search downwards has the numbers below i left, and the answer among those is the whole answer, r
 pub high-goes : (f : ℕ → Bool) (i r : ℕ) → 0 < i → f (i - 1) ≡ false → highestBelow i f ≡ r → highestBelow (i - 1) f ≡ r
 unfolding highestBelow

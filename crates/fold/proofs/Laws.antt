@@ -9,7 +9,7 @@ use native.Mathlib.Omega.{arith}
 use native.Mathlib.Decide.{ℕ-discrete}
 use lib.Dec.{eqb}
 use native.Mathlib.Decide.{decLt}
-use borrow.Author.Tests.{eqb-true, eqb-false, eq-eqb, ne-eqb, lt-ltb, le-ltb}
+use borrow.Author.Tests.{eq-eqb, ne-eqb}
 use lib.ListN.{length, take, drop, getD, length-append, take-append-drop, drop-of-length-le}
 use lib.Seq.{take-length, drop-length, drop-cons, take-all}
 use Rattle.fold.specs.Lists.{bit, count, without, putAt, firstWhere, ahead}
@@ -137,13 +137,6 @@ without-absent x (z ∷ zs) h =
     (λ (m : z ≢ x). let k : count x zs ≡ 0 = omega (arith, h) in simp (ne-eqb z x m, without-absent x zs k))
     (same? z x)
 
--- who is put in and taken out again leaves the line as it was
-pub without-putAt : (x i : ℕ) (xs : List ℕ) → count x xs ≡ 0 → without x (putAt i x xs) ≡ xs
-unfolding without putAt
-without-putAt x i xs out =
-    without-append x (take i xs) (x ∷ drop i xs)
-    ∙ simp (eq-eqb x x refl) (sym (without-append x (take i xs) (drop i xs)) ∙ ap (without x) (take-append-drop i xs) ∙ without-absent x xs out)
-
 -- ---- order: those in front of y
 pub ahead-snoc : (y x : ℕ) (xs : List ℕ) → 0 < count y xs → ahead y (xs ++ (x ∷ [])) ≡ ahead y xs
 unfolding count ahead
@@ -172,11 +165,6 @@ without-sub x (z ∷ zs) =
     (λ (e : z ≡ x). rw (eq-eqb z x e) (Sublistᴰ·cons (without-sub x zs)))
     (λ (n : z ≢ x). rw (ne-eqb z x n) (Sublistᴰ·cons-cons refl (without-sub x zs)))
     (same? z x)
-
--- who is put in takes nobody's place: without the newcomer, those in front of y are as before
-pub ahead-putAt : (y i x : ℕ) (xs : List ℕ) → y ≢ x → count x xs ≡ 0 → without x (ahead y (putAt i x xs)) ≡ ahead y xs
-ahead-putAt y i x xs n out =
-    sym (ahead-without y x (putAt i x xs) n) ∙ ap (ahead y) (without-putAt x i xs out)
 
 -- ---- places
 pub firstWhere-le : (t : ℕ → Bool) (xs : List ℕ) → firstWhere t xs ≤ length xs
@@ -224,10 +212,6 @@ pub count-first : (xs : List ℕ) → 0 < length xs → 0 < count (getD xs 0 0) 
 unfolding count
 count-first [] h = absurd (omega arith)
 count-first (x ∷ xs) h = omega (arith, ap bit (eq-eqb x x refl))
-
-pub first-rest : (xs : List ℕ) → 0 < length xs → xs ≡ getD xs 0 0 ∷ drop 1 xs
-first-rest [] h = absurd (omega arith)
-first-rest (x ∷ xs) h = refl
 
 pub no-length : (xs : List ℕ) → length xs ≤ 0 → xs ≡ []
 no-length [] h = refl

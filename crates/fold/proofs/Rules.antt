@@ -1,7 +1,7 @@
 -- What a rule computes and what it says agree, for every rule.
-use mathlib.Core.Path.{_≡_, refl, sym, ap, _∙_}
+use mathlib.Core.Path.{_≡_, refl, ap}
 use mathlib.Core.Logic.{_↔_, _⊎_, inl, inr, ⊎-elim, Iff·rfl, Iff·and, Iff·trans}
-use mathlib.Core.Bool.{Bool, true, false, not, _||_, true≢false, false≢true, and-eq-true-iff}
+use mathlib.Core.Bool.{Bool, true, false, not, _||_, false≢true, and-eq-true-iff}
 use lib.Dec.{eqb}
 use borrow.Author.Tests.{ltb-true, lt-ltb, eqb-true, eqb-false, eq-eqb, ne-eqb, not-true}
 use Rattle.fold.specs.Rule.{Rule, _is_, _isnt_, _under_, test, _and_, _or_, _gives_, each, every, holds, Means}
@@ -28,6 +28,3 @@ agree (each n f) =
     (λ e i l. agree (f i) .0 (all-at (λ j. holds (f j)) n e i l), λ m. all-make (λ j. holds (f j)) n (λ i l. agree (f i) .1 (m i l)))
 agree (every xs f) =
     (λ e k l. agree (f _) .0 (allOf-at (λ x. holds (f x)) xs e k l), λ m. allOf-make (λ x. holds (f x)) xs (λ k l. agree (f _) .1 (m k l)))
-
-pub fails : (r : Rule) → holds r ≡ false → Means r → ⊥
-fails r e m = true≢false (sym (agree r .1 m) ∙ e)

@@ -1,11 +1,11 @@
 -- Runs of reads and of stores, over any list: none asks for its length but `reads-sets`.
-use Prim.Native.Nat.{ℕ, zero, suc, _+_, _*_, _-_, _≤_, _<_}
+use Prim.Native.Nat.{ℕ, zero, suc, _+_, _-_, _≤_, _<_}
 use mathlib.Core.Path.{_≡_, refl, sym, ap, _∙_}
-use mathlib.Core.Logic.{_≢_, _⊎_, inl, inr, ⊎-elim}
+use mathlib.Core.Logic.{_⊎_, inl, inr, ⊎-elim}
 use mathlib.Core.List.{List, [], _∷_, _++_}
 use native.Mathlib.Omega.{arith}
-use lib.ListN.{length, take, drop, getD, set, replicate, length-set}
-use lib.Seq.{sets, length-sets, set-comm, set-set, set-getD, getD-set-same, getD-set-other}
+use lib.ListN.{length, take, drop, getD, set, length-set}
+use lib.Seq.{sets, set-comm, set-set, set-getD, getD-set-same, getD-set-other}
 use Rattle.fold.specs.Lists.{firsts, reads}
 
 -- a run of stores changes nothing outside it

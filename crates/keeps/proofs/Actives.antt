@@ -1,21 +1,18 @@
 -- Lists whose members rise strictly in some measure, as the active Swis do in priority: how many there are, and the last one comes and goes.
-use Prim.Native.Nat.{ℕ, zero, suc, _+_, _-_, _≤_, _<_}
+use Prim.Native.Nat.{ℕ, zero, suc, _-_, _≤_, _<_}
 use mathlib.Core.Path.{_≡_, refl, sym, ap, _∙_}
 use mathlib.Core.Logic.{_≢_, ⊎-elim}
 use mathlib.Core.List.{List, [], _∷_, _++_, append-nil}
 use native.Mathlib.Omega.{arith}
 use borrow.Author.Tests.{eq-eqb}
-use lib.ListN.{length, take, getD, length-append, List·getD-append}
+use lib.ListN.{length, take, getD, List·getD-append}
 use lib.Seq.{length-take-le, take-all, take-suc, getD-take, getD-at}
 use Rattle.fold.specs.Lists.{count, without}
 use Rattle.fold.proofs.Laws.{lt-or-le, without-append, without-absent}
-use Rattle.keeps.proofs.Members.{place-of}
+use Rattle.laws.proofs.InPlace.{length-snoc}
+use Rattle.keeps.proofs.Members.{of-member}
 
 -- ---- members
--- what holds at each place holds of each who is there
-pub of-member : (P : ℕ → Type 0) (xs : List ℕ) → ((k : ℕ) → k < length xs → P (getD xs k 0)) → (x : ℕ) → 0 < count x xs → P x
-of-member P xs all x h = let p = place-of x xs h in rw (p .2) at (all (p .0) (p .1))
-
 pub no-member : (xs : List ℕ) (x : ℕ) → ((k : ℕ) → k < length xs → getD xs k 0 ≢ x) → count x xs ≡ 0
 no-member xs x all = let g : 0 < count x xs → ⊥ = λ h. of-member (λ y. y ≢ x) xs all x h refl in omega arith
 
@@ -23,7 +20,7 @@ no-member xs x all = let g : 0 < count x xs → ⊥ = λ h. of-member (λ y. y �
 pub every-more : (P : ℕ → Type 0) (xs : List ℕ) (x : ℕ) → ((k : ℕ) → k < length xs → P (getD xs k 0)) → P x
     → (k : ℕ) → k < length (xs ++ (x ∷ [])) → P (getD (xs ++ (x ∷ [])) k 0)
 every-more P xs x all here k h =
-    let n : length (xs ++ (x ∷ [])) ≡ suc (length xs) = length-append xs (x ∷ []) ∙ omega arith in
+    let n = length-snoc xs x in
     ⊎-elim
     (λ (p : k < length xs). rw (List·getD-append xs (x ∷ []) 0 k p) (all k p))
     (λ (p : length xs ≤ k). let e : length xs ≡ k = omega arith in rw (getD-at xs x [] 0 k e) here)
@@ -68,7 +65,7 @@ module _ (f : ℕ → ℕ) (xs : List ℕ) (r : Rises f xs) where
   -- one with more comes behind all
   pub rises-more : (x : ℕ) → (0 < length xs → f (getD xs (length xs - 1) 0) < f x) → Rises f (xs ++ (x ∷ []))
   rises-more x above k h =
-      let n : length (xs ++ (x ∷ [])) ≡ suc (length xs) = length-append xs (x ∷ []) ∙ omega arith in
+      let n = length-snoc xs x in
       let l : k < length xs = omega arith in
       let e : getD (xs ++ (x ∷ [])) k 0 ≡ getD xs k 0 = List·getD-append xs (x ∷ []) 0 k l in
       ⊎-elim

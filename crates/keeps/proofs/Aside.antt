@@ -1,8 +1,8 @@
 -- Tasks move aside of the lines of Swis: from a line and into one that are none of theirs. Each move of the calls of tasks, semaphores, events and
 -- mailboxes is one of these.
 use Prim.Native.Nat.{ℕ, _<_, _≤_}
-use mathlib.Core.Path.{_≡_, refl, _∙_}
-use mathlib.Core.Logic.{_≢_}
+use mathlib.Core.Path.{_≡_, refl, sym, _∙_}
+use mathlib.Core.Logic.{_≢_, ⊎-elim}
 use mathlib.Core.List.{List}
 use native.Mathlib.Omega.{arith}
 use lib.Dec.{eqb, ltb}
@@ -14,18 +14,25 @@ use Rattle.rules.specs.Tasks.{blocked, placedAt, reprioritized}
 use Rattle.rules.specs.Sound.{tasksRule}
 use Rattle.rules.specs.declared.Task.{Task}
 use Rattle.laws.proofs.Lines.{left-other, entered-other}
-use Rattle.keeps.proofs.Groups.{SwisStay}
-use Rattle.keeps.proofs.TaskRows.{task-stands, stands-in}
-use Rattle.keeps.proofs.Moves.{not-swi}
-use Rattle.keeps.proofs.Chosen.{chosen}
+use Rattle.laws.proofs.Calls.{chosen}
+use Rattle.keeps.proofs.Groups.{OfTasks, SwisStay}
+use Rattle.keeps.proofs.TaskRows.{Stands, task-stands, stands-in}
+
+-- no line of tasks is one of Swis
+pub not-of-swis : (j k : ℕ) → OfTasks j → postedLine 0 ≤ k → k ≤ activeLine → j ≢ k
+not-of-swis j k o low high e = ⊎-elim (λ h. omega arith) (λ h. omega arith) o
 
 -- the number is that of no line of Swis
 abbrev pub Aside : ℕ → Type 0
 Aside h = (j : ℕ) → postedLine 0 ≤ j → j ≤ activeLine → j ≢ h
 
+-- so is that of the line where a task's row stands
+pub stands-aside : (k : Task) → Stands k → Aside (homeOf k)
+stands-aside k s j low high e = ⊎-elim (λ o. not-of-swis (homeOf k) j o low high (sym e)) (λ n. omega arith) (stands-in k s)
+
 module _ (q : Queued) (rows : Means (tasksRule (q .tasks))) where
   pub home-aside : (i : ℕ) → Aside (taskHome (q .tasks) i)
-  home-aside i j = not-swi (taskHome (q .tasks) i) j (stands-in (task (q .tasks) i) (task-stands (q .tasks) rows i))
+  home-aside i = stands-aside (task (q .tasks) i) (task-stands (q .tasks) rows i)
 
   pub moved-aside : (place : List ℕ → ℕ) (i : ℕ) (k : Task) → Aside (homeOf k) → SwisStay (q .lines) (moved place i k q .lines)
   unfolding moved

@@ -1,20 +1,15 @@
 -- A kind's calls by number: a choice of calls that keep what dispatch starts from keeps it.
-use mathlib.Core.Path.{_≡_, refl}
-use mathlib.Core.Bool.{Bool, true, false, true≢false, cond as if}
+use mathlib.Core.Bool.{Bool, cond as if}
 use mathlib.Core.Logic.{inl}
 use Rattle.rules.specs.Answer.{Call, unknown}
 use Rattle.rules.specs.Tables.{Typed}
 use Rattle.rules.specs.Sound.{Sound}
 use Rattle.rules.specs.declared.Tables.{Tables}
+pub use Rattle.laws.proofs.Calls.{chosen}
 use Rattle.keeps.proofs.Groups.{Keeps, Settling}
-use Rattle.keeps.proofs.Codes.{accepted-is}
+use Rattle.keeps.proofs.Codes.{unknown-refused}
 use Rattle.keeps.proofs.Standing.{sound-almost}
 use Rattle.keeps.proofs.Waiting.{sound-ranges, still-ready}
-
--- what holds in both cases holds of the choice
-pub chosen : {A : Type 0} (P : A → Type 0) (b : Bool) (x y : A) → (b ≡ true → P x) → (b ≡ false → P y) → P (if b x y)
-chosen P true x y p q = p refl
-chosen P false x y p q = q refl
 
 -- `Keeps` as a record: a choice among calls is then compared once, and not for each table that `put` names
 pub record Kept {A : Type 0} (put : A → Tables) (c : Call A) : Type 0 where
@@ -32,7 +27,7 @@ module _ {A : Type 0} (put : A → Tables) where
 
   -- an unknown number is refused
   pub unknown-keeps : (x : A) → Keeps put (unknown x)
-  unknown-keeps x z = absurd (true≢false (accepted-is (unknown x .cases) z .at1))
+  unknown-keeps x z = absurd (unknown-refused x z)
 
   pub unknown-kept : (x : A) → Kept put (unknown x)
   unknown-kept x = kept (unknown x) (unknown-keeps x)

@@ -1,6 +1,6 @@
 -- A clock's row: what is read after it is stored, and that a row which its rule allows keeps the rules.
 use Prim.Native.Nat.{ℕ, _<_}
-use mathlib.Core.Path.{_≡_, refl, _∙_}
+use mathlib.Core.Path.{_≡_, refl}
 use mathlib.Core.Logic.{_≢_, ⊎-elim}
 use mathlib.Core.List.{List}
 use native.Mathlib.Omega.{arith}
@@ -8,12 +8,12 @@ use lib.ListN.{length}
 use Rattle.fold.specs.Rule.{Means}
 use Rattle.fold.proofs.Laws.{same?}
 use Rattle.rules.specs.Tables.{clockCount, clockWidth, clock, clockWords, withClock}
-use Rattle.rules.specs.Sound.{clockRule, clocksRule}
+use Rattle.rules.specs.Sound.{clockRule}
 use Rattle.rules.specs.Step.{withClocks}
 use Rattle.rules.specs.declared.Tables.{Tables}
 use Rattle.rules.specs.declared.Clock.{Clock}
 use Rattle.laws.proofs.Rows.{row-same, row-other, length-withRow}
-use Rattle.keeps.proofs.Groups.{Almost}
+use Rattle.keeps.proofs.Groups.{Almost, others-change}
 
 module _ (cs : List ℕ) (i : ℕ) (k : Clock) where
   pub length-withClock : length (withClock cs i k) ≡ length cs
@@ -32,40 +32,14 @@ module _ (cs : List ℕ) (i : ℕ) (k : Clock) where
       let f : (g : ℕ) → _ = λ g. row-other clockWidth clockCount cs i (clockWords k) refl x g n in
       rw (f 0, f 1, f 2, f 3, f 4)
 
--- the clocks change alone
-pub clocks-almost : (t : Tables) → Almost t → (cs : List ℕ) → length cs ≡ 80 → Means (clocksRule cs (t .swis)) → Almost (withClocks t cs)
-clocks-almost t a cs all rule =
-    record {
-      typed =
-          record {
-            tasks = a .typed .tasks;
-            lines = a .typed .lines;
-            semaphores = a .typed .semaphores;
-            events = a .typed .events;
-            mailboxes = a .typed .mailboxes;
-            swis = a .typed .swis;
-            clocks = all;
-            heap = a .typed .heap;
-            state = a .typed .state;
-          };
-      heap = a .heap;
-      clocks = rule;
-      tasks = a .tasks;
-      lines = a .lines;
-      standing = a .standing;
-      semaphores = a .semaphores;
-      events = a .events;
-      mailboxes = a .mailboxes;
-      swis = a .swis;
-      active = a .active;
-    }
-
 -- one clock changes, to a row that its rule allows
 pub clock-keeps : (t : Tables) → Almost t → (i : ℕ) (k : Clock) → Means (clockRule (t .swis) k) → Almost (withClocks t (withClock (t .clocks) i k))
 clock-keeps t a i k rule =
-    clocks-almost t a (withClock (t .clocks) i k) (length-withClock (t .clocks) i k ∙ a .typed .clocks)
+    others-change t a (t .semaphores) (t .events) (t .mailboxes) (withClock (t .clocks) i k) (t .heap) (t .state)
+    refl refl refl (length-withClock (t .clocks) i k) refl refl (a .semaphores) (a .events) (a .mailboxes)
     (λ x h.
     ⊎-elim
     (λ (e : x ≡ i). rw (e, clock-same (t .clocks) i k (a .typed .clocks) (rw e at h)) rule)
     (λ (n : x ≢ i). rw (clock-other (t .clocks) i k x n) (a .clocks x h))
     (same? x i))
+    (a .heap)

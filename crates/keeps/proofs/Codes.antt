@@ -1,10 +1,10 @@
 -- An accepted call: none of its cases holds.
 use Prim.Native.Nat.{ℕ, suc}
 use mathlib.Core.Path.{_≡_, refl}
-use mathlib.Core.Bool.{Bool, true, false, cond as if}
+use mathlib.Core.Bool.{Bool, true, false, true≢false, cond as if}
 use mathlib.Core.List.{List, _∷_}
 use native.Mathlib.Omega.{arith}
-use Rattle.rules.specs.Answer.{Cases, firstGiven, codeOf}
+use Rattle.rules.specs.Answer.{Cases, unknown, firstGiven, codeOf}
 
 pub record Accepted (c : Cases) : Type 0 where
   pub at1 : c 1 ≡ false
@@ -39,3 +39,7 @@ accepted-is c z =
     let (n8, z8) = first-fails 7 _ c z7 in
     let (n9, z9) = first-fails 8 _ c z8 in
     record { at1 = n1; at2 = n2; at3 = n3; at4 = n4; at5 = n5; at6 = n6; at7 = n7; at8 = n8; at9 = n9 }
+
+-- an unknown number is refused
+pub unknown-refused : {A : Type 0} (x : A) → codeOf (unknown x .cases) ≡ 0 → ⊥
+unknown-refused x z = true≢false (accepted-is (unknown x .cases) z .at1)

@@ -1,13 +1,14 @@
 -- The rules of sound tables in the form in which a call keeps them, and what holds between a call's effect and the dispatch after it.
-use Prim.Native.Nat.{ℕ, _≤_, _<_, _^_}
-use mathlib.Core.Path.{_≡_}
+use Prim.Native.Nat.{ℕ, _≤_, _<_}
+use mathlib.Core.Path.{_≡_, _∙_}
 use mathlib.Core.Logic.{_⊎_}
 use mathlib.Core.Bool.{true, false}
 use mathlib.Core.List.{List}
 use lib.Dec.{eqb}
+use lib.ListN.{length}
 use Rattle.fold.specs.Lists.{bit, count}
 use Rattle.fold.specs.Rule.{Means}
-use Rattle.rules.specs.Tables.{Typed, taskCount, wordEnd, ready, task, state, DEPTH, SWIS, TASKS, CURRENT}
+use Rattle.rules.specs.Tables.{Typed, tables, taskCount, wordEnd, ready, task, state, DEPTH, SWIS, TASKS, CURRENT}
 use Rattle.rules.specs.Lines.{lineCount, postedLine, activeLine, line, taskHome, swiHome}
 use Rattle.rules.specs.Answer.{Call, codeOf}
 use Rattle.rules.specs.Dispatch.{swiDue, taskDue}
@@ -47,6 +48,38 @@ pub record Almost (t : Tables) : Type 0 where
   pub mailboxes : Means (mailboxesRule (t .tasks) (t .mailboxes) (t .lines))
   pub swis : Means (swisRule (t .swis) (t .lines))
   pub active : Means (activeRule (t .swis) (t .lines))
+
+-- the tables in which nobody stands change: the objects, the clocks, the heap and the state
+pub others-change : (t : Tables) → Almost t → (ss es ms cs h st : List ℕ)
+    → length ss ≡ length (t .semaphores) → length es ≡ length (t .events) → length ms ≡ length (t .mailboxes) → length cs ≡ length (t .clocks)
+    → length h ≡ length (t .heap) → length st ≡ length (t .state)
+    → Means (semaphoresRule ss (t .lines)) → Means (eventsRule (t .tasks) es (t .lines)) → Means (mailboxesRule (t .tasks) ms (t .lines))
+    → Means (clocksRule cs (t .swis)) → Means (heapRule h) → Almost (tables (t .tasks) (t .lines) ss es ms (t .swis) cs h st)
+others-change t a ss es ms cs h st sl el ml cl hl tl sr er mr cr hr =
+    record {
+      typed =
+          record {
+            tasks = a .typed .tasks;
+            lines = a .typed .lines;
+            semaphores = sl ∙ a .typed .semaphores;
+            events = el ∙ a .typed .events;
+            mailboxes = ml ∙ a .typed .mailboxes;
+            swis = a .typed .swis;
+            clocks = cl ∙ a .typed .clocks;
+            heap = hl ∙ a .typed .heap;
+            state = tl ∙ a .typed .state;
+          };
+      heap = hr;
+      clocks = cr;
+      tasks = a .tasks;
+      lines = a .lines;
+      standing = a .standing;
+      semaphores = sr;
+      events = er;
+      mailboxes = mr;
+      swis = a .swis;
+      active = a .active;
+    }
 
 pub record Ranges (st : List ℕ) : Type 0 where
   pub depth : state st DEPTH < 9

@@ -5,6 +5,7 @@ pub mod Members
 pub mod Actives
 pub mod SwiTables
 pub mod TaskRows
+pub mod Aside
 pub mod ObjectRules
 pub mod Standing
 pub mod Moves
@@ -25,8 +26,6 @@ pub mod OfMailboxes
 pub mod OfClocks
 pub mod OfHeap
 pub mod OfSwitches
-pub mod Effects
 pub mod Keeps
 pub mod Nothing
-pub mod Aside
 pub mod Quiet

@@ -42,9 +42,13 @@ place-of x (y ∷ ys) h =
     (λ (n : y ≢ x). let later = place-of x ys (omega (arith, bit-other y x n)) in (suc (later .0), omega (arith, later .1), later .2))
     (same? y x)
 
+-- what holds at each place holds of each who is there
+pub of-member : (P : ℕ → Type 0) (xs : List ℕ) → ((k : ℕ) → k < length xs → P (getD xs k 0)) → (x : ℕ) → 0 < count x xs → P x
+of-member P xs all x h = let p = place-of x xs h in rw (p .2) at (all (p .0) (p .1))
+
 -- a rule on every member
 pub every-at : (xs : List ℕ) (f : ℕ → Rule) → Means (every xs f) → (x : ℕ) → 0 < count x xs → Means (f x)
-every-at xs f m x h = let p = place-of x xs h in rw (p .2) at (m (p .0) (p .1))
+every-at xs f = of-member (λ x. Means (f x)) xs
 
 pub every-make : (xs : List ℕ) (f : ℕ → Rule) → ((x : ℕ) → 0 < count x xs → Means (f x)) → Means (every xs f)
 every-make xs f g k h = g (getD xs k 0) (count-at xs k h)

@@ -1,7 +1,7 @@
 -- A task moves: out of its line if it has one, its row changed, into its next line at any place. Every movement of every call is one of these.
 use Prim.Native.Nat.{ℕ, _<_, _≤_}
-use mathlib.Core.Path.{_≡_, refl, sym, _∙_}
-use mathlib.Core.Logic.{_⊎_, _≢_, inl, inr, ⊎-elim}
+use mathlib.Core.Path.{_≡_, refl, sym, ap, _∙_}
+use mathlib.Core.Logic.{_≢_, inl, inr, ⊎-elim}
 use mathlib.Core.Bool.{cond as if}
 use mathlib.Core.List.{List, []}
 use native.Mathlib.Omega.{arith}
@@ -12,18 +12,19 @@ use Rattle.fold.specs.Lists.{bit, count, without, putAt}
 use Rattle.fold.specs.Rule.{Means}
 use Rattle.fold.proofs.Laws.{same?, count-putAt, count-without, count-without-other, length-without, without-absent, room}
 use Rattle.rules.specs.Tables.{Typed, taskCount, atSemaphore, atEvent, reading, writing, task, withTask, semaphore, event, mailbox, USED, COUNT, BITS, CAPACITY, MESSAGES}
-use Rattle.rules.specs.Lines.{lineCount, lineMost, nowhere, semaphoreLine, eventLine, mailboxLine, postedLine, activeLine, line, homeOf, taskHome, left, entered, Queued, queued, moved}
+use Rattle.rules.specs.Lines.{lineCount, lineMost, semaphoreLine, eventLine, mailboxLine, postedLine, activeLine, line, homeOf, taskHome, left, entered, Queued, queued, moved}
 use Rattle.rules.specs.Events.{matched}
 use Rattle.rules.specs.Sound.{taskRule, tasksRule, linesRule, semaphoresRule, eventsRule, mailboxesRule}
 use Rattle.rules.specs.Step.{withQueued}
 use Rattle.rules.specs.declared.Tables.{Tables}
 use Rattle.rules.specs.declared.Task.{Task}
 use Rattle.laws.proofs.Lines.{left-same, left-other, length-left, entered-same, entered-other, length-entered}
-use Rattle.keeps.proofs.Groups.{OfTasks, Standing, Almost}
+use Rattle.keeps.proofs.Groups.{OfTasks, SwisStay, Standing, Almost}
 use Rattle.keeps.proofs.Members.{bit-le, bit-same, bit-other, bit-eq, putAt-none, without-one}
-use Rattle.keeps.proofs.TaskRows.{length-withTask, task-same, task-other, tasks-withTask, home-out, row-stands, task-stands, stands-in, semaphore-row, event-row, mailbox-row}
+use Rattle.keeps.proofs.TaskRows.{length-withTask, task-same, task-other, tasks-withTask, home-out, row-stands, semaphore-row, event-row, mailbox-row}
+use Rattle.keeps.proofs.Aside.{stands-aside, moved-aside}
 use Rattle.keeps.proofs.Stored.{left-lines, entered-lines}
-use Rattle.keeps.proofs.ObjectRules.{semaphore-fewer, semaphore-more, event-one, event-fewer, event-more, mailbox-waits, mailbox-kept, swis-kept, active-kept}
+use Rattle.keeps.proofs.ObjectRules.{semaphore-fewer, semaphore-more, event-one, event-fewer, event-more, mailbox-waits, mailbox-kept, swi-kept, active-kept}
 use Rattle.keeps.proofs.Standing.{of-tasks}
 
 -- the object at which the row k waits lets task i in: "A semaphore with waiters has count 0"; "the one waiter of an event", not satisfied by
@@ -54,12 +55,6 @@ queued-typed t q typed tasks lines =
       heap = typed .heap;
       state = typed .state;
     }
-
--- a line of Swis is nobody's home among tasks
-pub not-swi : (h j : ℕ) → OfTasks h ⊎ (h ≡ nowhere) → postedLine 0 ≤ j → j ≤ activeLine → j ≢ h
-not-swi h j (inl (inl l)) low high e = omega arith
-not-swi h j (inl (inr (l, _))) low high e = omega arith
-not-swi h j (inr n) low high e = omega arith
 
 module _ (t : Tables) (a : Almost t) (place : List ℕ → ℕ) (i : ℕ) (k : Task) (lt : i < taskCount) (row : Means (taskRule i k)) where
   abbrev new : Queued
@@ -129,13 +124,8 @@ module _ (t : Tables) (a : Almost t) (place : List ℕ → ℕ) (i : ℕ) (k : T
       (λ (n : j ≢ homeOf k). rw (ne-eqb j (homeOf k) n) (entered-other mid (homeOf k) i place j n ∙ mid-line j o))
       (same? j (homeOf k)))
 
-  pub moved-swi-line : (j : ℕ) → postedLine 0 ≤ j → j ≤ activeLine
-      → line (moved place i k (queued (t .tasks) (t .lines)) .lines) j ≡ line (t .lines) j
-  moved-swi-line j low high =
-      rw moved-is
-      (entered-other mid (homeOf k) i place j (not-swi (homeOf k) j (stands-in k (row-stands i k row)) low high)
-      ∙ left-other (t .lines) (taskHome (t .tasks) i) i j
-      (not-swi (taskHome (t .tasks) i) j (stands-in (task (t .tasks) i) (task-stands (t .tasks) (a .tasks) i)) low high))
+  pub moved-swi-line : SwisStay (t .lines) (moved place i k (queued (t .tasks) (t .lines)) .lines)
+  moved-swi-line = moved-aside (queued (t .tasks) (t .lines)) (a .tasks) place i k (stands-aside k (row-stands i k row))
 
   -- the two kinds of lines of tasks
   pub moved-into : (j : ℕ) → OfTasks j → j ≡ homeOf k → line (new .lines) j ≡ putAt (place (rest j)) i (rest j)
@@ -258,6 +248,7 @@ module _ (t : Tables) (a : Almost t) (place : List ℕ → ℕ) (i : ℕ) (k : T
 
     pub moved-keeps : Almost (withQueued t (moved place i k (queued (t .tasks) (t .lines))))
     moved-keeps =
+        let active = moved-swi-line activeLine (omega arith) (omega arith) in
         record {
           typed = moved-typed;
           heap = a .heap;
@@ -268,8 +259,8 @@ module _ (t : Tables) (a : Almost t) (place : List ℕ → ℕ) (i : ℕ) (k : T
           semaphores = moved-semaphores;
           events = moved-events;
           mailboxes = moved-mailboxes;
-          swis = swis-kept (t .swis) (t .lines) (new .lines) (moved-swi-line activeLine (omega arith) (omega arith)) (a .swis);
-          active = active-kept (t .swis) (t .lines) (new .lines) (moved-swi-line activeLine (omega arith) (omega arith)) (a .active);
+          swis = λ x h. swi-kept (t .swis) (t .swis) (t .lines) (new .lines) x (λ f. refl) (ap (count x) active) (a .swis x h);
+          active = active-kept (t .swis) (t .swis) (t .lines) (new .lines) active (λ x h. (refl, refl)) (a .active);
         }
 
 -- ---- a task's row changes, and its line does not: of a task in a line the mode and what it holds stay

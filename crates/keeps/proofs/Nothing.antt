@@ -8,9 +8,9 @@ use lib.Seq.{set-getD}
 use Rattle.rules.specs.Dispatch.{swiDispatched, taskDue, taskDispatched, dispatched, dispatchedOf}
 use Rattle.rules.specs.Sound.{Sound}
 use Rattle.rules.specs.declared.Tables.{Tables}
+use Rattle.laws.proofs.Calls.{chosen}
 use Rattle.keeps.proofs.Groups.{SwisStay}
 use Rattle.keeps.proofs.Waiting.{swi-not-due, swi-due-same}
-use Rattle.keeps.proofs.Chosen.{chosen}
 
 module _ (t : Tables) (s : Sound t) where
   no-task : taskDispatched (t .lines) (t .state) ≡ t .state

@@ -1,7 +1,7 @@
 -- The rules of a semaphore, an event and a mailbox when the object stays and the tasks at it change: fewer stand there, or one more does. And those
--- of Swis when the active ones stay.
-use Prim.Native.Nat.{ℕ, _<_, _≤_}
-use mathlib.Core.Path.{_≡_}
+-- of Swis when their words and the active ones stay.
+use Prim.Native.Nat.{ℕ, suc, _<_, _≤_}
+use mathlib.Core.Path.{_≡_, _∙_}
 use mathlib.Core.Logic.{_≢_, _⊎_, inl, inr, ⊎-elim}
 use mathlib.Core.List.{List, [], _∷_}
 use native.Mathlib.Omega.{arith}
@@ -9,11 +9,11 @@ use lib.ListN.{length}
 use Rattle.fold.specs.Lists.{count}
 use Rattle.fold.specs.Rule.{Rule, Means, _is_, _and_, _gives_}
 use Rattle.fold.proofs.Laws.{count-first}
-use Rattle.rules.specs.Tables.{reading, writing, task, semaphore, event, mailbox, USED, COUNT, BITS, CAPACITY, MESSAGES}
+use Rattle.rules.specs.Tables.{reading, writing, task, semaphore, event, mailbox, swi, USED, COUNT, BITS, CAPACITY, MESSAGES, PRIORITY, INITIAL, TRIGGER, POSTED, TAKEN}
 use Rattle.rules.specs.Lines.{semaphoreLine, eventLine, mailboxLine, activeLine, line, first}
 use Rattle.rules.specs.Events.{matched}
-use Rattle.rules.specs.Sound.{semaphoreRule, eventRule, mailboxRule, swiRule, swisRule, activeRule}
-use Rattle.keeps.proofs.Members.{every-at, every-make}
+use Rattle.rules.specs.Sound.{semaphoreRule, eventRule, mailboxRule, swiRule, activeRule}
+use Rattle.keeps.proofs.Members.{count-at, every-at, every-make}
 
 -- ---- semaphores
 module _ (ss old new : List ℕ) (s : ℕ) (rule : Means (semaphoreRule ss old s)) where
@@ -92,11 +92,20 @@ module _ (ts us ms old new : List ℕ) (m : ℕ) (rule : Means (mailboxRule ts m
       fewer in
       (most, (some, (clear, (still, every-make (line new (mailboxLine m)) (waitsRule us ms m) waits))))
 
--- ---- Swis: of the lines their rules read that of the active ones alone
-module _ (ws old new : List ℕ) (same : line new activeLine ≡ line old activeLine) where
-  pub swis-kept : Means (swisRule ws old) → Means (swisRule ws new)
-  unfolding swiRule
-  swis-kept rule i h = rw same (rule i h)
+-- ---- Swis: the words of one and whether it is active stay; the active ones stay, in use and at their priorities
+pub swi-kept : (ws vs ls ks : List ℕ) (x : ℕ) → ((f : ℕ) → swi vs x f ≡ swi ws x f) → count x (line ks activeLine) ≡ count x (line ls activeLine)
+    → Means (swiRule ws ls x) → Means (swiRule vs ks x)
+unfolding swiRule
+swi-kept ws vs ls ks x e c r = rw (c, e USED, e PRIORITY, e INITIAL, e TRIGGER, e POSTED, e TAKEN) r
 
-  pub active-kept : Means (activeRule ws old) → Means (activeRule ws new)
-  active-kept rule = rw same rule
+pub active-kept : (ws vs ls ks : List ℕ) → line ks activeLine ≡ line ls activeLine
+    → ((x : ℕ) → 0 < count x (line ls activeLine) → (swi vs x USED ≡ swi ws x USED) × (swi vs x PRIORITY ≡ swi ws x PRIORITY))
+    → Means (activeRule ws ls) → Means (activeRule vs ks)
+active-kept ws vs ls ks e same r =
+    rw e (
+      λ k h. same _ (count-at (line ls activeLine) k h) .0 ∙ r .0 k h,
+      λ k h.
+          let p = same _ (count-at (line ls activeLine) k (omega arith)) .1 in
+          let q = same _ (count-at (line ls activeLine) (suc k) (omega arith)) .1 in
+          omega (arith, p, q, r .1 k h),
+    )

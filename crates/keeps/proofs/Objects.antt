@@ -1,12 +1,12 @@
 -- What the calls of semaphores, events and mailboxes share: tests taken apart, free numbers, who waits in an object's line and is served, and the
 -- tables after a change of one object.
 use Prim.Native.Nat.{ℕ, _<_}
-use mathlib.Core.Path.{_≡_, ap, _∙_}
+use mathlib.Core.Path.{_≡_, refl, _∙_}
 use mathlib.Core.Logic.{_≢_, inl, inr, ⊎-elim}
-use mathlib.Core.Bool.{Bool, true, false, not, _&&_, false≢true}
+use mathlib.Core.Bool.{Bool, true, false, _&&_, true≢false, false≢true, and-true}
 use mathlib.Core.List.{List}
 use native.Mathlib.Omega.{arith}
-use borrow.Author.Tests.{ne-eqb, eqb-true, eqb-false, not-false}
+use borrow.Author.Tests.{ne-eqb, lt-ltb, le-ltb, eqb-true, eqb-false, not-false}
 use lib.Dec.{eqb}
 use lib.ListN.{length, getD}
 use Rattle.fold.specs.Lists.{without}
@@ -15,21 +15,22 @@ use Rattle.fold.specs.Rule.{Rule, each, Means}
 use Rattle.fold.proofs.Laws.{same?}
 use Rattle.fold.proofs.Finds.{IsFirst, first-below-is}
 use Rattle.rules.specs.Answer.{T}
-use Rattle.rules.specs.Rows.{field}
 use Rattle.rules.specs.Tables.{Typed, tables, taskCount, ready, terminated, task, current}
-use Rattle.rules.specs.Lines.{postedLine, line, readyLine, first, homeBy, homeOf, taskHome, queued, moved, atBack}
+use Rattle.rules.specs.Lines.{postedLine, eventLine, mailboxLine, line, anyone, readyLine, first, homeBy, homeOf, taskHome, queued, moved, atBack}
 use Rattle.rules.specs.Waits.{outside, idle, switchOff, readied, woken}
+use Rattle.rules.specs.Events.{waiterMatch}
+use Rattle.rules.specs.Mailboxes.{waitsFirst}
 use Rattle.rules.specs.Dispatch.{context}
 use Rattle.rules.specs.Sound.{Sound, taskRule, semaphoresRule, eventsRule, mailboxesRule}
 use Rattle.rules.specs.Step.{withQueued}
 use Rattle.rules.specs.declared.Tables.{Tables}
 use Rattle.rules.specs.declared.Task.{Task}
-use Rattle.laws.proofs.Rows.{by-range, field-out}
-use Rattle.keeps.proofs.Groups.{OfTasks, Almost, Settling}
+use Rattle.laws.proofs.Rows.{by-range}
+use Rattle.keeps.proofs.Groups.{OfTasks, Almost, others-change, Settling}
 use Rattle.keeps.proofs.Members.{bit-eq, count-at}
 use Rattle.keeps.proofs.TaskRows.{Stands, isReady, isAtSemaphore, isAtEvent, isAtMailbox, isNowhere, home-out, task-stands}
 use Rattle.keeps.proofs.Standing.{sound-almost}
-use Rattle.keeps.proofs.Waiting.{sound-ranges, still-ready, not-idle, waits-settle, woken-row, wakes-settle}
+use Rattle.keeps.proofs.Waiting.{both, sound-ranges, still-ready, not-idle, waits-settle, woken-row, wakes-settle}
 use Rattle.keeps.proofs.Moves.{Welcome, moved-line}
 
 -- ---- tests
@@ -40,19 +41,20 @@ other-fails false b e h = absurd (false≢true h)
 -- "a limit other than 0 outside a task"
 pub in-task : (x limit : ℕ) → outside x limit ≡ false → limit ≢ 0 → x ≡ T
 unfolding outside
-in-task x limit e n =
-    ⊎-elim
-    (λ (q : x ≡ T). q)
-    (λ (m : x ≢ T).
-    let z : not (eqb limit 0) ≡ false = other-fails (not (eqb x T)) (not (eqb limit 0)) e (ap not (ne-eqb x T m)) in
-    absurd (n (eqb-true limit 0 (not-false (eqb limit 0) z))))
-    (same? x T)
+in-task x limit e n = eqb-true x T (not-false _ (rw (ne-eqb limit 0 n, and-true) at e))
+
+-- somebody waits at an event whose waiter matches, and at a mailbox whose first one is in this mode
+pub match-waits : (ts ls : List ℕ) (a bits : ℕ) → eqb (waiterMatch ts ls a bits) 0 ≡ false → anyone ls (eventLine a) ≡ true
+unfolding waiterMatch
+match-waits ts ls a bits e =
+    by-range 0 (length (line ls (eventLine a))) (lt-ltb 0 (length (line ls (eventLine a))))
+    (λ h. absurd (true≢false (rw (le-ltb 0 (length (line ls (eventLine a))) h) at e)))
+
+pub first-waits : (ts ls : List ℕ) (a mode : ℕ) → waitsFirst ts ls a mode ≡ true → anyone ls (mailboxLine a) ≡ true
+unfolding waitsFirst
+first-waits ts ls a mode e = both _ _ e .0
 
 -- ---- rows
--- who has a word other than 0 has a row
-pub row-used : (w n : ℕ) (t : List ℕ) (i f : ℕ) → field w n t i f ≢ 0 → i < n
-row-used w n t i f u = by-range i n (λ p. p) (λ p. absurd (u (field-out w n t i f p)))
-
 -- a free number: below the end, and not in use
 pub free-is : (n : ℕ) (f : ℕ → Bool) → eqb (firstBelow n f) n ≡ false → (firstBelow n f < n) × (f (firstBelow n f) ≡ true)
 free-is n f e =
@@ -130,33 +132,9 @@ pub objects-change : (t : Tables) → Settling t → (ss es ms : List ℕ)
     → Means (semaphoresRule ss (t .lines)) → Means (eventsRule (t .tasks) es (t .lines)) → Means (mailboxesRule (t .tasks) ms (t .lines))
     → Settling (tables (t .tasks) (t .lines) ss es ms (t .swis) (t .clocks) (t .heap) (t .state))
 objects-change t s ss es ms sl el ml sr er mr =
-    let a : Almost t = s .almost in
+    let a = s .almost in
     record {
-      almost =
-          record {
-            typed =
-                record {
-                  tasks = a .typed .tasks;
-                  lines = a .typed .lines;
-                  semaphores = sl ∙ a .typed .semaphores;
-                  events = el ∙ a .typed .events;
-                  mailboxes = ml ∙ a .typed .mailboxes;
-                  swis = a .typed .swis;
-                  clocks = a .typed .clocks;
-                  heap = a .typed .heap;
-                  state = a .typed .state;
-                };
-            heap = a .heap;
-            clocks = a .clocks;
-            tasks = a .tasks;
-            lines = a .lines;
-            standing = a .standing;
-            semaphores = sr;
-            events = er;
-            mailboxes = mr;
-            swis = a .swis;
-            active = a .active;
-          };
+      almost = others-change t a ss es ms (t .clocks) (t .heap) (t .state) sl el ml refl refl refl sr er mr (a .clocks) (a .heap);
       ranges = s .ranges;
       current = s .current;
     }

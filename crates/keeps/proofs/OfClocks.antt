@@ -14,12 +14,12 @@ use Rattle.rules.specs.Step.{withClocks}
 use Rattle.rules.specs.Clocks.{freeClock, withLeft, createCases, createEffect, deleteCases, deleteEffect, startCases, startEffect, stopEffect, clockCall}
 use Rattle.rules.specs.declared.Clock.{Clock}
 use Rattle.rules.specs.declared.Tables.{Tables}
+use Rattle.laws.proofs.Rows.{row-used}
 use Rattle.keeps.proofs.Groups.{Words, Settling, Keeps}
 use Rattle.keeps.proofs.Codes.{accepted-is}
 use Rattle.keeps.proofs.Waiting.{neither, sound-ranges, still-ready}
 use Rattle.keeps.proofs.Chosen.{chosen-keeps, unknown-keeps}
 use Rattle.keeps.proofs.ClockRows.{clock-keeps}
-use Rattle.keeps.proofs.Objects.{row-used}
 use Rattle.keeps.proofs.Standing.{sound-almost}
 use Rattle.keeps.proofs.SwiTables.{used-one}
 

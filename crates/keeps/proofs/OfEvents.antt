@@ -5,7 +5,7 @@ use mathlib.Core.Logic.{_≢_, _⊎_, inl, inr, ⊎-elim}
 use mathlib.Core.Bool.{false, _&&_}
 use mathlib.Core.List.{List, [], _∷_}
 use native.Mathlib.Omega.{arith}
-use borrow.Author.Tests.{eq-eqb, eqb-true, eqb-false, ltb-false, lt-ltb, le-ltb}
+use borrow.Author.Tests.{eq-eqb, eqb-true, eqb-false, ltb-true, ltb-false, lt-ltb}
 use lib.Dec.{eqb}
 use lib.Bits.{bitOr}
 use lib.ListN.{length, getD}
@@ -21,14 +21,15 @@ use Rattle.rules.specs.Waits.{Served, served, idle, waiting, woken}
 use Rattle.rules.specs.Swis.{cleared}
 use Rattle.rules.specs.Events.{freeEvent, matched, waits, waiterMatch, postedBits, eventCall, createCases, createEffect, deleteCases, deleteEffect, pendCases, pendEffect, postCases, postEffect}
 use Rattle.rules.specs.declared.Tables.{Tables}
-use Rattle.laws.proofs.Rows.{by-range, length-withRow, row-same, row-other, length-withField, field-same, field-other, field-row}
+use Rattle.laws.proofs.Rows.{length-withRow, row-same, row-other, length-withField, field-same, field-other, field-row, row-used}
+use Rattle.laws.proofs.Calls.{chosen}
 use Rattle.keeps.proofs.Groups.{Words, Settling, Keeps}
 use Rattle.keeps.proofs.Codes.{accepted-is}
 use Rattle.keeps.proofs.Standing.{sound-almost}
 use Rattle.keeps.proofs.Moves.{Welcome}
 use Rattle.keeps.proofs.Waiting.{neither, current-row, current-used, at-event-row}
-use Rattle.keeps.proofs.Chosen.{chosen, chosen-keeps, unknown-keeps, sound-settles}
-use Rattle.keeps.proofs.Objects.{other-fails, first-leaves, first-wakes, begins, row-used, free-is, each-but, objects-change}
+use Rattle.keeps.proofs.Chosen.{chosen-keeps, unknown-keeps, sound-settles}
+use Rattle.keeps.proofs.Objects.{other-fails, match-waits, first-leaves, first-wakes, begins, free-is, each-but, objects-change}
 
 -- ---- the rule of one event, by its words, the number of its waiters and what the first of them matches
 abbrev eventBy : ℕ → ℕ → ℕ → ℕ → Rule
@@ -178,11 +179,6 @@ module _ (t : Tables) (typed : Typed t) (s : Sound t) where
   unfolding waiterMatch
   match-none a bits e n = rw (lt-ltb 0 (waitersOf t a) (omega arith)) at e
 
-  match-some : (a bits : ℕ) → waiterMatch (t .tasks) (t .lines) a bits ≢ 0 → 0 < waitersOf t a
-  unfolding waiterMatch
-  match-some a bits n =
-      by-range 0 (waitersOf t a) (λ p. p) (λ p. absurd (n (rw (le-ltb 0 (waitersOf t a) p))))
-
   -- once the one waiter is served nobody waits there
   served-none : (a v : ℕ) → a < eventCount → 0 < waitersOf t a
       → length (line (woken (waiterOf t a) 0 v (queued (t .tasks) (t .lines)) .lines) (eventLine a)) ≡ 0
@@ -204,7 +200,7 @@ module _ (t : Tables) (typed : Typed t) (s : Sound t) where
       chosen (Leaves t) (eqb match 0) _ _
       (λ e. bits-change t (sound-settles t typed s) a lt bits (u, (λ o. absurd (used o), (one, match-none a bits (eqb-true match 0 e)))))
       (λ e.
-      let some : 0 < waitersOf t a = match-some a bits (eqb-false match 0 e) in
+      let some : 0 < waitersOf t a = ltb-true 0 (waitersOf t a) (match-waits (t .tasks) (t .lines) a bits e) in
       let low : eventLine a < 32 = omega arith in
       let none = served-none a match lt some in
       bits-change (withQueued t (woken (waiterOf t a) 0 match (queued (t .tasks) (t .lines))))

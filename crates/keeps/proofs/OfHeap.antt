@@ -2,7 +2,7 @@
 use Prim.Native.Nat.{ℕ, zero, suc, _+_, _-_, _/_, _%_, _<_, _≤_}
 use mathlib.Core.Path.{_≡_, refl, sym, ap, _∙_}
 use mathlib.Core.Logic.{_≢_, _⊎_, inl, inr, ⊎-elim}
-use mathlib.Core.Bool.{true, not, _&&_, _||_}
+use mathlib.Core.Bool.{true, false, not, _&&_, _||_}
 use mathlib.Core.List.{List, _∷_}
 use native.Mathlib.Omega.{arith}
 use borrow.Author.Tests.{lt-ltb, le-ltb, le-leb, leb-true, eqb-true, eqb-false, not-true, not-false}
@@ -23,11 +23,13 @@ use Rattle.rules.specs.Step.{withHeap}
 use Rattle.rules.specs.Heap.{unit, withUnits, unitsOf, isRun, lowestRun, blockSize, isBlock, firstOf, laterIn, takeCases, takeEffect, giveCases, giveEffect, heapCall}
 use Rattle.rules.specs.declared.Tables.{Tables}
 use Rattle.laws.proofs.Listed.{zero-at}
-use Rattle.keeps.proofs.Groups.{Words, Almost, Settling, Keeps}
+use Rattle.laws.proofs.Calls.{chosen}
+use Rattle.keeps.proofs.Groups.{Words, others-change, Settling, Keeps}
 use Rattle.keeps.proofs.Codes.{accepted-is}
 use Rattle.keeps.proofs.Waiting.{neither, both, sound-ranges, still-ready}
-use Rattle.keeps.proofs.Chosen.{chosen, chosen-keeps, unknown-keeps}
+use Rattle.keeps.proofs.Chosen.{chosen-keeps, unknown-keeps}
 use Rattle.keeps.proofs.Standing.{sound-almost}
+use Rattle.keeps.proofs.Objects.{free-is}
 
 -- ---- entries stored from unit u on
 module _ (h : List ℕ) (u : ℕ) (es : List ℕ) (fits : u + length es ≤ heapUnits) (all : length h ≡ 256) where
@@ -107,12 +109,9 @@ module _ (h : List ℕ) (all : length h ≡ 256) (rule : Means (heapRule h)) whe
       first zero e z = omega arith
       first (suc k) e z = omega arith
 
-  run-fits : (n : ℕ) → lowestRun h n ≢ heapUnits → lowestRun h n + n ≤ heapUnits
+  run-fits : (n : ℕ) → eqb (lowestRun h n) heapUnits ≡ false → lowestRun h n + n ≤ heapUnits
   unfolding lowestRun isRun
-  run-fits n some =
-      let f = first-below-is heapUnits (isRun h n) in
-      let e = f .has (omega (arith, f .high)) in
-      leb-true _ _ (both (leb (lowestRun h n + n) heapUnits) _ e .0)
+  run-fits n some = leb-true _ _ (both (leb (lowestRun h n + n) heapUnits) _ (free-is heapUnits (isRun h n) some .1) .0)
 
   -- ---- "61 give back": the whole block is free, and none of it stands behind
   unit-below : (u : ℕ) → unit h u ≢ 0 → u < heapUnits
@@ -152,31 +151,9 @@ module _ (t : Tables) (typed : Typed t) (s : Sound t) where
   heap-settles : (u : ℕ) (es : List ℕ) → Means (heapRule (withUnits (t .heap) u es)) → Settling (withHeap t (withUnits (t .heap) u es))
   heap-settles u es rule =
       let a = sound-almost t typed s in
-      let almost : Almost (withHeap t (withUnits (t .heap) u es)) =
-      record {
-        typed =
-            record {
-              tasks = typed .tasks;
-              lines = typed .lines;
-              semaphores = typed .semaphores;
-              events = typed .events;
-              mailboxes = typed .mailboxes;
-              swis = typed .swis;
-              clocks = typed .clocks;
-              heap = length-units (t .heap) u es ∙ typed .heap;
-              state = typed .state;
-            };
-        heap = rule;
-        clocks = a .clocks;
-        tasks = a .tasks;
-        lines = a .lines;
-        standing = a .standing;
-        semaphores = a .semaphores;
-        events = a .events;
-        mailboxes = a .mailboxes;
-        swis = a .swis;
-        active = a .active;
-      } in
+      let almost =
+      others-change t a (t .semaphores) (t .events) (t .mailboxes) (t .clocks) (withUnits (t .heap) u es) (t .state)
+      refl refl refl refl (length-units (t .heap) u es) refl (a .semaphores) (a .events) (a .mailboxes) (a .clocks) rule in
       record { almost = almost; ranges = sound-ranges t s; current = inl (still-ready t s) }
 
   take-keeps : (x a b c d : ℕ) → Keeps (withHeap t) (called (takeCases (t .heap) x a b c d) (takeEffect (t .heap) a))
@@ -187,7 +164,7 @@ module _ (t : Tables) (typed : Typed t) (s : Sound t) where
       let low : 0 < unitsOf a = omega arith in
       heap-settles (lowestRun (t .heap) (unitsOf a)) (firstOf ∷ replicate (unitsOf a - 1) laterIn)
       (take-rule (t .heap) (typed .heap) (s .heap) (unitsOf a) (lowestRun (t .heap) (unitsOf a)) low
-      (run-fits (t .heap) (typed .heap) (s .heap) (unitsOf a) (eqb-false _ _ (ok .at8))))
+      (run-fits (t .heap) (typed .heap) (s .heap) (unitsOf a) (ok .at8)))
 
   give-keeps : (x a b c d : ℕ) → Keeps (withHeap t) (called (giveCases (t .heap) x a b c d) (giveEffect (t .heap) a))
   unfolding giveCases giveEffect isBlock

@@ -19,16 +19,17 @@ use Rattle.rules.specs.Step.{withMailboxes, withQueued}
 use Rattle.rules.specs.Waits.{Served, served, waiting, woken}
 use Rattle.rules.specs.Mailboxes.{freeMailbox, waitsFirst, isFull, postWaits, pendWaits, taken, mailboxCall, createCases, createEffect, deleteCases, deleteEffect, pendCases, pendEffect, postCases, postEffect}
 use Rattle.rules.specs.declared.Tables.{Tables}
-use Rattle.laws.proofs.Rows.{by-range, length-withRow, row-same, row-other}
+use Rattle.laws.proofs.Rows.{by-range, length-withRow, row-same, row-other, row-used}
 use Rattle.laws.proofs.Listed.{zero-at}
+use Rattle.laws.proofs.Calls.{chosen}
 use Rattle.keeps.proofs.Groups.{Words, Settling, Keeps}
 use Rattle.keeps.proofs.Codes.{accepted-is}
 use Rattle.keeps.proofs.TaskRows.{task-stands, mailbox-row}
 use Rattle.keeps.proofs.Standing.{sound-almost}
 use Rattle.keeps.proofs.Moves.{Welcome}
-use Rattle.keeps.proofs.Waiting.{neither, both, current-row, current-used, reading-row, writing-row}
-use Rattle.keeps.proofs.Chosen.{chosen, chosen-keeps, unknown-keeps, sound-settles}
-use Rattle.keeps.proofs.Objects.{member-home, first-wakes, begins, row-used, free-is, each-but, objects-change}
+use Rattle.keeps.proofs.Waiting.{neither, current-row, current-used, reading-row, writing-row}
+use Rattle.keeps.proofs.Chosen.{chosen-keeps, unknown-keeps, sound-settles}
+use Rattle.keeps.proofs.Objects.{first-waits, member-home, first-wakes, begins, free-is, each-but, objects-change}
 use Rattle.keeps.proofs.MailboxRows.{waitersRule, Row, row-parts, row-rule, row-same-words, length-stored, stored-other, stored-row, held-is}
 
 -- ---- mailbox a: its capacity, its number of messages, those who wait, and the first of them
@@ -126,10 +127,7 @@ module _ (t : Tables) (typed : Typed t) (s : Sound t) where
       rw (lt-ltb 0 (length (waiters t a)) some, eq-eqb (task (t .tasks) (front t a) .mode) mode e)
 
   some-first : (a mode : ℕ) → waitsFirst (t .tasks) (t .lines) a mode ≡ true → 0 < length (waiters t a)
-  unfolding waitsFirst
-  some-first a mode e =
-      ltb-true 0 (length (waiters t a))
-      (both (anyone (t .lines) (mailboxLine a)) (eqb (task (t .tasks) (front t a) .mode) mode) e .0)
+  some-first a mode e = ltb-true 0 (length (waiters t a)) (first-waits (t .tasks) (t .lines) a mode e)
 
   module _ (a : ℕ) (lt : a < mailboxCount) where
     nobody : (waitsFirst (t .tasks) (t .lines) a reading ≡ false) ⊎ (number t a ≢ 0)

@@ -18,13 +18,14 @@ use Rattle.rules.specs.Step.{withSemaphores}
 use Rattle.rules.specs.Waits.{Served, served, waiting}
 use Rattle.rules.specs.Semaphores.{freeSemaphore, most, waits, countUp, semaphoreCall, createCases, createEffect, deleteCases, deleteEffect, resetCases, resetEffect, pendCases, pendEffect, postCases, postEffect}
 use Rattle.rules.specs.declared.Tables.{Tables}
-use Rattle.laws.proofs.Rows.{length-withRow, row-same, row-other, length-withField, field-same, field-other, field-row}
+use Rattle.laws.proofs.Rows.{length-withRow, row-same, row-other, length-withField, field-same, field-other, field-row, row-used}
+use Rattle.laws.proofs.Calls.{chosen}
 use Rattle.keeps.proofs.Groups.{Words, Settling, Keeps}
 use Rattle.keeps.proofs.Codes.{accepted-is}
 use Rattle.keeps.proofs.Moves.{Welcome}
 use Rattle.keeps.proofs.Waiting.{neither, current-row, current-used, at-semaphore-row}
-use Rattle.keeps.proofs.Chosen.{chosen, chosen-keeps, unknown-keeps, sound-settles}
-use Rattle.keeps.proofs.Objects.{first-wakes, begins, row-used, free-is, each-but, objects-change}
+use Rattle.keeps.proofs.Chosen.{chosen-keeps, unknown-keeps, sound-settles}
+use Rattle.keeps.proofs.Objects.{first-wakes, begins, free-is, each-but, objects-change}
 
 -- ---- the rule of one semaphore, by its words and the number of its waiters
 abbrev semaphoreBy : ℕ → ℕ → ℕ → ℕ → Rule

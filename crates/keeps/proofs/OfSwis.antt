@@ -23,15 +23,18 @@ use Rattle.rules.specs.Swis.{Posts, posts, top, isActive, isNamed, freeSwi, pos
 use Rattle.rules.specs.declared.Tables.{Tables}
 use Rattle.laws.proofs.Rows.{length-withRow, row-same, row-other}
 use Rattle.laws.proofs.Lines.{length-left, left-same, left-other}
+use Rattle.laws.proofs.Calls.{chosen}
 use Rattle.keeps.proofs.Groups.{Words, Almost, Settling, Keeps}
 use Rattle.keeps.proofs.Codes.{accepted-is}
 use Rattle.keeps.proofs.Waiting.{neither, sound-ranges, still-ready}
-use Rattle.keeps.proofs.Chosen.{chosen, chosen-keeps, unknown-keeps, sound-settles}
+use Rattle.keeps.proofs.Chosen.{chosen-keeps, unknown-keeps, sound-settles}
 use Rattle.keeps.proofs.Objects.{other-fails, free-is}
-use Rattle.keeps.proofs.Standing.{sound-almost}
+use Rattle.keeps.proofs.Standing.{sound-almost, home-unposted, home-kept}
 use Rattle.keeps.proofs.Stored.{left-lines}
 use Rattle.keeps.proofs.Actives.{last-leaves, rises-take, every-take}
-use Rattle.keeps.proofs.SwiTables.{swi-almost, not-of-swis, swi-below, home-unposted, home-kept, active-used, length-swi, swi-same, swi-row, swi-other, named-kept, rule-used, active-kept}
+use Rattle.keeps.proofs.ObjectRules.{active-kept}
+use Rattle.keeps.proofs.Aside.{not-of-swis}
+use Rattle.keeps.proofs.SwiTables.{swi-almost, swi-below, active-used, length-swi, swi-same, swi-row, swi-other, named-kept, rule-used}
 use Rattle.keeps.proofs.Posts.{posted-keeps, triggered-keeps}
 
 -- the running Swi is there

@@ -1,6 +1,6 @@
 -- Calls 70 to 76 keep what dispatch starts from.
 use Prim.Native.Nat.{ℕ, _+_, _-_, _<_, _%_}
-use mathlib.Core.Path.{_≡_, refl, sym, _∙_}
+use mathlib.Core.Path.{_≡_, refl, sym}
 use mathlib.Core.Logic.{_≢_, _⊎_, inl, inr, ⊎-elim}
 use mathlib.Core.List.{List}
 use native.Mathlib.Omega.{arith}
@@ -17,10 +17,11 @@ use Rattle.rules.specs.Step.{withTicked}
 use Rattle.rules.specs.Switches.{offCases, offEffect, restoreCases, restoreEffect, inCases, inEffect, outCases, outEffect}
 use Rattle.rules.specs.Tick.{Ticked, tickedOf, clocksTicked, ticked, onState, switchCall}
 use Rattle.rules.specs.declared.Tables.{Tables}
-use Rattle.keeps.proofs.Groups.{Words, Almost, Ranges, Settling, Keeps}
+use Rattle.laws.proofs.Calls.{chosen}
+use Rattle.keeps.proofs.Groups.{Words, Almost, others-change, Ranges, Settling, Keeps}
 use Rattle.keeps.proofs.Standing.{sound-almost}
 use Rattle.keeps.proofs.Waiting.{sound-ranges, still-ready}
-use Rattle.keeps.proofs.Chosen.{chosen, Kept, kept, chosen-kept, unknown-kept, sound-settles}
+use Rattle.keeps.proofs.Chosen.{Kept, kept, chosen-kept, unknown-kept, sound-settles}
 use Rattle.keeps.proofs.Ticking.{withClocked, clocks-tick, tasks-tick}
 
 -- ---- the state changes alone
@@ -28,32 +29,10 @@ abbrev withStated : Tables → List ℕ → Tables
 withStated t st =
     tables (t .tasks) (t .lines) (t .semaphores) (t .events) (t .mailboxes) (t .swis) (t .clocks) (t .heap) st
 
-state-almost : (t : Tables) → Almost t → (st : List ℕ) → length st ≡ 5 → Almost (withStated t st)
+state-almost : (t : Tables) → Almost t → (st : List ℕ) → length st ≡ length (t .state) → Almost (withStated t st)
 state-almost t a st all =
-    record {
-      typed =
-          record {
-            tasks = a .typed .tasks;
-            lines = a .typed .lines;
-            semaphores = a .typed .semaphores;
-            events = a .typed .events;
-            mailboxes = a .typed .mailboxes;
-            swis = a .typed .swis;
-            clocks = a .typed .clocks;
-            heap = a .typed .heap;
-            state = all;
-          };
-      heap = a .heap;
-      clocks = a .clocks;
-      tasks = a .tasks;
-      lines = a .lines;
-      standing = a .standing;
-      semaphores = a .semaphores;
-      events = a .events;
-      mailboxes = a .mailboxes;
-      swis = a .swis;
-      active = a .active;
-    }
+    others-change t a (t .semaphores) (t .events) (t .mailboxes) (t .clocks) (t .heap) st refl refl refl refl refl all
+    (a .semaphores) (a .events) (a .mailboxes) (a .clocks) (a .heap)
 
 -- one word of the state, not the current task, is v now
 module _ (st : List ℕ) (all : length st ≡ 5) (f v : ℕ) (front : f < 4) where
@@ -81,7 +60,7 @@ module _ (t : Tables) (typed : Typed t) (s : Sound t) where
       → Settling (withStated t (withState (t .state) f v))
   word-settles f v front depth swis tasks =
       record {
-        almost = state-almost t (sound-almost t typed s) (withState (t .state) f v) (length-set (t .state) f v ∙ typed .state);
+        almost = state-almost t (sound-almost t typed s) (withState (t .state) f v) (length-set (t .state) f v);
         ranges = word-ranges (t .state) (typed .state) f v front (sound-ranges t s) depth swis tasks;
         current = inl (rw (current-stays (t .state) (typed .state) f v front) (still-ready t s));
       }
@@ -128,7 +107,7 @@ module _ (t : Tables) (typed : Typed t) (s : Sound t) where
       let (a, r) = tasks-tick u (state (t .state) CURRENT) (clocks-tick t (sound-almost t typed s)) (still-ready t s) in
       let v = (state (t .state) TICK + 1) % wordEnd in
       record {
-        almost = state-almost _ a (withState (t .state) TICK v) (length-set (t .state) TICK v ∙ typed .state);
+        almost = state-almost _ a (withState (t .state) TICK v) (length-set (t .state) TICK v);
         ranges =
             word-ranges (t .state) (typed .state) TICK v (omega arith) (sound-ranges t s)
             (λ e. absurd (omega arith)) (λ e. absurd (omega arith)) (λ e. absurd (omega arith));

@@ -2,17 +2,15 @@
 use Prim.Native.Nat.{ℕ, _<_, _≤_}
 use mathlib.Core.Path.{_≡_, refl, sym, ap, _∙_}
 use mathlib.Core.Logic.{_≢_, _⊎_, inl, inr, ⊎-elim}
-use mathlib.Core.Bool.{Bool, true, false, _&&_, _||_, true≢false, cond as if}
-use mathlib.Core.List.{List}
+use mathlib.Core.Bool.{Bool, true, false, _||_, true≢false, cond as if}
 use native.Mathlib.Omega.{arith}
 use borrow.Author.Tests.{eqb-true, eqb-false, eq-eqb, ne-eqb, lt-ltb, ltb-true, leb-true, leb-false, le-leb, not-false}
 use lib.Dec.{eqb, ltb, leb}
 use Rattle.fold.specs.Rule.{Means}
 use Rattle.fold.proofs.Laws.{same?, lt-or-le}
-use Rattle.fold.proofs.Finds.{first-below-is}
 use Rattle.rules.specs.Answer.{After, called}
-use Rattle.rules.specs.Tables.{Typed, taskCount, levels, minusOne, forever, wordEnd, notInUse, ready, sleeping, atSemaphore, atEvent, reading, writing, terminated, inactive, task, withTask, noTask, state, current, CURRENT}
-use Rattle.rules.specs.Lines.{lineCount, nowhere, Queued, homeBy, queued, moved, atBack}
+use Rattle.rules.specs.Tables.{Typed, taskCount, levels, minusOne, forever, wordEnd, notInUse, ready, sleeping, writing, terminated, inactive, task, withTask, noTask, state, current, CURRENT}
+use Rattle.rules.specs.Lines.{lineCount, Queued, homeBy, queued, moved, atBack}
 use Rattle.rules.specs.Waits.{waiting}
 use Rattle.rules.specs.Dispatch.{context}
 use Rattle.rules.specs.Sound.{Sound, noWait, taskRule}
@@ -20,13 +18,15 @@ use Rattle.rules.specs.Step.{withQueued}
 use Rattle.rules.specs.Tasks.{isPriority, freeTask, blocked, placedAt, withPriority, ended, reprioritized, createCases, createEffect, deleteCases, deleteEffect, setPriorityCases, setPriorityEffect, yieldCases, yieldEffect, endCases, endEffect, sleepCases, sleepEffect, lastResultCases, lastResultEffect, taskCall}
 use Rattle.rules.specs.declared.Tables.{Tables}
 use Rattle.rules.specs.declared.Task.{Task}
+use Rattle.laws.proofs.Calls.{chosen}
 use Rattle.keeps.proofs.Groups.{Words, Settling, Keeps}
 use Rattle.keeps.proofs.Codes.{accepted-is}
 use Rattle.keeps.proofs.Standing.{sound-almost}
 use Rattle.keeps.proofs.Moves.{Welcome, moved-row, moved-rows, moved-keeps, row-keeps}
-use Rattle.keeps.proofs.TaskRows.{task-out, task-other}
+use Rattle.keeps.proofs.TaskRows.{task-other, in-use, home-none}
+use Rattle.keeps.proofs.Objects.{other-fails, free-is}
 use Rattle.keeps.proofs.Waiting.{neither, both, row-other, sound-ranges, current-is, current-under, still-ready, current-ready, current-row, current-used, not-idle, waits-settle, rest-row, still-waiting, welcome-none, welcome-ready, moved-ready, sleeping-row}
-use Rattle.keeps.proofs.Chosen.{chosen, chosen-keeps, unknown-keeps, sound-settles}
+use Rattle.keeps.proofs.Chosen.{chosen-keeps, unknown-keeps, sound-settles}
 
 -- "Task priorities -1 and 1 to 15"
 abbrev Priority : ℕ → Type 0
@@ -75,18 +75,7 @@ ended-row i k n row used =
     rest-row i (ended k) n (refl, (refl, (refl, refl))) (inr (omega arith, omega arith)) (r .outcome) (r .unmet) (λ e. absurd (omega arith))
     (λ e. absurd (omega arith)) (λ _. r .level used)
 
--- ---- lines: a row with no wait stands nowhere unless it is ready, and only a ready one stands by its priority
-home-past : (m p o : ℕ) → 6 < m → homeBy m p o ≡ nowhere
-unfolding homeBy
-home-past m p o h =
-    rw (
-      ne-eqb m ready (λ (e : m ≡ 1). omega arith),
-      ne-eqb m atSemaphore (λ (e : m ≡ 3). omega arith),
-      ne-eqb m atEvent (λ (e : m ≡ 4). omega arith),
-      ne-eqb m reading (λ (e : m ≡ 5). omega arith),
-      ne-eqb m writing (λ (e : m ≡ 6). omega arith),
-    )
-
+-- ---- lines: only a ready row stands by its priority
 home-kept : (m p q o : ℕ) → m ≢ ready → homeBy m p o ≡ homeBy m q o
 unfolding homeBy
 home-kept m p q o n = rw (ne-eqb m ready n)
@@ -99,21 +88,13 @@ either-eq x a b e =
 is-blocked : (m : ℕ) → blocked m ≡ true → (1 < m) × (m < 7)
 is-blocked m e = let (low, high) = both (leb sleeping m) (leb m writing) e in (leb-true sleeping m low, omega (arith, leb-true m writing high))
 
-not-both : (a b : Bool) → (a && b) ≡ false → a ≡ true → b ≡ false
-not-both a b e q = rw q at e
-
 -- a task in use that is neither blocked nor terminated
 ready-or-inactive : (m : ℕ) → blocked m ≡ false → m ≢ notInUse → m ≢ terminated → m < 9 → (m ≡ ready) ⊎ (m ≡ inactive)
 ready-or-inactive m e used runs range =
     ⊎-elim
     (λ (h : m < 2). inl (omega arith))
-    (λ (h : 2 ≤ m). inr (let past : 6 < m = leb-false m writing (not-both (leb sleeping m) (leb m writing) e (le-leb sleeping m h)) in omega arith))
+    (λ (h : 2 ≤ m). inr (let past : 6 < m = leb-false m writing (other-fails (leb sleeping m) (leb m writing) e (le-leb sleeping m h)) in omega arith))
     (lt-or-le m 2)
-
--- a task in use is one of the 32
-in-use : (ts : List ℕ) (i : ℕ) → task ts i .mode ≢ 0 → i < taskCount
-in-use ts i n =
-    ⊎-elim (λ (h : i < taskCount). h) (λ (h : taskCount ≤ i). absurd (n (ap (λ (k : Task). k .mode) (task-out ts i h)))) (lt-or-le i taskCount)
 
 module _ (t : Tables) (typed : Typed t) (s : Sound t) where
   -- another mode than ready: not task 0, and not the current task
@@ -127,11 +108,9 @@ module _ (t : Tables) (typed : Typed t) (s : Sound t) where
   unfolding createCases createEffect freeTask
   create-keeps x a b c d z =
       let ok = accepted-is (createCases (t .tasks) x a b c d) z in
-      let found = first-below-is taskCount (λ i. eqb (task (t .tasks) i .mode) notInUse) in
       let i = freeTask (t .tasks) in
-      let n : i ≢ taskCount = eqb-false i taskCount (ok .at6) in
-      let lt : i < taskCount = omega (arith, found .high) in
-      let free : task (t .tasks) i .mode ≡ 0 = eqb-true _ _ (found .has lt) in
+      let (lt, is) = free-is taskCount (λ i. eqb (task (t .tasks) i .mode) notInUse) (ok .at6) in
+      let free : task (t .tasks) i .mode ≡ 0 = eqb-true _ _ is in
       let rest : task (t .tasks) i .mode ≢ ready = λ e. omega arith in
       let level = is-priority a (not-false _ (neither _ _ (ok .at4) .0)) in
       let row = placed-row i noTask (not-first i lt rest) (refl, (refl, (refl, refl))) (omega arith) (λ (e : 0 ≡ 1). absurd (omega arith)) a level in
@@ -152,10 +131,12 @@ module _ (t : Tables) (typed : Typed t) (s : Sound t) where
       let past : 6 < m =
       ⊎-elim (λ (e : m ≡ 7). omega arith) (λ (e : m ≡ 8). omega arith) (either-eq m 7 8 (not-false _ (ok .at5))) in
       let rest : m ≢ ready = λ e. omega arith in
+      let nowhere-now =
+      home-none (task (t .tasks) a) rest (λ e. omega arith) (λ e. omega arith) (λ e. omega arith) (λ e. omega arith) in
       let row = no-row a (not-first a lt rest) in
       let almost = sound-almost t typed s in
       record {
-        almost = row-keeps t almost a noTask lt row (sym (home-past m _ _ past)) (λ (h : 255 < lineCount). absurd (omega arith));
+        almost = row-keeps t almost a noTask lt row (sym nowhere-now) (λ (h : 255 < lineCount). absurd (omega arith));
         ranges = sound-ranges t s;
         current = inl (ap (λ (k : Task). k .mode) (task-other (t .tasks) a noTask _ (not-current a rest)) ∙ still-ready t s);
       }
@@ -212,7 +193,7 @@ module _ (t : Tables) (typed : Typed t) (s : Sound t) where
       let (other, last) = neither _ _ (ok .at5) in
       let n : a ≢ 0 = eqb-false a 0 (neither (eqb a 0) (eqb m terminated) other .0) in
       let runs : m ≢ terminated = eqb-false m terminated (neither (eqb a 0) (eqb m terminated) other .1) in
-      let lowest : b ≡ minusOne → (eqb a (current (t .state)) || blocked m) ≡ false = λ e. not-both _ _ last (eq-eqb b minusOne e) in
+      let lowest : b ≡ minusOne → (eqb a (current (t .state)) || blocked m) ≡ false = λ e. other-fails _ _ last (eq-eqb b minusOne e) in
       chosen (λ (q : Queued). Settling (withQueued t q)) (eqb b (task (t .tasks) a .priority)) _ _
       (λ _. sound-settles t typed s)
       (λ _.

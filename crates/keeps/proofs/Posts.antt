@@ -1,7 +1,7 @@
 -- A Swi is posted, or its trigger changed.
 use Prim.Native.Nat.{ℕ, _+_, _<_}
 use mathlib.Core.Path.{_≡_, refl, sym, ap, _∙_}
-use mathlib.Core.Logic.{_≢_, _⊎_, ⊎-elim}
+use mathlib.Core.Logic.{_≢_, ⊎-elim}
 use mathlib.Core.List.{List}
 use native.Mathlib.Omega.{arith}
 use lib.Dec.{eqb}
@@ -17,10 +17,13 @@ use Rattle.rules.specs.Sound.{swiRule}
 use Rattle.rules.specs.Step.{withPosts}
 use Rattle.rules.specs.declared.Tables.{Tables}
 use Rattle.laws.proofs.Lines.{length-entered, entered-same, entered-other}
-use Rattle.keeps.proofs.Groups.{OfTasks, Almost}
+use Rattle.keeps.proofs.Groups.{Almost}
 use Rattle.keeps.proofs.Members.{bit-same, bit-other}
 use Rattle.keeps.proofs.Stored.{entered-lines}
-use Rattle.keeps.proofs.SwiTables.{SwiChanged, swi-almost, not-of-swis, swi-below, used-one, priority-below, home-posted, home-unposted, home-kept, posted-most, length-swi, swi-same, swi-row, swi-other, named-kept, rule-used, active-kept}
+use Rattle.keeps.proofs.ObjectRules.{active-kept}
+use Rattle.keeps.proofs.Aside.{not-of-swis}
+use Rattle.keeps.proofs.Standing.{home-posted, home-unposted, home-kept}
+use Rattle.keeps.proofs.SwiTables.{SwiChanged, swi-almost, swi-below, used-one, priority-below, posted-most, length-swi, swi-same, swi-row, swi-other, named-kept, rule-used}
 
 module _ (t : Tables) (a : Almost t) (i : ℕ) (used : swi (t .swis) i USED ≢ 0) where
   here : i < swiCount
@@ -38,9 +41,6 @@ module _ (t : Tables) (a : Almost t) (i : ℕ) (used : swi (t .swis) i USED ≢ 
   posted-old : swi (t .swis) i POSTED ≢ 0 → posted i (posts (t .swis) (t .lines)) ≡ posts (t .swis) (t .lines)
   unfolding posted
   posted-old n = rw (lt-ltb i swiCount here, ne-eqb (swi (t .swis) i POSTED) 0 n)
-
-  by-posted : {A : Type 0} → (swi (t .swis) i POSTED ≡ 0 → A) → (swi (t .swis) i POSTED ≢ 0 → A) → A
-  by-posted f g = ⊎-elim f g (same? (swi (t .swis) i POSTED) 0)
 
   p : ℕ
   p = swi (t .swis) i PRIORITY
@@ -128,17 +128,8 @@ module _ (t : Tables) (a : Almost t) (i : ℕ) (used : swi (t .swis) i USED ≢ 
 
   pub posted-keeps : Almost (withPosts t (posted i (posts (t .swis) (t .lines))))
   unfolding p ws ls
-  posted-keeps = by-posted (λ un. rw (posted-new un) (swi-almost t a i (posts ws ls) (changed un))) (λ n. rw (posted-old n) a)
-
-  -- lines of tasks and the active Swis stay
-  pub posted-line : (j : ℕ) → OfTasks j → line (posted i (posts (t .swis) (t .lines)) .lines) j ≡ line (t .lines) j
-  unfolding p ws ls
-  posted-line j o = by-posted (λ un. rw (posted-new un) (changed un .ofTasks j o)) (λ n. rw (posted-old n))
-
-  -- who is in use stays so
-  pub posted-used : (x : ℕ) → swi (posted i (posts (t .swis) (t .lines)) .swis) x USED ≡ swi (t .swis) x USED
-  unfolding p ws ls
-  posted-used x = by-posted (λ un. rw (posted-new un) (same x USED (λ e. omega arith))) (λ n. rw (posted-old n))
+  posted-keeps =
+      ⊎-elim (λ un. rw (posted-new un) (swi-almost t a i (posts ws ls) (changed un))) (λ n. rw (posted-old n) a) (same? (swi (t .swis) i POSTED) 0)
 
   -- ---- its trigger alone
   module _ (v : ℕ) where

@@ -16,10 +16,10 @@ use Rattle.rules.specs.Tasks as Tasks
 use Rattle.rules.specs.Semaphores as Semaphores
 use Rattle.rules.specs.Events as Events
 use Rattle.rules.specs.Mailboxes as Mailboxes
+use Rattle.laws.proofs.Rows.{row-used}
+use Rattle.laws.proofs.Calls.{chosen}
 use Rattle.keeps.proofs.Groups.{SwisStay}
 use Rattle.keeps.proofs.Codes.{accepted-is}
-use Rattle.keeps.proofs.Chosen.{chosen}
-use Rattle.keeps.proofs.Objects.{row-used}
 use Rattle.keeps.proofs.Aside.{home-aside, moved-aside, waits-aside, woken-aside, placed-aside, priority-aside}
 
 -- ---- what an accepted call leaves: the lines of Swis as they were, and all lines as they were where `moves` says of its outcome and value that
@@ -57,24 +57,21 @@ abbrev pub taskMoves : ℕ → ℕ → ℕ → Bool
 taskMoves number o v = not (eqb number 0x01) && not (eqb number 0x06)
 
 module _ (q : Queued) (rows : Means (tasksRule (q .tasks))) (st : List ℕ) (x number a b c d : ℕ) where
-  may : (k : ℕ) → taskMoves k 0 0 ≡ true → eqb number k ≡ true → taskMoves number 0 0 ≡ true
-  may k m e = rw (eqb-true number k e) m
-
   pub tasks-quiet : Quiet (λ (y : Queued). y .lines) (q .lines) (taskMoves number) (Tasks.taskCall q st x number a b c d)
   unfolding Tasks.taskCall Tasks.createEffect Tasks.deleteEffect Tasks.setPriorityEffect Tasks.yieldEffect Tasks.endEffect Tasks.sleepEffect Tasks.lastResultEffect homeBy
   tasks-quiet =
-      numbered (eqb number 0x00) (λ e. does (λ _. goes (may 0x00 refl e) (placed-aside q rows _ noTask a)))
+      numbered (eqb number 0x00) (λ e. does (λ _. goes (rw (eqb-true number 0x00 e)) (placed-aside q rows _ noTask a)))
       (numbered (eqb number 0x01) (λ _. same refl)
-      (numbered (eqb number 0x02) (λ e. does (λ _. goes (may 0x02 refl e) (priority-aside q rows a b)))
+      (numbered (eqb number 0x02) (λ e. does (λ _. goes (rw (eqb-true number 0x02 e)) (priority-aside q rows a b)))
       (numbered (eqb number 0x03)
-      (λ e. does (λ _. goes (may 0x03 refl e) (moved-aside q rows atBack (current st) _ (home-aside q rows (current st)))))
+      (λ e. does (λ _. goes (rw (eqb-true number 0x03 e)) (moved-aside q rows atBack (current st) _ (home-aside q rows (current st)))))
       (numbered (eqb number 0x04)
-      (λ e. does (λ _. goes (may 0x04 refl e) (moved-aside q rows atBack (current st) _ (λ j low high n. omega arith))))
+      (λ e. does (λ _. goes (rw (eqb-true number 0x04 e)) (moved-aside q rows atBack (current st) _ (λ j low high n. omega arith))))
       (numbered (eqb number 0x05)
       (λ e.
       does
       (λ _.
-      tested (eqb a 0) (stays refl) (goes (may 0x05 refl e) (moved-aside q rows atBack (current st) _ (λ j low high n. omega arith)))))
+      tested (eqb a 0) (stays refl) (goes (rw (eqb-true number 0x05 e)) (moved-aside q rows atBack (current st) _ (λ j low high n. omega arith)))))
       (numbered (eqb number 0x06) (λ _. same refl) (same refl)))))))
 
 -- ---- semaphores and events: only a wait that begins, and a post with a wake, move a task
@@ -133,18 +130,15 @@ abbrev pub mailboxMoves : ℕ → ℕ → ℕ → Bool
 mailboxMoves number o v = ltb 0x41 number && not (eqb o notMet)
 
 module _ (q : Served) (rows : Means (tasksRule (q .tasks))) (st : List ℕ) (x number a b c d : ℕ) where
-  may-serve : (k o : ℕ) → mailboxMoves k o 0 ≡ true → eqb number k ≡ true → mailboxMoves number o 0 ≡ true
-  may-serve k o m e = rw (eqb-true number k e) m
-
   mailbox-post-leaves : eqb number 0x42 ≡ true → codeOf (Mailboxes.postCases (q .tasks) (q .lines) (q .objects) st x a c d) ≡ 0
       → Leaves (λ (y : Served). y .lines) (q .lines) (mailboxMoves number) (Mailboxes.postEffect q st a b c)
   unfolding Mailboxes.postCases Mailboxes.postEffect homeBy
   mailbox-post-leaves e z =
       let ok = accepted-is (Mailboxes.postCases (q .tasks) (q .lines) (q .objects) st x a c d) z in
       let lt : a < 8 = row-used 10 8 (q .objects) a 0 (eqb-false (mailbox (q .objects) a CAPACITY) 0 (ok .at3)) in
-      tested (Mailboxes.waitsFirst (q .tasks) (q .lines) a reading) (goes (may-serve 0x42 0 refl e) (woken-aside (queue q) rows _ 0 b))
+      tested (Mailboxes.waitsFirst (q .tasks) (q .lines) a reading) (goes (rw (eqb-true number 0x42 e)) (woken-aside (queue q) rows _ 0 b))
       (tested (Mailboxes.isFull (q .objects) a)
-      (tested (eqb c 0) (stays refl) (goes (may-serve 0x42 2 refl e) (waits-aside (queue q) rows _ (current st) _ (omega arith))))
+      (tested (eqb c 0) (stays refl) (goes (rw (eqb-true number 0x42 e)) (waits-aside (queue q) rows _ (current st) _ (omega arith))))
       (stays refl))
 
   taken-aside : SwisStay (q .lines) (Mailboxes.taken q a .lines)
@@ -160,8 +154,8 @@ module _ (q : Served) (rows : Means (tasksRule (q .tasks))) (st : List ℕ) (x n
       let ok = accepted-is (Mailboxes.pendCases (q .objects) st x a b c d) z in
       let lt : a < 8 = row-used 10 8 (q .objects) a 0 (eqb-false (mailbox (q .objects) a CAPACITY) 0 (ok .at3)) in
       tested (eqb (mailbox (q .objects) a MESSAGES) 0)
-      (tested (eqb b 0) (stays refl) (goes (may-serve 0x43 2 refl e) (waits-aside (queue q) rows _ (current st) _ (omega arith))))
-      (goes (may-serve 0x43 0 refl e) taken-aside)
+      (tested (eqb b 0) (stays refl) (goes (rw (eqb-true number 0x43 e)) (waits-aside (queue q) rows _ (current st) _ (omega arith))))
+      (goes (rw (eqb-true number 0x43 e)) taken-aside)
 
   pub mailboxes-quiet : Quiet (λ (y : Served). y .lines) (q .lines) (mailboxMoves number) (Mailboxes.mailboxCall q st x number a b c d)
   unfolding Mailboxes.mailboxCall Mailboxes.createEffect Mailboxes.deleteEffect

@@ -1,13 +1,13 @@
 -- Dispatch: from the tables that a call's effect leaves to sound ones.
 use Prim.Native.Nat.{ℕ, suc, _-_, _<_, _≤_}
 use mathlib.Core.Path.{_≡_, refl, sym, ap, _∙_}
-use mathlib.Core.Logic.{_≢_, _⊎_, inr, ⊎-elim}
+use mathlib.Core.Logic.{_≢_, inr, ⊎-elim}
 use mathlib.Core.Bool.{true, false, not, _&&_, true≢false, and-eq-true-iff, and-false}
-use mathlib.Core.List.{List, [], _∷_}
+use mathlib.Core.List.{List}
 use native.Mathlib.Omega.{arith}
 use lib.Dec.{eqb}
 use borrow.Author.Tests.{lt-ltb, le-ltb, ltb-true}
-use lib.ListN.{length, length-append, length-set}
+use lib.ListN.{length, length-set}
 use lib.Seq.{getD-set-same, getD-set-other}
 use Rattle.fold.specs.Rule.{Means}
 use Rattle.fold.proofs.Laws.{lt-or-le, count-first, length-without}
@@ -19,9 +19,10 @@ use Rattle.rules.specs.Dispatch.{dispatched, swiDispatched, swiDue, taskDispatc
 use Rattle.rules.specs.Sound.{Sound, stateRule, dispatchRule}
 use Rattle.rules.specs.Step.{withPosts, withDispatched}
 use Rattle.rules.specs.declared.Tables.{Tables}
-use Rattle.keeps.proofs.Groups.{Settling, Almost, Ranges}
+use Rattle.laws.proofs.Calls.{chosen}
+use Rattle.laws.proofs.InPlace.{length-snoc}
+use Rattle.keeps.proofs.Groups.{Settling, Almost, others-change, Ranges}
 use Rattle.keeps.proofs.Members.{bit-same, bit-eq}
-use Rattle.keeps.proofs.Chosen.{chosen}
 use Rattle.keeps.proofs.Standing.{in-ready, members-is, task-once, swi-once}
 use Rattle.keeps.proofs.Starts.{started-almost, started-active, started-top, started-priority, started-stays}
 
@@ -37,7 +38,7 @@ level-some : (ws ls : List ℕ) → 0 < length (line ls activeLine) → activeLe
 unfolding activeLevel
 level-some ws ls h = rw (lt-ltb 0 (length (line ls activeLine)) h)
 
-posted-high : (ls : List ℕ) → IsHighest 16 (λ p. anyone ls (postedLine p)) (highestPosted ls)
+pub posted-high : (ls : List ℕ) → IsHighest 16 (λ p. anyone ls (postedLine p)) (highestPosted ls)
 unfolding highestPosted
 posted-high ls = high-is 16 (λ p. anyone ls (postedLine p))
 
@@ -79,8 +80,7 @@ module _ (t : Tables) (a : Almost t) where
     level-after : activeLevel (after .swis) (after .lines) ≡ suc p
     unfolding after
     level-after =
-        let n : length (line (after .lines) activeLine) ≡ suc (length (line (t .lines) activeLine)) =
-        ap length (started-active t a i p low home) ∙ length-append (line (t .lines) activeLine) (i ∷ []) ∙ omega arith in
+        let n = ap length (started-active t a i p low home) ∙ length-snoc (line (t .lines) activeLine) i in
         level-some (after .swis) (after .lines) (omega arith)
         ∙ ap (λ (x : ℕ). suc (swi (after .swis) x PRIORITY)) (started-top t a i p low home)
         ∙ ap suc (started-priority t a i p low home)
@@ -223,21 +223,15 @@ module _ (t : Tables) (s : Settling t) where
   unfolding x
   settled = stated (withPosts t x) now-almost (s .ranges) (swis-settled t (s .almost) .quiet) current-stays
 
-  pub settled-typed : Typed (withDispatched t (dispatched (t .swis) (t .lines) (t .state)))
+  after-dispatch : Almost (withDispatched t (dispatched (t .swis) (t .lines) (t .state)))
   unfolding dispatched x
-  settled-typed =
+  after-dispatch =
       let a = now-almost in
-      record {
-        tasks = a .typed .tasks;
-        lines = a .typed .lines;
-        semaphores = a .typed .semaphores;
-        events = a .typed .events;
-        mailboxes = a .typed .mailboxes;
-        swis = a .typed .swis;
-        clocks = a .typed .clocks;
-        heap = a .typed .heap;
-        state = settled .size;
-      }
+      others-change (withPosts t x) a (t .semaphores) (t .events) (t .mailboxes) (t .clocks) (t .heap) _ refl refl refl refl refl
+      (settled .size ∙ sym (a .typed .state)) (a .semaphores) (a .events) (a .mailboxes) (a .clocks) (a .heap)
+
+  pub settled-typed : Typed (withDispatched t (dispatched (t .swis) (t .lines) (t .state)))
+  settled-typed = after-dispatch .typed
 
   pub settled-sound : Sound (withDispatched t (dispatched (t .swis) (t .lines) (t .state)))
   unfolding dispatched x

@@ -10,11 +10,11 @@ use borrow.Author.Tests.{eq-eqb, ne-eqb, lt-ltb, le-ltb, le-leb, lt-leb}
 use Rattle.fold.specs.Lists.{bit, count}
 use Rattle.fold.specs.Rule.{Means, _is_, every}
 use Rattle.fold.proofs.Laws.{same?, lt-or-le}
-use Rattle.laws.proofs.Rows.{by-range, field-out}
 use Rattle.rules.specs.Tables.{Typed, taskCount, swiCount, swiWidth, ready, task, swi, levels, PRIORITY, POSTED}
 use Rattle.rules.specs.Lines.{lineCount, nowhere, readyLine, postedLine, activeLine, line, taskHome, swiHome}
 use Rattle.rules.specs.Sound.{Sound, isPosted, homeIn, membersRule, onceRule, tasksRule, swiRule}
 use Rattle.rules.specs.declared.Tables.{Tables}
+use Rattle.laws.proofs.Rows.{by-range, field-out}
 use Rattle.keeps.proofs.Groups.{OfTasks, Standing, Almost}
 use Rattle.keeps.proofs.Members.{bit-same, bit-other, bit-eq, every-at, every-make}
 use Rattle.keeps.proofs.TaskRows.{home-out, task-stands, stands-in, ready-row}
@@ -46,16 +46,29 @@ of-tasks j (inr (a, b)) = (b, rw (le-leb 32 j (omega arith), le-ltb j activeLine
 pub posted-line-is : (p : ℕ) → p < 16 → isPosted (postedLine p) ≡ true
 posted-line-is p l = rw (le-leb 32 (postedLine p) (omega arith), lt-ltb (postedLine p) activeLine (omega arith))
 
+-- ---- the home of a Swi
+module _ (ws : List ℕ) (x : ℕ) where
+  pub home-posted : swi ws x POSTED ≡ 1 → swiHome ws x ≡ postedLine (swi ws x PRIORITY)
+  unfolding swiHome
+  home-posted e = rw (eq-eqb (swi ws x POSTED) 1 e)
+
+  pub home-unposted : swi ws x POSTED ≡ 0 → swiHome ws x ≡ nowhere
+  unfolding swiHome
+  home-unposted e = rw (ne-eqb (swi ws x POSTED) 1 (λ d. omega arith))
+
+  pub home-kept : (vs : List ℕ) → swi vs x POSTED ≡ swi ws x POSTED → swi vs x PRIORITY ≡ swi ws x PRIORITY → swiHome vs x ≡ swiHome ws x
+  unfolding swiHome
+  home-kept vs e d = rw (e, d)
+
 -- who is no Swi is posted nowhere; who is one, at its priority or nowhere
 pub swi-out : (ws : List ℕ) (x : ℕ) → swiCount ≤ x → swiHome ws x ≡ nowhere
-unfolding swiHome
-swi-out ws x h = rw (field-out swiWidth swiCount ws x POSTED h)
+swi-out ws x h = home-unposted ws x (field-out swiWidth swiCount ws x POSTED h)
 
-pub swi-stands : (ws : List ℕ) (i : ℕ) → (swiHome ws i ≡ postedLine (swi ws i PRIORITY)) ⊎ (swiHome ws i ≡ nowhere)
+swi-stands : (ws : List ℕ) (i : ℕ) → (swiHome ws i ≡ postedLine (swi ws i PRIORITY)) ⊎ (swiHome ws i ≡ nowhere)
 unfolding swiHome
 swi-stands ws i =
     ⊎-elim
-    (λ (e : swi ws i POSTED ≡ 1). inl (rw (eq-eqb (swi ws i POSTED) 1 e)))
+    (λ (e : swi ws i POSTED ≡ 1). inl (home-posted ws i e))
     (λ (n : swi ws i POSTED ≢ 1). inr (rw (ne-eqb (swi ws i POSTED) 1 n)))
     (same? (swi ws i POSTED) 1)
 

@@ -1,12 +1,12 @@
 -- The first posted Swi at a priority above the top active one's starts: it leaves its queue and is the top active one.
 use Prim.Native.Nat.{ℕ, suc, _+_, _*_, _-_, _<_}
 use mathlib.Core.Path.{_≡_, refl, sym, ap, _∙_}
-use mathlib.Core.Logic.{_≢_, _⊎_, ⊎-elim}
+use mathlib.Core.Logic.{_≢_, ⊎-elim}
 use mathlib.Core.List.{List, [], _∷_, _++_}
 use native.Mathlib.Omega.{arith}
 use lib.Dec.{eqb}
 use borrow.Author.Tests.{ne-eqb}
-use lib.ListN.{length, getD, length-append}
+use lib.ListN.{length, getD}
 use lib.Seq.{getD-at}
 use Rattle.fold.specs.Lists.{bit, count, without}
 use Rattle.fold.specs.Rule.{Means}
@@ -18,12 +18,15 @@ use Rattle.rules.specs.Dispatch.{started}
 use Rattle.rules.specs.Sound.{swiRule, activeRule}
 use Rattle.rules.specs.Step.{withPosts}
 use Rattle.rules.specs.declared.Tables.{Tables}
+use Rattle.laws.proofs.InPlace.{length-snoc}
 use Rattle.laws.proofs.Lines.{length-left, left-same, left-other, length-entered, entered-same, entered-other}
 use Rattle.keeps.proofs.Groups.{Almost}
 use Rattle.keeps.proofs.Members.{bit-same, bit-other}
 use Rattle.keeps.proofs.Stored.{left-lines, entered-lines}
 use Rattle.keeps.proofs.Actives.{Rises, rises-more, every-more}
-use Rattle.keeps.proofs.SwiTables.{SwiChanged, swi-almost, not-of-swis, swi-below, posted-in-use, posted-there, home-unposted, active-most, length-swi, swi-same, swi-row, swi-other, named-kept, rule-used}
+use Rattle.keeps.proofs.Aside.{not-of-swis}
+use Rattle.keeps.proofs.Standing.{home-unposted}
+use Rattle.keeps.proofs.SwiTables.{SwiChanged, swi-almost, swi-below, posted-in-use, posted-there, active-most, length-swi, swi-same, swi-row, swi-other, named-kept, rule-used}
 
 module _ (t : Tables) (a : Almost t) (i p : ℕ) (low : p < 16) (home : swiHome (t .swis) i ≡ postedLine p) where
   is-posted : (swi (t .swis) i POSTED ≡ 1) × (swi (t .swis) i PRIORITY ≡ p)
@@ -184,7 +187,7 @@ module _ (t : Tables) (a : Almost t) (i p : ℕ) (low : p < 16) (home : swiHome 
   unfolding top
   started-top =
       let xs : List ℕ = line (t .lines) activeLine in
-      let n : length (xs ++ (i ∷ [])) ≡ suc (length xs) = length-append xs (i ∷ []) ∙ omega arith in
+      let n = length-snoc xs i in
       rw (started-active, getD-at xs i [] 0 (length (xs ++ (i ∷ [])) - 1) (omega arith))
 
   pub started-priority : swi (started i p (posts (t .swis) (t .lines)) .swis) i PRIORITY ≡ p

@@ -1,51 +1,33 @@
 -- One Swi's row, and the lines in which Swis stand, change alone: what has to hold of them, so that all rules but those on the state are kept.
-use Prim.Native.Nat.{ℕ, suc, _-_, _≤_, _<_}
+use Prim.Native.Nat.{ℕ, _≤_, _<_}
 use mathlib.Core.Path.{_≡_, _∙_}
 use mathlib.Core.Logic.{_≢_, _⊎_, inl, inr, ⊎-elim}
 use mathlib.Core.List.{List}
 use native.Mathlib.Omega.{arith}
 use lib.Dec.{eqb}
-use borrow.Author.Tests.{eq-eqb, ne-eqb}
 use lib.ListN.{length}
 use Rattle.fold.specs.Lists.{bit, count}
 use Rattle.fold.specs.Rule.{Means}
 use Rattle.fold.proofs.Laws.{same?, lt-or-le, at-most}
-use Rattle.rules.specs.Tables.{swiCount, swiWidth, clockCount, swi, withSwi, clock, USED, PRIORITY, INITIAL, TRIGGER, POSTED, TAKEN}
-use Rattle.rules.specs.Lines.{nowhere, semaphoreLine, mailboxLine, eventLine, postedLine, activeLine, line, swiHome}
+use Rattle.rules.specs.Tables.{swiCount, swiWidth, clockCount, swi, withSwi, clock, USED, PRIORITY, POSTED, TAKEN}
+use Rattle.rules.specs.Lines.{semaphoreLine, mailboxLine, eventLine, postedLine, activeLine, line, swiHome}
 use Rattle.rules.specs.Swis.{Posts}
 use Rattle.rules.specs.Sound.{linesRule, semaphoreRule, eventRule, mailboxRule, swiRule, swisRule, activeRule, clockRule}
 use Rattle.rules.specs.Step.{withPosts}
 use Rattle.rules.specs.declared.Tables.{Tables}
-use Rattle.laws.proofs.Rows.{field-out, field-same, field-other, field-row, length-withField}
+use Rattle.laws.proofs.Rows.{field-out, field-same, field-other, field-row, length-withField, row-used}
 use Rattle.keeps.proofs.Groups.{OfTasks, Almost}
-use Rattle.keeps.proofs.Members.{bit-le, bit-other, count-at}
-use Rattle.keeps.proofs.Actives.{of-member, rises-most}
-use Rattle.keeps.proofs.Objects.{row-used, each-but}
+use Rattle.keeps.proofs.Members.{bit-le, bit-other, of-member}
+use Rattle.keeps.proofs.Standing.{home-posted, home-unposted, home-kept, swi-out}
+use Rattle.keeps.proofs.ObjectRules.{swi-kept}
+use Rattle.keeps.proofs.Actives.{rises-most}
+use Rattle.keeps.proofs.Objects.{each-but}
 
--- ---- the home of a Swi
-module _ (ws : List ℕ) (x : ℕ) where
-  pub home-posted : swi ws x POSTED ≡ 1 → swiHome ws x ≡ postedLine (swi ws x PRIORITY)
-  unfolding swiHome
-  home-posted e = rw (eq-eqb (swi ws x POSTED) 1 e)
-
-  pub home-unposted : swi ws x POSTED ≡ 0 → swiHome ws x ≡ nowhere
-  unfolding swiHome
-  home-unposted e = rw (ne-eqb (swi ws x POSTED) 1 (λ d. omega arith))
-
-  pub home-kept : (vs : List ℕ) → swi vs x POSTED ≡ swi ws x POSTED → swi vs x PRIORITY ≡ swi ws x PRIORITY → swiHome vs x ≡ swiHome ws x
-  unfolding swiHome
-  home-kept vs e d = rw (e, d)
-
--- ---- the rule of a Swi in use, and of one whose row stays
+-- ---- the rule of a Swi in use
 pub rule-used : (ws ls : List ℕ) (x : ℕ) → swi ws x USED ≡ 1 → swi ws x PRIORITY < 16 → swi ws x POSTED < 2
     → (count x (line ls activeLine) ≡ 0 → swi ws x TAKEN ≡ 0) → Means (swiRule ws ls x)
 unfolding swiRule
 rule-used ws ls x u p o c = (omega arith, (λ z. absurd (omega arith), (p, (o, c))))
-
-rule-kept : (ws vs ls ks : List ℕ) (x : ℕ) → ((f : ℕ) → swi vs x f ≡ swi ws x f) → count x (line ks activeLine) ≡ count x (line ls activeLine)
-    → Means (swiRule ws ls x) → Means (swiRule vs ks x)
-unfolding swiRule
-rule-kept ws vs ls ks x e c r = rw (c, e USED, e PRIORITY, e INITIAL, e TRIGGER, e POSTED, e TAKEN) r
 
 -- ---- Swi i's row changes, it may come into a line of Swis or leave one, and nothing else is touched
 pub record SwiChanged (t : Tables) (i : ℕ) (p : Posts) : Type 0 where
@@ -73,7 +55,7 @@ module _ (t : Tables) (a : Almost t) (i : ℕ) (p : Posts) (k : SwiChanged t i p
   swis : Means (swisRule (p .swis) (p .lines))
   swis =
       each-but swiCount i (swiRule (t .swis) (t .lines)) (swiRule (p .swis) (p .lines))
-      (λ x h n. rule-kept (t .swis) (p .swis) (t .lines) (p .lines) x (λ f. k .rows x f n) (k .actives x n))
+      (λ x h n. swi-kept (t .swis) (p .swis) (t .lines) (p .lines) x (λ f. k .rows x f n) (k .actives x n))
       (k .rule)
       (a .swis)
 
@@ -104,10 +86,6 @@ module _ (t : Tables) (a : Almost t) (i : ℕ) (p : Posts) (k : SwiChanged t i p
         swis = swis;
         active = k .active;
       }
-
--- no line of tasks is one of Swis
-pub not-of-swis : (j k : ℕ) → OfTasks j → postedLine 0 ≤ k → k ≤ activeLine → j ≢ k
-not-of-swis j k o low high e = ⊎-elim (λ h. omega arith) (λ h. omega arith) o
 
 -- ---- what the rules say of a Swi
 pub swi-below : (ws : List ℕ) (x f : ℕ) → swi ws x f ≢ 0 → x < swiCount
@@ -156,14 +134,11 @@ module _ (ws ls : List ℕ) (rules : Means (swisRule ws ls)) where
 
 -- ---- room in a line of posted Swis
 module _ (t : Tables) (a : Almost t) (q : ℕ) (low : q < 16) where
-  nobody : (y : ℕ) → 16 ≤ y → swiHome (t .swis) y ≢ postedLine q
-  nobody y h e = omega (arith, e, home-unposted (t .swis) y (field-out swiWidth swiCount (t .swis) y POSTED h))
-
   pub posted-most : length (line (t .lines) (postedLine q)) ≤ 16
   posted-most =
       at-most 16 (line (t .lines) (postedLine q))
       (λ y. rw (a .standing .swis y q low) (bit-le (eqb (swiHome (t .swis) y) (postedLine q))))
-      (λ y h. a .standing .swis y q low ∙ bit-other (swiHome (t .swis) y) (postedLine q) (nobody y h))
+      (λ y h. a .standing .swis y q low ∙ bit-other (swiHome (t .swis) y) (postedLine q) (λ e. omega (arith, e, swi-out (t .swis) y h)))
 
 -- ---- one field of a Swi changes
 module _ (ws : List ℕ) (i f v : ℕ) where
@@ -180,20 +155,8 @@ module _ (ws : List ℕ) (i f v : ℕ) where
   swi-other x g n =
       ⊎-elim (λ (e : x ≡ i). rw e (field-other swiWidth swiCount ws i f v g n)) (λ (d : x ≢ i). swi-row x g d) (same? x i)
 
--- ---- who is in use stays so; the active ones stay in use and at their priorities
+-- ---- who is in use stays so
 pub named-kept : (t : Tables) → Almost t → (vs : List ℕ) → ((x : ℕ) → swi vs x USED ≡ swi (t .swis) x USED)
     → (n : ℕ) → n < clockCount → clock (t .clocks) n .used ≡ 1 → swi vs (clock (t .clocks) n .swi) USED ≡ 1
 unfolding clockRule
 named-kept t a vs same n h e = same _ ∙ a .clocks n h .1 .1 e .0
-
-pub active-kept : (ws vs ls ks : List ℕ) → line ks activeLine ≡ line ls activeLine
-    → ((x : ℕ) → 0 < count x (line ls activeLine) → (swi vs x USED ≡ swi ws x USED) × (swi vs x PRIORITY ≡ swi ws x PRIORITY))
-    → Means (activeRule ws ls) → Means (activeRule vs ks)
-active-kept ws vs ls ks e same r =
-    rw e (
-      λ k h. same _ (count-at (line ls activeLine) k h) .0 ∙ r .0 k h,
-      λ k h.
-          let p = same _ (count-at (line ls activeLine) k (omega arith)) .1 in
-          let q = same _ (count-at (line ls activeLine) (suc k) (omega arith)) .1 in
-          omega (arith, p, q, r .1 k h),
-    )

@@ -8,11 +8,11 @@ use lib.ListN.{length}
 use borrow.Author.Tests.{ne-eqb}
 use Rattle.fold.specs.Rule.{Means}
 use Rattle.fold.proofs.Laws.{same?}
-use Rattle.laws.proofs.Rows.{by-range, field-out, row-same, row-other, length-withRow}
 use Rattle.rules.specs.Tables.{taskCount, taskWidth, levels, ready, atSemaphore, atEvent, reading, writing, inactive, notInUse, task, taskWords, withTask, noTask}
 use Rattle.rules.specs.Lines.{nowhere, semaphoreLine, mailboxLine, eventLine, readyLine, homeBy, homeOf, taskHome}
 use Rattle.rules.specs.Sound.{otherRule, taskRule, tasksRule}
 use Rattle.rules.specs.declared.Task.{Task}
+use Rattle.laws.proofs.Rows.{by-range, field-out, row-same, row-other, length-withRow}
 use Rattle.keeps.proofs.Groups.{OfTasks}
 
 -- ---- read after write
@@ -40,6 +40,13 @@ module _ (ts : List ℕ) (i : ℕ) where
       let f : (g : ℕ) → _ = λ g. field-out taskWidth taskCount ts i g h in
       rw (f 0, f 1, f 2, f 3, f 4, f 5, f 6, f 7)
 
+  -- a row with anything in it is one of the 32
+  pub task-in : task ts i ≢ noTask → i < taskCount
+  task-in n = by-range i taskCount (λ h. h) (λ h. absurd (n (task-out h)))
+
+  pub in-use : task ts i .mode ≢ notInUse → i < taskCount
+  in-use n = task-in (λ e. n (ap (λ (k : Task). k .mode) e))
+
 -- a row that its rule allows
 pub tasks-withTask : (ts : List ℕ) (i : ℕ) (k : Task) → length ts ≡ 256 → i < taskCount → Means (tasksRule ts) → Means (taskRule i k)
     → Means (tasksRule (withTask ts i k))
@@ -47,33 +54,12 @@ tasks-withTask ts i k all lt rule row x h =
     ⊎-elim (λ (e : x ≡ i). rw (e, task-same ts i k all lt) row) (λ (n : x ≢ i). rw (task-other ts i k x n) (rule x h)) (same? x i)
 
 -- ---- the line of a row
--- the line that each mode gives
-module _ (k : Task) where
-  home-ready : k .mode ≡ ready → homeOf k ≡ readyLine (k .priority)
-  unfolding homeBy
-  home-ready e = rw e
-
-  home-semaphore : k .mode ≡ atSemaphore → homeOf k ≡ semaphoreLine (k .object)
-  unfolding homeBy
-  home-semaphore e = rw e
-
-  home-event : k .mode ≡ atEvent → homeOf k ≡ eventLine (k .object)
-  unfolding homeBy
-  home-event e = rw e
-
-  home-reading : k .mode ≡ reading → homeOf k ≡ mailboxLine (k .object)
-  unfolding homeBy
-  home-reading e = rw e
-
-  home-writing : k .mode ≡ writing → homeOf k ≡ mailboxLine (k .object)
-  unfolding homeBy
-  home-writing e = rw e
-
-  home-none : k .mode ≢ ready → k .mode ≢ atSemaphore → k .mode ≢ atEvent → k .mode ≢ reading → k .mode ≢ writing → homeOf k ≡ nowhere
-  unfolding homeBy
-  home-none a b c d e =
-      rw
-      (ne-eqb (k .mode) ready a, ne-eqb (k .mode) atSemaphore b, ne-eqb (k .mode) atEvent c, ne-eqb (k .mode) reading d, ne-eqb (k .mode) writing e)
+pub home-none : (k : Task) → k .mode ≢ ready → k .mode ≢ atSemaphore → k .mode ≢ atEvent → k .mode ≢ reading → k .mode ≢ writing
+    → homeOf k ≡ nowhere
+unfolding homeBy
+home-none k a b c d e =
+    rw
+    (ne-eqb (k .mode) ready a, ne-eqb (k .mode) atSemaphore b, ne-eqb (k .mode) atEvent c, ne-eqb (k .mode) reading d, ne-eqb (k .mode) writing e)
 
 pub home-out : (ts : List ℕ) (x : ℕ) → taskCount ≤ x → taskHome ts x ≡ nowhere
 unfolding homeBy
@@ -88,22 +74,22 @@ pub data Stands (k : Task) : Type 0 where
   isNowhere : homeOf k ≡ nowhere → Stands k
 
 other-stands : (k : Task) → Means (otherRule k) → Stands k
-unfolding otherRule
+unfolding otherRule homeBy
 other-stands k (_, (_, (_, (_, (_, (_, (atS, (atE, (reads, (writes, (_, (_, range)))))))))))) =
     ⊎-elim
-    (λ (e : k .mode ≡ ready). isReady e (range (λ (z : k .mode ≡ notInUse). omega arith, λ (z : k .mode ≡ inactive). omega arith) .1) (home-ready k e))
+    (λ (e : k .mode ≡ ready). isReady e (range (λ (z : k .mode ≡ notInUse). omega arith, λ (z : k .mode ≡ inactive). omega arith) .1) (rw e))
     (λ (a : k .mode ≢ ready).
     ⊎-elim
-    (λ (e : k .mode ≡ atSemaphore). isAtSemaphore e (atS e .0 .0) (home-semaphore k e))
+    (λ (e : k .mode ≡ atSemaphore). isAtSemaphore e (atS e .0 .0) (rw e))
     (λ (b : k .mode ≢ atSemaphore).
     ⊎-elim
-    (λ (e : k .mode ≡ atEvent). isAtEvent e (atE e .0 .0) (home-event k e))
+    (λ (e : k .mode ≡ atEvent). isAtEvent e (atE e .0 .0) (rw e))
     (λ (c : k .mode ≢ atEvent).
     ⊎-elim
-    (λ (e : k .mode ≡ reading). isAtMailbox (inl e) (reads e .0 .0) (home-reading k e))
+    (λ (e : k .mode ≡ reading). isAtMailbox (inl e) (reads e .0 .0) (rw e))
     (λ (d : k .mode ≢ reading).
     ⊎-elim
-    (λ (e : k .mode ≡ writing). isAtMailbox (inr e) (writes e .0 .0) (home-writing k e))
+    (λ (e : k .mode ≡ writing). isAtMailbox (inr e) (writes e .0 .0) (rw e))
     (λ (e : k .mode ≢ writing). isNowhere (home-none k a b c d e))
     (same? (k .mode) writing))
     (same? (k .mode) reading))
@@ -113,9 +99,10 @@ other-stands k (_, (_, (_, (_, (_, (_, (atS, (atE, (reads, (writes, (_, (_, rang
 
 -- every row that its rule allows stands somewhere or nowhere; one that is not there stands nowhere
 pub row-stands : (i : ℕ) (k : Task) → Means (taskRule i k) → Stands k
+unfolding homeBy
 row-stands i k (idle, other) =
     ⊎-elim
-    (λ (e : i ≡ 0). let (m, (p, _)) = idle e in isReady m (omega arith) (home-ready k m))
+    (λ (e : i ≡ 0). let (m, (p, _)) = idle e in isReady m (omega arith) (rw m))
     (λ (n : i ≢ 0). other-stands k (other n))
     (same? i 0)
 

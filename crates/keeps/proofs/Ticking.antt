@@ -20,13 +20,13 @@ use Rattle.rules.specs.Step.{withQueued, withPosts, withClocks}
 use Rattle.rules.specs.declared.Tables.{Tables}
 use Rattle.rules.specs.declared.Task.{Task}
 use Rattle.rules.specs.declared.Clock.{Clock}
+use Rattle.laws.proofs.Calls.{chosen}
 use Rattle.keeps.proofs.Groups.{Almost}
 use Rattle.keeps.proofs.ClockRows.{clock-keeps}
 use Rattle.keeps.proofs.Posts.{posted-keeps}
 use Rattle.keeps.proofs.Moves.{row-keeps}
 use Rattle.keeps.proofs.TaskRows.{task-other}
 use Rattle.keeps.proofs.Waiting.{row-other, used-at, still-waiting, woken-keeps, woken-ready}
-use Rattle.keeps.proofs.Chosen.{chosen}
 
 -- what each step keeps, all of them keep
 pub rising-keeps : {A : Type 0} (P : A → Type 0) (f : A → ℕ → A) (x : A) (n : ℕ) → ((y : A) (i : ℕ) → i < n → P y → P (f y i)) → P x

@@ -2,7 +2,7 @@
 use Prim.Native.Nat.{ℕ, zero, suc, _<_, _≤_}
 use mathlib.Core.Path.{_≡_, refl, sym, ap, _∙_}
 use mathlib.Core.Logic.{_≢_, _⊎_, inl, inr, ⊎-elim}
-use mathlib.Core.Bool.{Bool, true, false, _&&_, _||_, cond as if}
+use mathlib.Core.Bool.{Bool, true, false, _&&_, _||_, true≢false, and-eq-true-iff, cond as if}
 use mathlib.Core.List.{List}
 use native.Mathlib.Omega.{arith}
 use borrow.Author.Tests.{eqb-false, eq-eqb, ne-eqb, ltb-false, lt-ltb, not-true}
@@ -13,7 +13,7 @@ use Rattle.fold.specs.Rule.{Means, _is_, _isnt_, _under_, _and_, _or_}
 use Rattle.fold.proofs.Laws.{same?}
 use Rattle.rules.specs.Answer.{T, S, I}
 use Rattle.rules.specs.Tables.{Typed, taskCount, semaphoreCount, eventCount, mailboxCount, levels, wordEnd, forever, minusOne, notInUse, ready, sleeping, atSemaphore, atEvent, reading, writing, terminated, inactive, task, state, current, DEPTH, SWIS, TASKS, CURRENT}
-use Rattle.rules.specs.Lines.{postedLine, activeLine, line, anyone, queued, moved, atBack}
+use Rattle.rules.specs.Lines.{postedLine, activeLine, anyone, queued, moved, atBack}
 use Rattle.rules.specs.Waits.{switchOff, idle, ticksFor, waiting, readied, woken}
 use Rattle.rules.specs.Swis.{top}
 use Rattle.rules.specs.Dispatch.{context, highestPosted, activeLevel, swiDue, taskDue}
@@ -21,18 +21,17 @@ use Rattle.rules.specs.Sound.{Sound, noWait, waitRule, otherRule, taskRule}
 use Rattle.rules.specs.Step.{withQueued}
 use Rattle.rules.specs.declared.Tables.{Tables}
 use Rattle.rules.specs.declared.Task.{Task}
-use Rattle.keeps.proofs.Groups.{Almost, Ranges, Settling}
+use Rattle.keeps.proofs.Groups.{SwisStay, Almost, Ranges, Settling}
 use Rattle.keeps.proofs.Standing.{sound-almost}
 use Rattle.keeps.proofs.Moves.{Welcome, moved-row, moved-rows, moved-swi-line, moved-keeps}
 
 -- ---- a false `or`, a true `and`
 pub neither : (a b : Bool) → (a || b) ≡ false → (a ≡ false) × (b ≡ false)
-neither true b e = absurd (let z : _≡_ {A = ℕ} 0 1 = cc in omega arith)
+neither true b e = absurd (true≢false e)
 neither false b e = (refl, e)
 
 pub both : (a b : Bool) → (a && b) ≡ true → (a ≡ true) × (b ≡ true)
-both true b e = (refl, e)
-both false b e = absurd (let z : _≡_ {A = ℕ} 0 1 = cc in omega arith)
+both a b = and-eq-true-iff a b .0
 
 -- ---- a row of a task other than task 0: the parts of its rule by name
 pub record Other (k : Task) : Type 0 where
@@ -261,18 +260,6 @@ module _ (t : Tables) (s : Sound t) where
   unfolding idle
   not-idle e = eqb-false (current (t .state)) 0 e
 
-  -- nothing is left of a wait
-  pub current-no-wait : Means (noWait (task (t .tasks) (current (t .state))))
-  current-no-wait =
-      ⊎-elim
-      (λ (e : current (t .state) ≡ 0). current-row .0 e .1 .1 .0)
-      (λ (n : current (t .state) ≢ 0). row-other _ _ n current-row .whenReady current-ready)
-      (same? (current (t .state)) 0)
-
-  pub current-level : current (t .state) ≢ 0
-      → (0 < task (t .tasks) (current (t .state)) .priority) × (task (t .tasks) (current (t .state)) .priority < levels)
-  current-level n = row-other _ _ n current-row .level current-used
-
   pub swi-not-due : swiDue (t .swis) (t .lines) (t .state) ≡ false
   swi-not-due = not-true _ (s .dispatch .0)
 
@@ -284,7 +271,7 @@ high-same f g (suc n) e =
     let ih = high-same f g n (λ i h. e i (omega arith)) in
     rw (e n (omega arith), ih)
 
-module _ (ws ls ls′ st : List ℕ) (same : (j : ℕ) → postedLine 0 ≤ j → j ≤ activeLine → line ls′ j ≡ line ls j) where
+module _ (ws ls ls′ st : List ℕ) (same : SwisStay ls ls′) where
   pub anyone-same : (j : ℕ) → postedLine 0 ≤ j → j ≤ activeLine → anyone ls′ j ≡ anyone ls j
   anyone-same j low high = ap (λ (l : List ℕ). ltb 0 (length l)) (same j low high)
 

@@ -14,7 +14,7 @@ use Rattle.rules.proofs.Agree.{sound-means, means-sound}
 use Rattle.keeps.proofs.Groups.{Words}
 use Rattle.keeps.proofs.Keeps.{step-typed, step-sound}
 use Rattle.keeps.proofs.Waiting.{both}
-use Rattle.kernel.specs.Known.{Known}
+use Rattle.kernel.specs.Known.{Known, Tested}
 
 -- ---- the test
 length-is : {n m k : ℕ} → n ≡ m → eqb n k ≡ true → m ≡ k
@@ -24,7 +24,7 @@ abbrev lengths : ℕ → ℕ → ℕ → ℕ → ℕ → ℕ → ℕ → ℕ →
 lengths n₁ n₂ n₃ n₄ n₅ n₆ n₇ n₈ n₉ =
     (((((((eqb n₁ 256 && eqb n₂ 2145) && eqb n₃ 48) && eqb n₄ 16) && eqb n₅ 80) && eqb n₆ 96) && eqb n₇ 80) && eqb n₈ 256) && eqb n₉ 5
 
-pub known-tested : (t : Tables) {n₁ n₂ n₃ n₄ n₅ n₆ n₇ n₈ n₉ : ℕ} {s : Bool}
+known-tested : (t : Tables) {n₁ n₂ n₃ n₄ n₅ n₆ n₇ n₈ n₉ : ℕ} {s : Bool}
     → n₁ ≡ length (t .tasks) → n₂ ≡ length (t .lines) → n₃ ≡ length (t .semaphores) → n₄ ≡ length (t .events) → n₅ ≡ length (t .mailboxes)
     → n₆ ≡ length (t .swis) → n₇ ≡ length (t .clocks) → n₈ ≡ length (t .heap) → n₉ ≡ length (t .state) → s ≡ sound t
     → Known (lengths n₁ n₂ n₃ n₄ n₅ n₆ n₇ n₈ n₉ && s) t
@@ -53,6 +53,13 @@ known-tested t {n₁} {n₂} {n₃} {n₄} {n₅} {n₆} {n₇} {n₈} {n₉} {s
           };
       sound = λ h. let g = both (lengths n₁ n₂ n₃ n₄ n₅ n₆ n₇ n₈ n₉) s h in sound-means t (sym e ∙ g .1);
     }
+
+pub tested-is : (t : Tables) {n₁ n₂ n₃ n₄ n₅ n₆ n₇ n₈ n₉ : ℕ} {s : Bool}
+    → n₁ ≡ length (t .tasks) → n₂ ≡ length (t .lines) → n₃ ≡ length (t .semaphores) → n₄ ≡ length (t .events) → n₅ ≡ length (t .mailboxes)
+    → n₆ ≡ length (t .swis) → n₇ ≡ length (t .clocks) → n₈ ≡ length (t .heap) → n₉ ≡ length (t .state) → s ≡ sound t
+    → Tested (lengths n₁ n₂ n₃ n₄ n₅ n₆ n₇ n₈ n₉ && s) t
+tested-is t e₁ e₂ e₃ e₄ e₅ e₆ e₇ e₈ e₉ e =
+    record { is = rw (e₁, e₂, e₃, e₄, e₅, e₆, e₇, e₈, e₉, e); known = known-tested t e₁ e₂ e₃ e₄ e₅ e₆ e₇ e₈ e₉ e }
 
 -- ---- a call
 pub words-fit : {a b c d : ℕ} → a < 2 ^ 32 → b < 2 ^ 32 → c < 2 ^ 32 → d < 2 ^ 32 → Words a b c d

@@ -15,7 +15,7 @@ ghost use lib.ListN.{length};
 ghost use Rattle.rules.specs.Tables.{tables};
 ghost use Rattle.rules.specs.Sound.{sound};
 ghost use Rattle.rules.specs.Step.{call, stepOf};
-ghost use Rattle.kernel.specs.Known.{Known};
+ghost use Rattle.kernel.specs.Known.{Known, Tested};
 
 fn words_of(s: &[u32]) -> usize
     ensures { λ r. ⌜ r ≡ length (now (s .entry)) ⌝ }
@@ -41,7 +41,7 @@ pub fn tested(
     heap: &Heap,
     state: &State,
 ) -> bool
-    ensures { λ r. ⌜ Known r (tables
+    ensures { λ r. ⌜ Tested r (tables
         (now (tasks .entry)) (now (lines .entry)) (now (semaphores .entry))
         (now (events .entry)) (now (mailboxes .entry)) (now (swis .entry))
         (now (clocks .entry)) (now (heap .entry)) (now (state .entry))) ⌝ }

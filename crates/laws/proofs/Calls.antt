@@ -15,6 +15,11 @@ module _ {A : Type 0} (t : A) (e : After A) (k : ℕ) {code : ℕ} (is : code �
   pub effected : code ≡ 0 → {u : After A} → u ≡ e → u ≡ guarded k t e
   effected z q = rw (eq-eqb k 0 (sym is ∙ z)) q
 
+-- what holds in both cases holds of the choice
+pub chosen : {A : Type 0} (P : A → Type 0) (b : Bool) (x y : A) → (b ≡ true → P x) → (b ≡ false → P y) → P (if b x y)
+chosen P true x y p q = p refl
+chosen P false x y p q = q refl
+
 -- ---- a call on some tables as a call on more: `put` says where they stand
 module _ {A B : Type 0} (put : A → B) where
   abbrev pub mapped : After A → After B

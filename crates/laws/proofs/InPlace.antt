@@ -1,18 +1,18 @@
 -- A list changed in place, over the most m, the place a of its length and any list: what the stores leave, and what the loops keep.
-use Prim.Native.Nat.{ℕ, zero, suc, _+_, _*_, _-_, min, _≤_, _<_}
+use Prim.Native.Nat.{ℕ, suc, _+_, _-_, min, _≤_, _<_}
 use mathlib.Core.Path.{_≡_, refl, sym, ap, _∙_}
 use mathlib.Core.Logic.{_≢_, inr}
 use mathlib.Core.List.{List, [], _∷_, _++_, append-assoc, append-nil}
 use native.Mathlib.Numerals.{add-one}
 use native.Mathlib.Omega.{arith}
 use borrow.Author.Tests.{eq-eqb, ne-eqb}
-use lib.ListN.{length, take, drop, getD, set, replicate, length-append, length-replicate, replicate-append-replicate}
+use lib.ListN.{length, take, drop, getD, set, length-append, length-replicate, replicate-append-replicate}
 use lib.Seq.{sets, set-at, length-take-le, append-snoc, take-suc, getD-append-add, getD-at, take-at, take-all, getD-drop}
 use Rattle.fold.specs.Lists.{zeros, without, putAt}
-use Rattle.fold.proofs.Laws.{without-append, length-putAt, length-without, putAt-back, putAt-min}
+use Rattle.fold.proofs.Laws.{without-append, length-putAt, putAt-min}
 use Rattle.fold.proofs.Runs.{sets-snoc, sets-set, sets-reads, getD-sets-out}
 use Rattle.rules.specs.Rows.{listed, withListed}
-use Rattle.laws.proofs.Listed.{length-listed, listed-le, at-listed, front-listed, sets-listed, withListed-is}
+use Rattle.laws.proofs.Listed.{at-listed, front-listed, sets-listed, withListed-is}
 
 pub length-snoc : (xs : List ℕ) (x : ℕ) → length (xs ++ (x ∷ [])) ≡ suc (length xs)
 length-snoc xs x = rw length-append (omega arith)

@@ -3,3 +3,4 @@ pub mod Listed
 pub mod InPlace
 pub mod Lines
 pub mod Calls
+pub mod Effects

@@ -1,17 +1,17 @@
 -- Lines, by their number: what each way to a line does to it, and that every other line stays.
-use Prim.Native.Nat.{ℕ, zero, suc, _+_, _*_, _-_, min, _≤_, _<_}
-use mathlib.Core.Path.{_≡_, refl, sym, ap, _∙_}
+use Prim.Native.Nat.{ℕ, _+_, _*_, _≤_, _<_}
+use mathlib.Core.Path.{_≡_, sym, ap, _∙_}
 use mathlib.Core.Logic.{_≢_, _⊎_, inl, inr, ⊎-elim}
-use mathlib.Core.List.{List, [], _∷_, _++_}
+use mathlib.Core.List.{List, []}
 use native.Mathlib.Omega.{arith}
 use borrow.Author.Tests.{lt-ltb, le-ltb}
-use lib.ListN.{length, getD}
+use lib.ListN.{length}
 use Rattle.fold.specs.Lists.{without, putAt}
-use Rattle.fold.proofs.Laws.{same?, lt-or-le, length-putAt, length-without}
+use Rattle.fold.proofs.Laws.{lt-or-le, length-putAt, length-without}
 use Rattle.rules.specs.Rows.{listed, withListed}
 use Rattle.rules.specs.Lines.{line, withLine, left, entered, lineCount, lineMost, lineWidth}
 use Rattle.laws.proofs.Rows.{by-range, row-end}
-use Rattle.laws.proofs.Listed.{length-listed, listed-le, length-withListed, listed-away, listed-other, listed-same, listed-kept, length-there, behind-same}
+use Rattle.laws.proofs.Listed.{listed-le, length-withListed, listed-other, listed-same}
 
 -- ---- in range and out of it
 module _ (ls : List ℕ) (j : ℕ) where
@@ -43,13 +43,6 @@ module _ (ls : List ℕ) (j : ℕ) where
         by-range j lineCount
         (λ h. ap length (withLine-in h) ∙ length-withListed lineMost ls (j * lineWidth) xs)
         (λ h. ap length (withLine-out h))
-
--- the line that is there stored again, where its length is no more than 32
-pub line-kept : (ls : List ℕ) (j : ℕ) → getD ls (j * lineWidth) 0 ≤ lineMost → withLine ls j (line ls j) ≡ ls
-line-kept ls j h =
-    by-range j lineCount
-    (λ p. ap (withLine ls j) (line-in ls j p) ∙ withLine-in ls j (listed lineMost ls (j * lineWidth)) p ∙ listed-kept lineMost ls (j * lineWidth) h)
-    (λ p. withLine-out ls j (line ls j) p)
 
 -- ---- after a line is stored
 module _ (ls : List ℕ) (j : ℕ) (xs : List ℕ) (short : length xs ≤ lineMost) where

@@ -1,10 +1,10 @@
 -- A list kept in a row, over the most m that it has room for and the place a of its length: what is read after it is stored, there and elsewhere.
-use Prim.Native.Nat.{ℕ, zero, suc, _+_, _*_, _-_, min, _≤_, _<_}
+use Prim.Native.Nat.{ℕ, _+_, _-_, min, _≤_, _<_}
 use mathlib.Core.Path.{_≡_, refl, sym, ap, _∙_}
-use mathlib.Core.Logic.{_≢_, _⊎_, inl, inr, ⊎-elim}
-use mathlib.Core.List.{List, [], _∷_, _++_, append-nil}
+use mathlib.Core.Logic.{_⊎_, inl, inr, ⊎-elim}
+use mathlib.Core.List.{List, _++_, append-nil}
 use native.Mathlib.Omega.{arith}
-use lib.ListN.{length, take, drop, getD, set, replicate, length-set, length-append, length-replicate, getD-replicate, List·getD-eq-default}
+use lib.ListN.{length, take, getD, set, length-set, length-append, length-replicate, getD-replicate, List·getD-eq-default}
 use lib.Seq.{sets, length-sets, set-getD, getD-set-same, getD-set-other, take-at, getD-append-add}
 use Rattle.fold.specs.Lists.{zeros, reads}
 use Rattle.fold.proofs.Runs.{length-reads, getD-reads, take-reads, reads-same, sets-reads, reads-sets, getD-sets-out, getD-sets-in}

@@ -1,18 +1,15 @@
 -- Fields and rows, over the width w, the number of rows n and any list: what is read after a write, in the same row and in another.
-use Prim.Native.Nat.{ℕ, zero, suc, _+_, _*_, _-_, _≤_, _<_}
-use mathlib.Core.Path.{_≡_, refl, sym, ap, _∙_}
+use Prim.Native.Nat.{ℕ, suc, _+_, _*_, _≤_, _<_}
+use mathlib.Core.Path.{_≡_, sym, ap, _∙_}
 use mathlib.Core.Logic.{_≢_, _⊎_, inl, inr, ⊎-elim}
-use mathlib.Core.Bool.{_&&_}
-use mathlib.Core.List.{List, [], _∷_}
+use mathlib.Core.List.{List}
 use native.Mathlib.Nat.{mul-le-mul-right, suc-mul}
 use native.Mathlib.Omega.{arith}
 use borrow.Author.Tests.{lt-ltb, le-ltb}
-use lib.Dec.{ltb}
 use lib.ListN.{length, getD, set, length-set}
 use lib.Seq.{sets, length-sets, getD-set-same, getD-set-other}
-use Rattle.fold.specs.Lists.{reads}
-use Rattle.fold.proofs.Laws.{same?, lt-or-le}
-use Rattle.fold.proofs.Runs.{getD-sets-out, getD-sets-in, sets-reads}
+use Rattle.fold.proofs.Laws.{lt-or-le}
+use Rattle.fold.proofs.Runs.{getD-sets-out, getD-sets-in}
 use Rattle.rules.specs.Rows.{field, withField, withRow}
 
 -- ---- places: row i ends where row i + 1 starts
@@ -55,6 +52,10 @@ module _ (w n : ℕ) (t : List ℕ) (i f : ℕ) where
   pub withField-past : (x : ℕ) → w ≤ f → withField w n t i f x ≡ t
   unfolding withField
   withField-past x q = by-range i n (λ h. rw (lt-ltb i n h, le-ltb f w q)) (λ h. rw (le-ltb i n h))
+
+  -- who has a word other than 0 has a row
+  pub row-used : field w n t i f ≢ 0 → i < n
+  row-used u = by-range i n (λ h. h) (λ h. absurd (u (field-out h)))
 
 -- ---- read after write
 module _ (w n : ℕ) (t : List ℕ) (i f x : ℕ) where
@@ -138,7 +139,3 @@ module _ (w n : ℕ) (t : List ℕ) (i : ℕ) (ws : List ℕ) where
           (λ (p : k < i). inl (omega (arith, row-end w k i p)))
           (λ (p : i ≤ k). inr (let m : i < k = omega arith in omega (arith, row-end w i k m)))
           (lt-or-le k i)
-
--- what stands in a row stored again leaves the table as it was
-pub row-kept : (w n : ℕ) (t : List ℕ) (i : ℕ) → withRow w n t i (reads t (i * w) w) ≡ t
-row-kept w n t i = by-range i n (λ h. withRow-in w n t i (reads t (i * w) w) h ∙ sets-reads w t (i * w)) (λ h. withRow-out w n t i (reads t (i * w) w) h)

@@ -1,35 +1,26 @@
 -- Any call on any tables: its code is that of the first row of the table that holds, and a refusal leaves everything as it was.
-use Prim.{Unit, tt}
+use Prim.{tt}
 use Prim.Native.Nat.{ℕ, _<_}
 use mathlib.Core.Path.{_≡_, refl, sym, ap, _∙_}
 use mathlib.Core.Logic.{_≢_, _↔_, ⊎-elim}
-use mathlib.Core.Bool.{Bool, true, false, not, cond as if}
-use mathlib.Core.List.{List}
+use mathlib.Core.Bool.{true, false, not, cond as if}
 use native.Mathlib.Omega.{arith}
-use borrow.Author.Tests.{eq-eqb, ne-eqb, ltb-true, lt-ltb}
-use lib.Dec.{eqb, ltb}
+use borrow.Author.Tests.{eq-eqb, ne-eqb}
 use Rattle.fold.specs.Lists.{count, ahead}
 use Rattle.fold.proofs.Laws.{same?, lt-or-le}
-use Rattle.rules.specs.Answer.{answer, order, firstGiven, codeOf, answered, guarded, refused, After, Call}
+use Rattle.rules.specs.Answer.{answer, order, firstGiven, codeOf, answered, guarded, refused, After}
 use Rattle.rules.specs.Dispatch.{running, context}
 use Rattle.rules.specs.Sound.{sound}
-use Rattle.rules.specs.Step.{call, step, stepOf, callOf, finished}
+use Rattle.rules.specs.Step.{call, step, stepOf, finished}
 use Rattle.rules.specs.declared.Tables.{Tables}
-use Rattle.rules.specs.declared.Step.{Step}
 use Rattle.rules.specs.declared.Answer.{Answer}
-use Rattle.rules.specs.declared.Thread.{Thread}
 use Rattle.rules.specs.declared.Thread.the-variants.{Task}
+use Rattle.laws.proofs.Effects.{effect-code}
 use Rattle.runs.specs.Run.{Asked, asked, made}
-use Rattle.refusals.specs.Refusals.{among, known, refusal, unknownNumber}
-use Rattle.refusals.proofs.Known.{casesOf, agrees, one-of, Agrees, _&_}
+use Rattle.refusals.specs.Refusals.{among, known, refusal, unknownNumber, None}
+use Rattle.refusals.proofs.Known.{callFor, casesOf, agrees, one-of, Agrees, _&_}
 use Rattle.refusals.proofs.Unknown.{unknown-cases}
-use Rattle.refusals.proofs.Effects.{effects}
-use Rattle.refusals.specs.Refusals.{None}
 use Rattle.refusals.proofs.First.{first-holds, first-given, first-none, first-same, by-bool}
-
--- the call of the definition
-abbrev callFor : Tables → Asked → Call Tables
-callFor t q = callOf t (context (t .lines) (t .state)) (q .number) (q .a) (q .b) (q .c) (q .d)
 
 -- ---- the code, on sound tables, of a known number and of an unknown one
 module _ (t : Tables) (q : Asked) (e : sound t ≡ true) where
@@ -48,34 +39,24 @@ module _ (t : Tables) (q : Asked) (e : sound t ≡ true) where
 
 -- ---- what is answered
 module _ (t : Tables) (k : ℕ) where
-  guarded-code : (e : After Tables) → (k ≡ 0 → e .answer .code ≡ 0) → guarded k t e .answer .code ≡ k
-  guarded-code e h = ⊎-elim (λ (z : k ≡ 0). rw (eq-eqb k 0 z) (h z ∙ sym z)) (λ (n : k ≢ 0). rw (ne-eqb k 0 n)) (same? k 0)
+  guarded-code : (e : After Tables) → e .answer .code ≡ 0 → guarded k t e .answer .code ≡ k
+  guarded-code e h = ⊎-elim (λ (z : k ≡ 0). rw (eq-eqb k 0 z) (h ∙ sym z)) (λ (n : k ≢ 0). rw (ne-eqb k 0 n)) (same? k 0)
 
   refused-step : k ≢ 0 → finished (refused k t) ≡ stepOf t (answer k 0 0) (running (t .lines) (t .state))
   unfolding finished
   refused-step n = rw (ne-eqb k 0 n)
 
-finished-code : (r : After Tables) → finished r .answer ≡ r .answer
+pub finished-answer : (r : After Tables) → finished r .answer ≡ r .answer
 unfolding finished
-finished-code r = refl
+finished-answer r = refl
 
-module _ (t : Tables) (q : Asked) (e : sound t ≡ true) where
-  effect-code : codeOf (casesOf t q) ≡ 0 → callFor t q .effect .answer .code ≡ 0
-  unfolding firstGiven
-  effect-code z =
-      ⊎-elim
-      (λ h. one-of (λ n. callOf t (context (t .lines) (t .state)) n (q .a) (q .b) (q .c) (q .d) .effect .answer .code ≡ 0) known
-      (effects t (context (t .lines) (t .state)) (q .a) (q .b) (q .c) (q .d)) (q .number) h)
-      (λ h.
-      let out : count (q .number) known ≡ 0 = omega arith in
-      absurd (omega (arith, rw (unknown-cases (q .number) out t (context (t .lines) (t .state)) (q .a) (q .b) (q .c) (q .d)) at z)))
-      (lt-or-le 0 (count (q .number) known))
-
-  step-code : step t (q .number) (q .a) (q .b) (q .c) (q .d) .answer .code ≡ codeOf (casesOf t q)
+module _ (t : Tables) (q : Asked) where
+  pub step-code : step t (q .number) (q .a) (q .b) (q .c) (q .d) .answer .code ≡ codeOf (casesOf t q)
   unfolding step
   step-code =
-      ap (λ (r : Answer). r .code) (finished-code (answered t (callFor t q)))
-      ∙ guarded-code t (codeOf (casesOf t q)) (callFor t q .effect) effect-code
+      ap (λ (r : Answer). r .code) (finished-answer (answered t (callFor t q)))
+      ∙ guarded-code t (codeOf (casesOf t q)) (callFor t q .effect)
+      (effect-code t (context (t .lines) (t .state)) (q .number) (q .a) (q .b) (q .c) (q .d))
 
   step-refused : codeOf (casesOf t q) ≢ 0
       → step t (q .number) (q .a) (q .b) (q .c) (q .d) ≡ stepOf t (answer (codeOf (casesOf t q)) 0 0) (running (t .lines) (t .state))
@@ -88,14 +69,14 @@ unsound-code t q e = rw e
 
 pub code-is : (t : Tables) (q : Asked) → made t q .answer .code ≡ codeOf (refusal t q)
 unfolding call
-code-is t q = by-bool (sound t) (λ e. rw e (step-code t q e ∙ code-by-rows t q e)) (λ e. rw e (unsound-code t q e))
+code-is t q = by-bool (sound t) (λ e. rw e (step-code t q ∙ code-by-rows t q e)) (λ e. rw e (unsound-code t q e))
 
 pub left-alone : (t : Tables) (q : Asked) → made t q .answer .code ≢ 0
     → made t q ≡ stepOf t (answer (made t q .answer .code) 0 0) (if (sound t) (running (t .lines) (t .state)) (Task 0))
 unfolding call
 left-alone t q =
     by-bool (sound t)
-    (λ e. rw e (λ n. step-refused t q e (λ z. n (step-code t q e ∙ z)) ∙ ap (λ (k : ℕ). stepOf t (answer k 0 0) (running (t .lines) (t .state))) (sym (step-code t q e))))
+    (λ e. rw e (λ n. step-refused t q (λ z. n (step-code t q ∙ z)) ∙ ap (λ (k : ℕ). stepOf t (answer k 0 0) (running (t .lines) (t .state))) (sym (step-code t q))))
     (λ e. rw e (λ n. refl))
 
 -- ---- each code exactly in its case

@@ -1,21 +1,21 @@
 -- "a code is given exactly in its case": the first of a list of codes whose case holds, over any list and any cases.
-use Prim.{Unit, tt}
 use Prim.Native.Nat.{ℕ, _<_}
 use mathlib.Core.Path.{_≡_, refl, sym, _∙_}
 use mathlib.Core.Logic.{_≢_, ⊎-elim, _↔_}
-use mathlib.Core.Bool.{Bool, true, false, not, _&&_, cond as if, true≢false, false≢true, and-eq-true-iff}
+use mathlib.Core.Bool.{Bool, true, false, not, false≢true, and-eq-true-iff}
 use mathlib.Core.List.{List, [], _∷_}
 use native.Mathlib.Omega.{arith}
 use borrow.Author.Tests.{eq-eqb, ne-eqb}
 use Rattle.fold.specs.Lists.{count, ahead, allOf}
 use Rattle.fold.proofs.Laws.{same?}
 use Rattle.rules.specs.Answer.{Cases, firstGiven}
+use Rattle.laws.proofs.Calls.{chosen}
 use Rattle.refusals.specs.Refusals.{None}
 use Rattle.refusals.proofs.Known.{All}
 
+-- a test passes or fails
 pub by-bool : {X : Type 0} (b : Bool) → (b ≡ true → X) → (b ≡ false → X) → X
-by-bool true f g = f refl
-by-bool false f g = g refl
+by-bool {X} b f g = chosen (λ (_ : Bool). X) b b b f g
 
 -- where a code is given, its case holds and none before it does
 pub first-holds : (ks : List ℕ) (c : Cases) (k : ℕ) → 0 < k → firstGiven ks c ≡ k → (c k ≡ true) × None (ahead k ks) c

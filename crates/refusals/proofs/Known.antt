@@ -3,13 +3,13 @@ use Prim.{Unit, tt}
 use Prim.Native.Nat.{ℕ, _<_}
 use mathlib.Core.Path.{_≡_, refl, sym}
 use mathlib.Core.Logic.{_≢_, ⊎-elim}
-use mathlib.Core.Bool.{false, or-false}
+use mathlib.Core.Bool.{Bool, false, or-false}
 use mathlib.Core.List.{List, [], _∷_}
 use native.Mathlib.Omega.{arith}
 use borrow.Author.Tests.{ne-eqb}
 use Rattle.fold.specs.Lists.{count}
 use Rattle.fold.proofs.Laws.{same?}
-use Rattle.rules.specs.Answer.{Cases}
+use Rattle.rules.specs.Answer.{Cases, Call}
 use Rattle.rules.specs.Step.{callOf}
 use Rattle.rules.specs.Dispatch.{context}
 use Rattle.rules.specs.Waits as Waits
@@ -41,9 +41,12 @@ one-of P (m ∷ ms) all n h =
     (λ (d : m ≢ n). one-of P ms (all .1) n (omega (arith, rw (ne-eqb m n d) at h)))
     (same? m n)
 
--- the cases of a call's definition, and the rows of the table
+-- a call's definition and its cases, and the rows of the table
+abbrev pub callFor : Tables → Asked → Call Tables
+callFor t q = callOf t (context (t .lines) (t .state)) (q .number) (q .a) (q .b) (q .c) (q .d)
+
 abbrev pub casesOf : Tables → Asked → Cases
-casesOf t q = callOf t (context (t .lines) (t .state)) (q .number) (q .a) (q .b) (q .c) (q .d) .cases
+casesOf t q = callFor t q .cases
 
 abbrev pub Agrees : Tables → Asked → Type 0
 Agrees t q =
@@ -62,50 +65,21 @@ infixr 35 _&_
 pub _&_ : {A B : Type 0} → A → B → A × B
 a & b = (a, b)
 
--- in the order of `known`
+-- ten rows that agree by computation
+rows : {a b c d e f g h i j : Bool}
+    → (a ≡ a) × (b ≡ b) × (c ≡ c) × (d ≡ d) × (e ≡ e) × (f ≡ f) × (g ≡ g) × (h ≡ h) × (i ≡ i) × (j ≡ j)
+rows = (refl, refl, refl, refl, refl, refl, refl, refl, refl, refl)
+
+-- in the order of `known`, a line for each range
 pub agrees : (t : Tables) (a b c d : ℕ) → All (λ n. Agrees t (asked n a b c d)) known
 unfolding callOf among count unknownNumber wrongContext limitOf noObject badValue unusedNotZero badArgument beginsWait stateForbids noFreeNumber atItsEnd noHeapRoom switchedOff Waits.outside Tasks.taskCall Tasks.createCases Tasks.deleteCases Tasks.setPriorityCases Tasks.yieldCases Tasks.endCases Tasks.sleepCases Tasks.lastResultCases Swis.swiCall Swis.createCases Swis.deleteCases Swis.postCases Swis.maskCases Swis.endCases Swis.takenCases Semaphores.semaphoreCall Semaphores.createCases Semaphores.deleteCases Semaphores.resetCases Semaphores.waits Semaphores.pendCases Semaphores.postCases Events.eventCall Events.createCases Events.deleteCases Events.waits Events.pendCases Events.postCases Mailboxes.mailboxCall Mailboxes.createCases Mailboxes.deleteCases Mailboxes.postWaits Mailboxes.pendWaits Mailboxes.postCases Mailboxes.pendCases Clocks.clockCall Clocks.createCases Clocks.deleteCases Clocks.startCases Heap.heapCall Heap.takeCases Heap.giveCases Tick.switchCall Switches.offCases Switches.restoreCases Switches.inCases Switches.outCases
 agrees t a b c d =
-    (refl, refl, refl, refl, refl, refl, refl, refl, refl, refl) &
-    (refl, refl, refl, refl, refl, refl, refl, refl, refl, refl) &
-    (refl, refl, refl, refl, refl, refl, refl, refl, refl, refl) &
-    (refl, refl, refl, refl, refl, refl, refl, refl, refl, refl) &
-    (refl, refl, refl, refl, refl, refl, refl, refl, refl, refl) &
-    (refl, refl, refl, refl, refl, refl, refl, refl, refl, refl) &
-    (refl, refl, refl, refl, refl, refl, refl, refl, refl, refl) &
-    (refl, refl, refl, refl, refl, refl, refl, refl, refl, refl) &
-    (refl, refl, refl, refl, refl, refl, refl, refl, refl, refl) &
-    (refl, refl, refl, refl, refl, refl, refl, refl, refl, refl) &
-    (refl, refl, refl, refl, refl, refl, refl, refl, refl, refl) &
-    (refl, refl, refl, refl, refl, refl, refl, refl, refl, refl) &
-    (refl, refl, refl, refl, refl, refl, refl, refl, refl, refl) &
-    (refl, refl, refl, refl, refl, refl, refl, refl, refl, refl) &
-    (refl, refl, refl, refl, refl, refl, refl, refl, refl, refl) &
-    (refl, refl, refl, refl, refl, refl, refl, refl, refl, refl) &
-    (refl, refl, refl, refl, refl, refl, refl, refl, refl, refl) &
-    (refl, refl, refl, refl, refl, refl, refl, refl, refl, refl) &
-    (refl, refl, refl, refl, refl, refl, refl, refl, refl, refl) &
-    (refl, refl, refl, refl, refl, refl, refl, refl, refl, refl) &
-    (refl, refl, refl, refl, refl, refl, refl, refl, refl, refl) &
-    (refl, refl, refl, refl, refl, refl, refl, refl, refl, refl) &
-    (refl, refl, refl, refl, refl, refl, refl, refl, refl, refl) &
-    (refl, refl, refl, refl, sym (or-false _), refl, refl, refl, refl, refl) &
-    (refl, refl, refl, refl, refl, refl, refl, refl, refl, refl) &
-    (refl, refl, refl, refl, refl, refl, refl, refl, refl, refl) &
-    (refl, refl, refl, refl, refl, refl, refl, refl, refl, refl) &
-    (refl, refl, refl, refl, refl, refl, refl, refl, refl, refl) &
-    (refl, refl, refl, refl, refl, refl, refl, refl, refl, refl) &
-    (refl, refl, refl, refl, refl, refl, refl, refl, refl, refl) &
-    (refl, refl, refl, refl, refl, refl, refl, refl, refl, refl) &
-    (refl, refl, refl, refl, refl, refl, refl, refl, refl, refl) &
-    (refl, refl, refl, refl, refl, refl, refl, refl, refl, refl) &
-    (refl, refl, refl, refl, refl, refl, refl, refl, refl, refl) &
-    (refl, refl, refl, refl, refl, refl, refl, refl, refl, refl) &
-    (refl, refl, refl, refl, refl, refl, refl, refl, refl, refl) &
-    (refl, refl, refl, refl, refl, refl, refl, refl, refl, refl) &
-    (refl, refl, refl, refl, refl, refl, refl, refl, refl, refl) &
-    (refl, refl, refl, refl, refl, refl, refl, refl, refl, refl) &
-    (refl, refl, refl, refl, refl, refl, refl, refl, refl, refl) &
-    (refl, refl, refl, refl, refl, refl, refl, refl, refl, refl) &
-    (refl, refl, refl, refl, refl, refl, refl, refl, refl, refl) &
-    tt
+    rows & rows & rows & rows & rows & rows & rows
+    & rows & rows & rows & rows & rows & rows & rows & rows & rows
+    & rows & rows & rows & rows & rows
+    & rows & rows & (refl, refl, refl, refl, sym (or-false _), refl, refl, refl, refl, refl) & rows
+    & rows & rows & rows & rows
+    & rows & rows & rows & rows
+    & rows & rows
+    & rows & rows & rows & rows & rows & rows & rows
+    & tt

@@ -1,5 +1,4 @@
 pub mod Known
 pub mod First
 pub mod Unknown
-pub mod Effects
 pub mod Demand

@@ -1,5 +1,5 @@
 -- A call of an unknown number: of its cases that of code 1 holds, whatever its range.
-use Prim.Native.Nat.{ℕ, _<_}
+use Prim.Native.Nat.{ℕ}
 use mathlib.Core.Path.{_≡_, refl, ap}
 use mathlib.Core.Bool.{Bool, true, false, cond as if}
 use mathlib.Core.List.{List}
@@ -20,14 +20,14 @@ use Rattle.rules.specs.Heap.{heapCall}
 use Rattle.rules.specs.Tick.{Ticked, switchCall}
 use Rattle.rules.specs.Step.{inRange, callOf}
 use Rattle.rules.specs.declared.Tables.{Tables}
+use Rattle.laws.proofs.Calls.{chosen}
 use Rattle.refusals.specs.Refusals.{known}
 
 abbrev pub onlyOne : Cases
 onlyOne = given 1 true never
 
 pick : (b : Bool) (u v : Call Tables) → u .cases ≡ onlyOne → v .cases ≡ onlyOne → (if b u v) .cases ≡ onlyOne
-pick true u v e f = e
-pick false u v e f = f
+pick b u v e f = chosen (λ (c : Call Tables). c .cases ≡ onlyOne) b u v (λ _. e) (λ _. f)
 
 module _ (n : ℕ) (out : count n known ≡ 0) where
   isnt : (m : ℕ) → ltb 0 (count m known) ≡ true → eqb n m ≡ false

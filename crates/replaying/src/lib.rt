@@ -103,6 +103,17 @@ fn turn(
     stopped(next)
 }
 
+// Nothing is read yet.
+fn begun() -> Progress {
+    Progress {
+        held: 0,
+        offset: 0,
+        count: 0,
+        len: 0,
+        ended: false,
+    }
+}
+
 // Replays what can be read at fd; `name` is told where a read fails.
 // A loop has to end, and nothing says that a log does: the turns are counted down from a number that no run comes to.
 pub fn replay_all(fd: i32, name: &[u8]) {
@@ -118,13 +129,7 @@ pub fn replay_all(fd: i32, name: &[u8]) {
     let mut state = fresh.state;
     let mut part = [0u8; 2560];
     let mut out = [0u8; 16384];
-    let mut p = Progress {
-        held: 0,
-        offset: 0,
-        count: 0,
-        len: 0,
-        ended: false,
-    };
+    let mut p = begun();
     let mut turns = u64::MAX;
     while 0 < turns {
         if p.ended {

@@ -2,11 +2,10 @@ pub mod Computed
 pub mod Agree
 pub mod Runs
 pub mod Faster
-pub mod Cases
 pub mod Mistakes
-pub mod Calls
 pub mod Logs
 pub mod Broken
 pub mod Busy
 pub mod Unsound
 pub mod Waiters
+pub mod Units

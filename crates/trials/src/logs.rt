@@ -1,9 +1,4 @@
 // The calls of a log, one after the other, each by both entries.
-use super::print::print_call;
-use super::print::print_heading;
-use super::print::print_word;
-use super::trial::Call;
-use super::trial::try_call;
 use kernel::entries;
 use rules::Clocks;
 use rules::Events;
@@ -16,6 +11,11 @@ use rules::State;
 use rules::Swis;
 use rules::Tables;
 use rules::Tasks;
+use trying::print::print_call;
+use trying::print::print_heading;
+use trying::print::print_word;
+use trying::trial::Call;
+use trying::trial::try_call;
 
 // The call of a record.
 fn call_of(number: u8, bytes: &[u8]) -> Call {

@@ -20,9 +20,11 @@ use Rattle.rules.specs.Step.{callOf}
 use Rattle.rules.specs.declared.Tables.{Tables}
 use Rattle.rules.specs.declared.Answer.{Answer}
 use Rattle.rules.specs.declared.Task.{Task}
+use Rattle.laws.proofs.Rows.{row-used}
 use Rattle.runs.specs.Run.{Asked, asked, made, next}
 use Rattle.runs.specs.Turn.{beforeAt}
 use Rattle.refusals.proofs.First.{by-bool}
+use Rattle.refusals.proofs.Known.{callFor}
 use Rattle.keeps.proofs.Groups.{Almost}
 use Rattle.keeps.proofs.Codes.{accepted-is}
 use Rattle.keeps.proofs.Members.{bit-other}
@@ -30,8 +32,7 @@ use Rattle.keeps.proofs.Standing.{sound-almost}
 use Rattle.keeps.proofs.Moves.{moved-into, moved-row}
 use Rattle.keeps.proofs.Waiting.{current-under, current-row, current-used, current-ready, not-idle, at-semaphore-row}
 use Rattle.turns.proofs.Ahead.{ahead-new}
-use Rattle.turns.proofs.Made.{callFor, Accepted, by-answer, tasks-after, semaphores-after, line-after}
-use Rattle.turns.proofs.Reach.{row-there}
+use Rattle.turns.proofs.Made.{Accepted, by-answer, tasks-after, semaphores-after, line-after}
 use Rattle.turns.proofs.Turns.{Waiter}
 
 module _ (t : Tables) (typed : Typed t) (sound : Sound t) (s : ℕ) (word : s < 4294967296) (arrival : semaphore (t .semaphores) s KIND < 2)
@@ -62,7 +63,7 @@ module _ (t : Tables) (typed : Typed t) (sound : Sound t) (s : ℕ) (word : s < 
   here : s < semaphoreCount
   unfolding callOf Semaphores.semaphoreCall Semaphores.pendCases
   here =
-      row-there semaphoreWidth semaphoreCount (t .semaphores) s USED (eqb-false _ _ (accepted-is _ (ok .cases) .at3))
+      row-used semaphoreWidth semaphoreCount (t .semaphores) s USED (eqb-false _ _ (accepted-is _ (ok .cases) .at3))
 
   other : i ≢ 0
   unfolding callOf Semaphores.semaphoreCall Semaphores.pendCases Semaphores.waits

@@ -11,9 +11,9 @@ use Rattle.rules.specs.Sound.{Sound, sound}
 use Rattle.rules.specs.Step.{inRange, callOf, finished, step, call}
 use Rattle.rules.specs.declared.Tables.{Tables}
 use Rattle.rules.specs.declared.Step.{Step}
-use Rattle.runs.specs.Run.{Asked, Words, next}
-use Rattle.keeps.proofs.Chosen.{chosen}
-use Rattle.turns.proofs.Same.{Unmoved, Arrival, Same}
+use Rattle.laws.proofs.Calls.{chosen}
+use Rattle.runs.specs.Run.{Asked, next}
+use Rattle.turns.proofs.Same.{Unmoved, Arrival}
 use Rattle.turns.proofs.Steps.{in-trans, in-lines}
 use Rattle.turns.proofs.SwiLines.{Aside, aside-refl, dispatched-aside}
 use Rattle.turns.proofs.Leaves.{Left, Leaves, stay}
@@ -64,21 +64,9 @@ module _ (t : Tables) (typed : Typed t) (s : Sound t) (q : Asked) (i : ℕ) (u :
       (λ e. k (eqb-true (codeOf (c .cases)) 0 e))
       (λ _. stay t i)
 
-  call-leaves : Left t i (rows (next t q))
+  pub call-same : Left t i (queued (next t q .tasks) (next t q .lines))
   unfolding call step
-  call-leaves =
+  call-same =
       chosen (λ (x : Step). Left t i (rows (x .tables))) (sound t) _ _
       (λ _. finished-leaves t i _ (answered-leaves _ kind-leaves))
       (λ _. stay t i)
-
-pub call-same : (t : Tables) → Typed t → Sound t → (q : Asked) → Words q → (i : ℕ) → Unmoved t q i → Same i t (next t q)
-call-same t typed s q words i u =
-    let k = call-leaves t typed s q i u in
-    record {
-      mode = k .row .mode;
-      object = k .row .object;
-      priority = k .row .priority;
-      endless = k .row .endless;
-      result = k .row .result;
-      place = k .place;
-    }

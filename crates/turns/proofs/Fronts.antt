@@ -1,23 +1,21 @@
 -- A ready task at the front of its queue, with no higher task ready, no interrupt open, no Swi active and both switches on: it runs.
-use Prim.Native.Nat.{ℕ, suc, _-_, _<_, _≤_}
-use mathlib.Core.Path.{_≡_, refl, sym, ap, _∙_}
+use Prim.Native.Nat.{ℕ, suc, _-_, _<_}
+use mathlib.Core.Path.{_≡_, ap, _∙_}
 use mathlib.Core.Logic.{_≢_, ⊎-elim}
 use mathlib.Core.Bool.{true, false}
-use mathlib.Core.List.{List, [], _∷_}
+use mathlib.Core.List.{List, []}
 use native.Mathlib.Omega.{arith}
 use borrow.Author.Tests.{eq-eqb, ne-eqb, lt-ltb}
-use lib.Dec.{eqb, ltb}
 use lib.ListN.{length, getD}
 use Rattle.fold.specs.Lists.{count, ahead}
 use Rattle.fold.specs.Find.{highestBelow}
-use Rattle.fold.proofs.Laws.{same?}
-use Rattle.fold.proofs.Finds.{IsHighest, high-is, high-one}
-use Rattle.rules.specs.Tables.{Typed, levels, state, current, DEPTH, SWIS, TASKS, CURRENT}
-use Rattle.rules.specs.Lines.{activeLine, readyLine, line, anyone, first}
+use Rattle.fold.proofs.Laws.{same?, length-without}
+use Rattle.fold.proofs.Finds.{high-is, high-one}
+use Rattle.rules.specs.Tables.{Typed, levels, state, DEPTH, SWIS, TASKS, CURRENT}
+use Rattle.rules.specs.Lines.{activeLine, readyLine, anyone, first}
 use Rattle.rules.specs.Dispatch.{running, highestReady, front, taskDue}
 use Rattle.rules.specs.Sound.{Sound}
 use Rattle.rules.specs.declared.Tables.{Tables}
-use Rattle.rules.specs.declared.Thread.{Thread}
 use Rattle.rules.specs.declared.Thread.the-variants.{Task}
 use Rattle.runs.specs.Turn.{ReadyAt, queue, Unhindered}
 use Rattle.keeps.proofs.Waiting.{current-in}
@@ -25,17 +23,12 @@ use Rattle.turns.proofs.Ahead.{first-ahead}
 use Rattle.turns.proofs.Turns.{in-queue, ready-level}
 
 -- who stands in a list with nobody before it is the first
-some : (i : ℕ) (xs : List ℕ) → 0 < count i xs → 0 < length xs
-unfolding count
-some i [] h = absurd (omega arith)
-some i (x ∷ xs) h = omega arith
-
 at-front : (i : ℕ) (xs : List ℕ) → 0 < count i xs → ahead i xs ≡ [] → getD xs 0 0 ≡ i
 unfolding count
 at-front i xs h e =
     ⊎-elim
     (λ (q : getD xs 0 0 ≡ i). q)
-    (λ (n : getD xs 0 0 ≢ i). absurd (omega (arith, ap (count (getD xs 0 0)) e, first-ahead i xs (some i xs h) n)))
+    (λ (n : getD xs 0 0 ≢ i). absurd (omega (arith, ap (count (getD xs 0 0)) e, first-ahead i xs (omega (arith, length-without i xs)) n)))
     (same? (getD xs 0 0) i)
 
 one-less : (p : ℕ) → suc p - 1 ≡ p
@@ -62,7 +55,9 @@ module _ (t : Tables) (typed : Typed t) (s : Sound t) (p i : ℕ) (is : ReadyAt 
       (high-is levels (λ r. anyone (t .lines) (readyLine r)))
       record {
         high = ready-level t typed s p i is;
-        has = λ l. ap (λ (n : ℕ). anyone (t .lines) (readyLine n)) (one-less p) ∙ lt-ltb 0 (length (queue p t)) (some i (queue p t) (in-queue t typed s p i is));
+        has = λ l.
+            ap (λ (n : ℕ). anyone (t .lines) (readyLine n)) (one-less p)
+            ∙ lt-ltb 0 (length (queue p t)) (omega (arith, in-queue t typed s p i is, length-without i (queue p t)));
         after = λ r l h. rw (free .higher r (omega (arith, l)) h);
       }
 

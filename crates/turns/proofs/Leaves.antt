@@ -2,21 +2,21 @@
 use Prim.Native.Nat.{ℕ}
 use mathlib.Core.Path.{_≡_, refl}
 use mathlib.Core.Logic.{_≢_}
-use mathlib.Core.Bool.{Bool, true, false, not, _&&_, cond as if, true≢false}
+use mathlib.Core.Bool.{Bool, true, false, cond as if}
 use mathlib.Core.List.{List}
 use borrow.Author.Tests.{eqb-true, not-false}
 use lib.Dec.{eqb}
 use lib.ListN.{length}
-use Rattle.rules.specs.Answer.{T, Call, codeOf, unknown, notT}
+use Rattle.rules.specs.Answer.{T, After, Call, codeOf, unknown, notT}
 use Rattle.rules.specs.Tables.{Typed, current}
 use Rattle.rules.specs.Lines.{anyone, first, homeOf, Queued, queued, moved, atBack}
-use Rattle.rules.specs.Waits.{outside, woken}
+use Rattle.rules.specs.Waits.{woken}
 use Rattle.rules.specs.Dispatch.{running, context}
 use Rattle.rules.specs.declared.Tables.{Tables}
 use Rattle.rules.specs.declared.Task.{Task}
+use Rattle.laws.proofs.Calls.{chosen}
 use Rattle.runs.specs.Run.{Asked}
-use Rattle.keeps.proofs.Codes.{accepted-is}
-use Rattle.keeps.proofs.Chosen.{chosen}
+use Rattle.keeps.proofs.Codes.{unknown-refused}
 use Rattle.keeps.proofs.Waiting.{task-context}
 use Rattle.turns.proofs.Same.{servedLine, Unmoved, Arrival}
 use Rattle.turns.proofs.Steps.{SameIn, in-refl, in-moved}
@@ -33,8 +33,12 @@ module _ (t : Tables) (i : ℕ) {A : Type 0} (put : A → Queued) where
   pub by-number : (n k : ℕ) (c d : Call A) → (n ≡ k → Leaves t i put c) → Leaves t i put d → Leaves t i put (if (eqb n k) c d)
   by-number n k c d p q = chosen (λ (e : Call A). Leaves t i put e) (eqb n k) c d (λ e. p (eqb-true n k e)) (λ _. q)
 
+  pub by-test : (b : Bool) (x y : After A) → (b ≡ true → Left t i (put (x .next))) → (b ≡ false → Left t i (put (y .next)))
+      → Left t i (put (if b x y .next))
+  by-test b x y p q = chosen (λ (e : After A). Left t i (put (e .next))) b x y p q
+
   pub unknown-leaves : (x : A) → Leaves t i put (unknown x)
-  unknown-leaves x z = absurd (true≢false (accepted-is (unknown x .cases) z .at1))
+  unknown-leaves x z = absurd (unknown-refused x z)
 
 -- nobody moves
 pub stay : (t : Tables) (i : ℕ) → Left t i (queued (t .tasks) (t .lines))
@@ -43,15 +47,6 @@ stay t i = in-refl i (Arrival t) (queued (t .tasks) (t .lines))
 -- ---- the context of a call
 pub called-by-task : (x : ℕ) → notT x ≡ false → x ≡ T
 called-by-task x e = eqb-true x T (not-false _ e)
-
--- with a limit other than 0
-pub limited-by-task : (x limit : ℕ) → outside x limit ≡ false → eqb limit 0 ≡ false → x ≡ T
-unfolding outside
-limited-by-task x limit e n = called-by-task x (go (eqb x T) (rw n at e))
-  where
-    go : (b : Bool) → (not b && true) ≡ false → not b ≡ false
-    go true e = refl
-    go false e = e
 
 -- ---- who may move is another than i
 module _ (t : Tables) (typed : Typed t) (q : Asked) (i : ℕ) (u : Unmoved t q i) where

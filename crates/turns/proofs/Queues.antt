@@ -1,20 +1,21 @@
 -- Any calls one after the other, and a ready task that does not run and keeps its priority: nobody joins in front of it, and who has left or
 -- yielded is not in front of it any more.
-use Prim.Native.Nat.{ℕ, _+_, _<_, _≤_}
-use mathlib.Core.Path.{_≡_, refl, sym, ap, _∙_}
-use mathlib.Core.Logic.{_≢_, _⊎_, inl, inr, ⊎-elim}
+use Prim.Native.Nat.{ℕ, _<_, _≤_}
+use mathlib.Core.Path.{_≡_, ap}
+use mathlib.Core.Logic.{_≢_, _⊎_, ⊎-elim}
 use mathlib.Core.List.{List, [], _∷_, Sublistᴰ, Sublistᴰ·slnil, Sublistᴰ·cons, Sublistᴰ·cons-cons, Sublistᴰ·refl, Sublistᴰ·trans}
 use native.Mathlib.Omega.{arith}
 use borrow.Author.Tests.{eq-eqb, ne-eqb}
 use lib.Dec.{eqb}
 use Rattle.fold.specs.Lists.{bit, count, ahead}
-use Rattle.fold.proofs.Laws.{same?}
+use Rattle.fold.proofs.Laws.{same?, at-most, no-length}
 use Rattle.rules.specs.Tables.{Typed}
 use Rattle.rules.specs.Sound.{Sound}
 use Rattle.rules.specs.declared.Tables.{Tables}
-use Rattle.runs.specs.Run.{Asked, Words, next, after, Each, AllWords}
+use Rattle.runs.specs.Run.{Asked, next, after, Each, AllWords}
 use Rattle.runs.specs.Turn.{ReadyAt, queue, Undisturbed, Yields, Gone}
-use Rattle.turns.proofs.Turns.{StaysReady, ready-stays}
+use Rattle.turns.proofs.Made.{next-typed, next-sound}
+use Rattle.turns.proofs.Turns.{ready-stays}
 
 -- ---- some of a list, in their order: nobody is there more often
 pub sub-count : (x : ℕ) {xs ys : List ℕ} → Sublistᴰ xs ys → count x xs ≤ count x ys
@@ -34,44 +35,45 @@ ahead-count x i (y ∷ ys) =
     (same? y i)
 
 -- a list in which nobody stands is empty
-pub empty : (xs : List ℕ) → ((x : ℕ) → count x xs ≡ 0) → xs ≡ []
-unfolding count
-empty [] h = refl
-empty (x ∷ xs) h = absurd (omega (arith, rw (eq-eqb x x refl) at (h x)))
+empty : (xs : List ℕ) → ((x : ℕ) → count x xs ≡ 0) → xs ≡ []
+empty xs h = no-length xs (at-most 0 xs (λ x. omega (arith, h x)) (λ x _. h x))
 
 -- ---- along the calls
-module _ (keeps : (t : Tables) → Typed t → Sound t → (q : Asked) → Words q → Typed (next t q) × Sound (next t q)) (p i : ℕ) where
+module _ (p i : ℕ) where
   pub stays : (v : Tables) → Typed v → Sound v → ReadyAt p i v → (qs : List Asked) → AllWords v qs → Each (Undisturbed p i) v qs
       → ReadyAt p i (after v qs)
   unfolding Each after
   stays v typed sound r [] words quiet = r
   stays v typed sound r (q ∷ qs) words quiet =
-      let kept = keeps v typed sound q (words .0) in
-      stays (next v q) (kept .0) (kept .1) (ready-stays v typed sound q (words .0) p i r (quiet .0) .ready) qs (words .1) (quiet .1)
+      let ty = next-typed v typed sound q (words .0) in
+      let so = next-sound v typed sound q (words .0) in
+      stays (next v q) ty so (ready-stays v typed sound q p i r (quiet .0) .ready) qs (words .1) (quiet .1)
 
   pub order : (v : Tables) → Typed v → Sound v → ReadyAt p i v → (qs : List Asked) → AllWords v qs → Each (Undisturbed p i) v qs
       → Sublistᴰ (ahead i (queue p (after v qs))) (ahead i (queue p v))
   unfolding Each after
   order v typed sound r [] words quiet = Sublistᴰ·refl (ahead i (queue p v))
   order v typed sound r (q ∷ qs) words quiet =
-      let kept = keeps v typed sound q (words .0) in
-      let one = ready-stays v typed sound q (words .0) p i r (quiet .0) in
-      Sublistᴰ·trans (order (next v q) (kept .0) (kept .1) (one .ready) qs (words .1) (quiet .1)) (one .order)
+      let ty = next-typed v typed sound q (words .0) in
+      let so = next-sound v typed sound q (words .0) in
+      let one = ready-stays v typed sound q p i r (quiet .0) in
+      Sublistᴰ·trans (order (next v q) ty so (one .ready) qs (words .1) (quiet .1)) (one .order)
 
   pub gone : (v : Tables) → Typed v → Sound v → ReadyAt p i v → (qs : List Asked) → AllWords v qs → Each (Undisturbed p i) v qs
       → (x : ℕ) → Gone p x v qs → count x (ahead i (queue p (after v qs))) ≡ 0
   unfolding Each after Gone
   gone v typed sound r [] words quiet x out = omega (arith, ahead-count x i (queue p v), out)
   gone v typed sound r (q ∷ qs) words quiet x away =
-      let kept = keeps v typed sound q (words .0) in
-      let one = ready-stays v typed sound q (words .0) p i r (quiet .0) in
-      let later = order (next v q) (kept .0) (kept .1) (one .ready) qs (words .1) (quiet .1) in
+      let ty = next-typed v typed sound q (words .0) in
+      let so = next-sound v typed sound q (words .0) in
+      let one = ready-stays v typed sound q p i r (quiet .0) in
+      let later = order (next v q) ty so (one .ready) qs (words .1) (quiet .1) in
       ⊎-elim
       (λ (out : count x (queue p v) ≡ 0). omega (arith, sub-count x later, sub-count x (one .order), ahead-count x i (queue p v), out))
       (λ (rest : Yields x v q ⊎ Gone p x (next v q) qs).
       ⊎-elim
       (λ (y : Yields x v q). omega (arith, sub-count x later, one .yielded x y))
-      (λ (g : Gone p x (next v q) qs). gone (next v q) (kept .0) (kept .1) (one .ready) qs (words .1) (quiet .1) x g)
+      (λ (g : Gone p x (next v q) qs). gone (next v q) ty so (one .ready) qs (words .1) (quiet .1) x g)
       rest)
       away
 

@@ -9,23 +9,22 @@ use borrow.Author.Tests.{eqb-false, ne-eqb, ltb-true}
 use lib.ListN.{length}
 use Rattle.fold.specs.Lists.{count}
 use Rattle.fold.proofs.Laws.{same?, count-first}
-use Rattle.laws.proofs.Rows.{by-range, field-out}
-use Rattle.laws.proofs.Lines.{line-out}
 use Rattle.rules.specs.Answer.{codeOf}
 use Rattle.rules.specs.Tables.{semaphoreCount, semaphoreWidth, eventCount, eventWidth, mailboxCount, mailboxWidth}
 use Rattle.rules.specs.Lines.{line, anyone, first, semaphoreLine, eventLine, mailboxLine, nowhere, taskHome}
-use Rattle.rules.specs.Rows.{field}
 use Rattle.rules.specs.Semaphores as Semaphores
 use Rattle.rules.specs.Events as Events
 use Rattle.rules.specs.Mailboxes as Mailboxes
 use Rattle.rules.specs.Step.{callOf}
 use Rattle.rules.specs.declared.Tables.{Tables}
+use Rattle.laws.proofs.Rows.{row-used}
+use Rattle.laws.proofs.Lines.{line-out}
 use Rattle.runs.specs.Run.{Asked}
+use Rattle.refusals.proofs.Known.{callFor}
 use Rattle.keeps.proofs.Groups.{OfTasks, Standing}
 use Rattle.keeps.proofs.Codes.{accepted-is}
 use Rattle.keeps.proofs.Members.{bit-eq}
 use Rattle.turns.proofs.Same.{servedLine}
-use Rattle.turns.proofs.Made.{callFor}
 
 pub data Reaches (q : Asked) : Type 0 where
   atSemaphore : q .number ≡ 0x23 → q .a < semaphoreCount → servedLine q ≡ semaphoreLine (q .a) → Reaches q
@@ -33,24 +32,20 @@ pub data Reaches (q : Asked) : Type 0 where
   atMailbox : q .a < mailboxCount → servedLine q ≡ mailboxLine (q .a) → Reaches q
   nobody : servedLine q ≡ nowhere → Reaches q
 
--- a row with a word other than 0 is one of the table's
-pub row-there : (w n : ℕ) (t : List ℕ) (i f : ℕ) → field w n t i f ≢ 0 → i < n
-row-there w n t i f d = by-range i n (λ h. h) (λ h. absurd (d (field-out w n t i f h)))
-
 module _ (t : Tables) (q : Asked) (z : codeOf (callFor t q .cases) ≡ 0) where
   of-post : q .number ≡ 0x23 → q .a < semaphoreCount
   unfolding callOf Semaphores.semaphoreCall Semaphores.postCases
   of-post e =
-      row-there semaphoreWidth semaphoreCount (t .semaphores) (q .a) 0 (eqb-false _ _ (accepted-is _ (rw e at z) .at3))
+      row-used semaphoreWidth semaphoreCount (t .semaphores) (q .a) 0 (eqb-false _ _ (accepted-is _ (rw e at z) .at3))
 
   of-event : q .number ≡ 0x33 → q .a < eventCount
   unfolding callOf Events.eventCall Events.postCases
-  of-event e = row-there eventWidth eventCount (t .events) (q .a) 0 (eqb-false _ _ (accepted-is _ (rw e at z) .at3))
+  of-event e = row-used eventWidth eventCount (t .events) (q .a) 0 (eqb-false _ _ (accepted-is _ (rw e at z) .at3))
 
   of-mailbox : (q .number ≡ 0x42) ⊎ (q .number ≡ 0x43) → q .a < mailboxCount
   unfolding callOf Mailboxes.mailboxCall Mailboxes.postCases Mailboxes.pendCases
-  of-mailbox (inl e) = row-there mailboxWidth mailboxCount (t .mailboxes) (q .a) 0 (eqb-false _ _ (accepted-is _ (rw e at z) .at3))
-  of-mailbox (inr e) = row-there mailboxWidth mailboxCount (t .mailboxes) (q .a) 0 (eqb-false _ _ (accepted-is _ (rw e at z) .at3))
+  of-mailbox (inl e) = row-used mailboxWidth mailboxCount (t .mailboxes) (q .a) 0 (eqb-false _ _ (accepted-is _ (rw e at z) .at3))
+  of-mailbox (inr e) = row-used mailboxWidth mailboxCount (t .mailboxes) (q .a) 0 (eqb-false _ _ (accepted-is _ (rw e at z) .at3))
 
   pub reaches : Reaches q
   unfolding servedLine

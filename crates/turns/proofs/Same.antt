@@ -1,13 +1,11 @@
--- A task that a call does not move, and what the call leaves it: its row, its place, and those before it.
+-- A task that a call does not move, and the lines in which it keeps its place.
 use Prim.Native.Nat.{ℕ, _<_}
 use mathlib.Core.Path.{_≡_}
 use mathlib.Core.Logic.{_≢_, _⊎_}
-use mathlib.Core.Bool.{Bool, true, false, _||_, cond as if}
-use mathlib.Core.List.{List, Sublistᴰ}
+use mathlib.Core.Bool.{true, _||_, cond as if}
 use lib.Dec.{eqb}
-use Rattle.fold.specs.Lists.{count, ahead}
 use Rattle.rules.specs.Tables.{semaphoreCount, notInUse, terminated, task, semaphore, KIND}
-use Rattle.rules.specs.Lines.{line, anyone, first, semaphoreLine, eventLine, mailboxLine, nowhere}
+use Rattle.rules.specs.Lines.{anyone, first, semaphoreLine, eventLine, mailboxLine, nowhere}
 use Rattle.rules.specs.Tasks.{blocked}
 use Rattle.rules.specs.Dispatch.{running}
 use Rattle.rules.specs.declared.Tables.{Tables}
@@ -36,14 +34,3 @@ pub record Unmoved (t : Tables) (q : Asked) (i : ℕ) : Type 0 where
 pub record Arrival (t : Tables) (j : ℕ) : Type 0 where
   pub tasks : OfTasks j
   pub kind : j < semaphoreCount → semaphore (t .semaphores) j KIND < 2
-
--- between t and u task i was not moved: its row is the same but for the ticks of a limited wait and the priority of a blocked task, and in an
--- arrival-order line where it stands those before it are some of those before, in their order
-pub record Same (i : ℕ) (t u : Tables) : Type 0 where
-  pub mode : task (u .tasks) i .mode ≡ task (t .tasks) i .mode
-  pub object : task (u .tasks) i .object ≡ task (t .tasks) i .object
-  pub priority : blocked (task (t .tasks) i .mode) ≡ false → task (u .tasks) i .priority ≡ task (t .tasks) i .priority
-  pub endless : task (t .tasks) i .left ≡ 0 → task (u .tasks) i .left ≡ 0
-  pub result : (task (u .tasks) i .outcome ≡ task (t .tasks) i .outcome) × (task (u .tasks) i .value ≡ task (t .tasks) i .value)
-  pub place : (j : ℕ) → Arrival t j → 0 < count i (line (t .lines) j)
-      → (0 < count i (line (u .lines) j)) × Sublistᴰ (ahead i (line (u .lines) j)) (ahead i (line (t .lines) j))

@@ -6,11 +6,9 @@ use mathlib.Core.Bool.{true, true≢false}
 use mathlib.Core.List.{List, [], _∷_}
 use native.Mathlib.Omega.{arith}
 use lib.Dec.{eqb, ltb}
-use borrow.Author.Tests.{eqb-true, eqb-false}
+use borrow.Author.Tests.{eqb-true}
 use Rattle.fold.specs.Lists.{zeros}
 use Rattle.fold.proofs.Laws.{same?}
-use Rattle.fold.proofs.Finds.{first-below-is}
-use Rattle.laws.proofs.Rows.{field-other, field-row, row-other}
 use Rattle.rules.specs.Answer.{Call, After, codeOf, called}
 use Rattle.rules.specs.Tables.{semaphoreCount, semaphoreWidth, semaphore, withSemaphore, USED, KIND, COUNT}
 use Rattle.rules.specs.Lines.{anyone, semaphoreLine}
@@ -18,8 +16,10 @@ use Rattle.rules.specs.Waits.{Served, served}
 use Rattle.rules.specs.Semaphores.{freeSemaphore, createCases, createEffect, deleteCases, deleteEffect, pendCases, pendEffect, postCases, postEffect, resetCases, resetEffect, semaphoreCall}
 use Rattle.rules.specs.Step.{callOf, inRange}
 use Rattle.rules.specs.declared.Tables.{Tables}
+use Rattle.laws.proofs.Rows.{field-other, field-row, row-other}
+use Rattle.laws.proofs.Calls.{chosen}
 use Rattle.keeps.proofs.Codes.{accepted-is}
-use Rattle.keeps.proofs.Chosen.{chosen}
+use Rattle.keeps.proofs.Objects.{free-is}
 
 -- its count is another word
 count-kind : (ss : List ℕ) (a v s : ℕ) → semaphore (withSemaphore ss a COUNT v) s KIND ≡ semaphore ss s KIND
@@ -38,9 +38,7 @@ module _ (s : ℕ) (q : Served) (used : semaphore (q .objects) s USED ≢ 0) (wa
   unfolding createCases createEffect freeSemaphore
   create-kept x a b c d z =
       let ok = accepted-is (createCases (q .objects) x a b c d) z in
-      let found = first-below-is semaphoreCount (λ i. eqb (semaphore (q .objects) i USED) 0) in
-      let n : freeSemaphore (q .objects) ≢ semaphoreCount = eqb-false _ _ (ok .at6) in
-      let free : semaphore (q .objects) (freeSemaphore (q .objects)) USED ≡ 0 = eqb-true _ _ (found .has (omega (arith, found .high))) in
+      let free = eqb-true _ _ (free-is semaphoreCount (λ i. eqb (semaphore (q .objects) i USED) 0) (ok .at6) .1) in
       row-other semaphoreWidth semaphoreCount (q .objects) (freeSemaphore (q .objects)) (1 ∷ a ∷ b ∷ []) refl s KIND
       (λ e. used (ap (λ (i : ℕ). semaphore (q .objects) i USED) e ∙ free))
 

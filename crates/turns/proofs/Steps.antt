@@ -9,12 +9,12 @@ use lib.ListN.{length}
 use borrow.Author.Tests.{lt-ltb, le-ltb}
 use Rattle.fold.specs.Lists.{count, ahead, without, putAt}
 use Rattle.fold.proofs.Laws.{same?, count-snoc, count-without-other, putAt-back, ahead-snoc, ahead-without, without-sub}
-use Rattle.laws.proofs.Rows.{by-range}
-use Rattle.laws.proofs.Lines.{left-same, left-other, left-out, length-left, entered-same, entered-other, entered-full, entered-out, length-entered}
 use Rattle.rules.specs.Tables.{taskCount, task, withTask}
 use Rattle.rules.specs.Lines.{lineCount, lineMost, line, left, entered, homeOf, taskHome, Queued, queued, moved}
 use Rattle.rules.specs.Tasks.{blocked}
 use Rattle.rules.specs.declared.Task.{Task}
+use Rattle.laws.proofs.Rows.{by-range}
+use Rattle.laws.proofs.Lines.{left-same, left-other, left-out, length-left, entered-same, entered-other, entered-full, entered-out, length-entered}
 use Rattle.keeps.proofs.TaskRows.{length-withTask, task-other}
 
 -- ---- a row that is the same but for the ticks of a limited wait and the priority of a blocked task

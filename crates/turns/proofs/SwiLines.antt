@@ -1,29 +1,23 @@
 -- Swis are posted, start and end in lines of their own: the lines of tasks stay.
-use Prim.Native.Nat.{ℕ, zero, suc, _-_, _<_, _≤_}
+use Prim.Native.Nat.{ℕ, _-_, _<_}
 use mathlib.Core.Path.{_≡_, refl, _∙_}
-use mathlib.Core.Logic.{_≢_, ⊎-elim}
 use mathlib.Core.Bool.{_&&_}
 use mathlib.Core.List.{List}
 use native.Mathlib.Omega.{arith}
 use lib.Dec.{eqb, ltb}
 use lib.ListN.{length}
-use Rattle.fold.specs.Find.{rising}
-use Rattle.fold.proofs.Finds.{high-is}
-use Rattle.laws.proofs.Lines.{left-other, length-left, entered-other, length-entered}
 use Rattle.rules.specs.Tables.{swiCount, clockCount, swi, clock, PRIORITY, TRIGGER, POSTED}
-use Rattle.rules.specs.Lines.{line, anyone, first, left, atBack, postedLine, activeLine}
+use Rattle.rules.specs.Lines.{line, first, left, atBack, postedLine, activeLine}
 use Rattle.rules.specs.Swis.{Posts, posts, posted, triggered}
-use Rattle.rules.specs.Tick.{clockedOf, clockTick, clocksTicked, aged}
+use Rattle.rules.specs.Tick.{Clocked, clockedOf, clockTick, clocksTicked, aged}
 use Rattle.rules.specs.Dispatch.{highestPosted, swiDue, started, swiDispatched, dispatched}
+use Rattle.laws.proofs.Lines.{left-other, length-left, entered-other, length-entered}
+use Rattle.laws.proofs.Calls.{chosen}
 use Rattle.keeps.proofs.Groups.{OfTasks}
+use Rattle.keeps.proofs.Aside.{not-of-swis}
 use Rattle.keeps.proofs.SwiTables.{swi-other}
-use Rattle.keeps.proofs.Chosen.{chosen}
-
-not-posted : (j p : ℕ) → OfTasks j → p < 16 → j ≢ postedLine p
-not-posted j p o l e = ⊎-elim (λ h. omega arith) (λ h. omega arith) o
-
-not-active : (j : ℕ) → OfTasks j → j ≢ activeLine
-not-active j o e = ⊎-elim (λ h. omega arith) (λ h. omega arith) o
+use Rattle.keeps.proofs.Settles.{posted-high}
+use Rattle.keeps.proofs.Ticking.{rising-keeps}
 
 -- ---- the lines of tasks are as in ls
 pub record Aside (ls ms : List ℕ) : Type 0 where
@@ -35,29 +29,29 @@ aside-refl ls = record { full = refl; same = λ j o. refl }
 
 -- the top active Swi ends
 pub ended-aside : (ls : List ℕ) (x : ℕ) → Aside ls (left activeLine x ls)
-ended-aside ls x = record { full = length-left ls activeLine x; same = λ j o. left-other ls activeLine x j (not-active j o) }
+ended-aside ls x =
+    record {
+      full = length-left ls activeLine x;
+      same = λ j o. left-other ls activeLine x j (not-of-swis j activeLine o (omega arith) (omega arith));
+    }
 
 -- dispatch: a posted Swi starts
 module _ (ws ls st : List ℕ) where
-  posted-high : highestPosted ls ≤ 16
-  unfolding highestPosted
-  posted-high = high-is 16 (λ p. anyone ls (postedLine p)) .high
-
   started-aside : (p x : ℕ) → p < 16 → Aside ls (started x p (posts ws ls) .lines)
   unfolding started
   started-aside p x l =
       record {
         full = length-entered (left (postedLine p) x ls) activeLine x atBack ∙ length-left ls (postedLine p) x;
         same = λ j o.
-            entered-other (left (postedLine p) x ls) activeLine x atBack j (not-active j o)
-            ∙ left-other ls (postedLine p) x j (not-posted j p o l);
+            entered-other (left (postedLine p) x ls) activeLine x atBack j (not-of-swis j activeLine o (omega arith) (omega arith))
+            ∙ left-other ls (postedLine p) x j (not-of-swis j (postedLine p) o (omega arith) (omega arith));
       }
 
   pub dispatched-aside : Aside ls (dispatched ws ls st .lines)
   unfolding dispatched swiDispatched
   dispatched-aside =
       chosen (λ (x : Posts). Aside ls (x .lines)) (swiDue ws ls st) _ _
-      (λ _. started-aside (highestPosted ls - 1) (first ls (postedLine (highestPosted ls - 1))) (omega (arith, posted-high)))
+      (λ _. started-aside (highestPosted ls - 1) (first ls (postedLine (highestPosted ls - 1))) (omega (arith, posted-high ls .high)))
       (λ _. aside-refl ls)
 
 -- ---- posts: every Swi has a priority below 16
@@ -76,29 +70,26 @@ module _ (ls : List ℕ) (p : Posts) (k : Posting ls p) where
       chosen (λ (q : Posts). Posting ls q) (ltb x swiCount && eqb (swi (p .swis) x POSTED) 0) _ _
       (λ _.
       let at = swi (p .swis) x PRIORITY in
+      let under = k .low x in
       record {
         low = λ y. rw (swi-other (p .swis) x POSTED 1 y PRIORITY (λ e. omega arith)) (k .low y);
         aside =
             record {
               full = length-entered (p .lines) (postedLine at) x atBack ∙ k .aside .full;
               same = λ j o.
-                  entered-other (p .lines) (postedLine at) x atBack j (not-posted j at o (k .low x))
+                  entered-other (p .lines) (postedLine at) x atBack j (not-of-swis j (postedLine at) o (omega arith) (omega arith))
                   ∙ k .aside .same j o;
             };
       })
       (λ _. k)
 
 -- the clocks of a tick, one after the other
-clocks-go : (cs ws ls : List ℕ) → Posting ls (posts ws ls) → (n : ℕ)
-    → Posting ls (posts (rising n clockTick (clockedOf cs ws ls) .swis) (rising n clockTick (clockedOf cs ws ls) .lines))
-unfolding rising clockTick
-clocks-go cs ws ls k zero = k
-clocks-go cs ws ls k (suc n) =
-    let x = rising n clockTick (clockedOf cs ws ls) in
-    let so-far = clocks-go cs ws ls k n in
+pub clocks-aside : (cs ws ls : List ℕ) → Posting ls (posts ws ls) → Aside ls (clocksTicked cs ws ls .lines)
+unfolding clockTick
+clocks-aside cs ws ls k =
+    rising-keeps (λ (x : Clocked). Posting ls (posts (x .swis) (x .lines))) clockTick (clockedOf cs ws ls) clockCount
+    (λ x n h so-far.
     chosen (λ (q : Posts). Posting ls q) (aged (clock (x .clocks) n) .fired) _ _
     (λ _. posted-aside ls (posts (x .swis) (x .lines)) so-far (clock (x .clocks) n .swi))
-    (λ _. so-far)
-
-pub clocks-aside : (cs ws ls : List ℕ) → Posting ls (posts ws ls) → Aside ls (clocksTicked cs ws ls .lines)
-clocks-aside cs ws ls k = clocks-go cs ws ls k clockCount .aside
+    (λ _. so-far))
+    k .aside

@@ -1,27 +1,26 @@
 -- Calls 00 to 06 leave a task that they do not move its row and its place.
 use Prim.Native.Nat.{ℕ, _<_}
-use mathlib.Core.Path.{_≡_, refl, sym, ap, _∙_}
+use mathlib.Core.Path.{_≡_, refl, sym, _∙_}
 use mathlib.Core.Logic.{_≢_, ⊎-elim}
-use mathlib.Core.Bool.{true, _||_, true≢false}
+use mathlib.Core.Bool.{true, false, _||_, true≢false}
 use native.Mathlib.Omega.{arith}
 use borrow.Author.Tests.{eqb-true, eqb-false, ne-eqb, not-false}
 use lib.Dec.{eqb}
-use Rattle.fold.proofs.Finds.{first-below-is}
-use Rattle.laws.proofs.Rows.{by-range}
-use Rattle.rules.specs.Answer.{called, After}
+use Rattle.rules.specs.Answer.{T}
 use Rattle.rules.specs.Tables.{Typed, taskCount, notInUse, terminated, inactive, task, noTask}
 use Rattle.rules.specs.Lines.{Queued, queued, atBack}
 use Rattle.rules.specs.Dispatch.{context}
-use Rattle.rules.specs.Tasks.{freeTask, blocked, placedAt, withPriority, reprioritized, createCases, createEffect, deleteCases, deleteEffect, setPriorityCases, setPriorityEffect, yieldCases, yieldEffect, endCases, endEffect, sleepCases, sleepEffect, lastResultCases, lastResultEffect, taskCall}
+use Rattle.rules.specs.Tasks.{freeTask, blocked, placedAt, withPriority, reprioritized, createCases, createEffect, deleteCases, deleteEffect, setPriorityCases, setPriorityEffect, yieldCases, yieldEffect, endCases, endEffect, sleepCases, sleepEffect, lastResultEffect, taskCall}
 use Rattle.rules.specs.declared.Tables.{Tables}
 use Rattle.rules.specs.declared.Task.{Task}
+use Rattle.laws.proofs.Calls.{chosen}
 use Rattle.runs.specs.Run.{Asked}
 use Rattle.keeps.proofs.Codes.{accepted-is}
-use Rattle.keeps.proofs.Chosen.{chosen}
-use Rattle.keeps.proofs.TaskRows.{task-same, task-out}
+use Rattle.keeps.proofs.TaskRows.{task-same, in-use}
+use Rattle.keeps.proofs.Objects.{free-is}
 use Rattle.turns.proofs.Same.{Unmoved, Arrival}
 use Rattle.turns.proofs.Steps.{SameRow, in-row}
-use Rattle.turns.proofs.Leaves.{Left, Leaves, by-number, unknown-leaves, called-by-task, stay, moves, current-moves}
+use Rattle.turns.proofs.Leaves.{Left, Leaves, by-number, by-test, unknown-leaves, called-by-task, stay, moves, current-moves}
 
 -- another priority of a blocked task
 repriced : (k : Task) (p : ℕ) → blocked (k .mode) ≡ true → SameRow k (withPriority k p)
@@ -36,93 +35,54 @@ module _ (t : Tables) (typed : Typed t) (q : Asked) (i : ℕ) (u : Unmoved t q i
   abbrev tq : Queued
   tq = queued (t .tasks) (t .lines)
 
-  abbrev x : ℕ
-  x = context (t .lines) (t .state)
-
-  abbrev a : ℕ
-  a = q .a
-
-  abbrev b : ℕ
-  b = q .b
-
-  abbrev c : ℕ
-  c = q .c
-
-  abbrev d : ℕ
-  d = q .d
-
   abbrev whole : Queued → Queued
   whole y = y
 
-  create-leaves : Leaves t i whole (called (createCases (t .tasks) x a b c d) (createEffect tq a))
-  unfolding createCases createEffect freeTask
-  create-leaves z =
-      let ok = accepted-is (createCases (t .tasks) x a b c d) z in
-      let found = first-below-is taskCount (λ n. eqb (task (t .tasks) n .mode) notInUse) in
+  create-leaves : eqb (freeTask (t .tasks)) taskCount ≡ false → Left t i (createEffect tq (q .a) .next)
+  unfolding createEffect freeTask
+  create-leaves room =
       let w = freeTask (t .tasks) in
-      let lt : w < taskCount = omega (arith, found .high, eqb-false w taskCount (ok .at6)) in
-      let free : task (t .tasks) w .mode ≡ 0 = eqb-true _ _ (found .has lt) in
-      moves t typed q i u w (λ (e : w ≡ i). u .used (rw e at free)) atBack (placedAt noTask a) (λ _ xs. refl)
+      let free : task (t .tasks) w .mode ≡ notInUse = eqb-true _ _ (free-is taskCount (λ n. eqb (task (t .tasks) n .mode) notInUse) room .1) in
+      moves t typed q i u w (λ (e : w ≡ i). u .used (rw e at free)) atBack (placedAt noTask (q .a)) (λ _ xs. refl)
 
-  delete-leaves : q .number ≡ 0x01 → Leaves t i whole (called (deleteCases (t .tasks) x a b c d) (deleteEffect tq a))
-  unfolding deleteCases deleteEffect
-  delete-leaves number z =
-      let ok = accepted-is (deleteCases (t .tasks) x a b c d) z in
-      in-row i (Arrival t) tq a noTask (λ e. absurd (past (task (t .tasks) a .mode) (not-false _ (ok .at5)) (rw e (u .stays number e))))
+  delete-leaves : q .number ≡ 0x01 → (eqb (task (t .tasks) (q .a) .mode) terminated || eqb (task (t .tasks) (q .a) .mode) inactive) ≡ true
+      → Left t i (deleteEffect tq (q .a) .next)
+  unfolding deleteEffect
+  delete-leaves number ended =
+      in-row i (Arrival t) tq (q .a) noTask (λ e. absurd (past (task (t .tasks) (q .a) .mode) ended (rw e (u .stays number e))))
 
   -- call 02 on another task, or on this one with the same priority or while it is blocked
-  reprioritized-leaves : q .number ≡ 0x02 → task (t .tasks) a .mode ≢ notInUse → Left t i (reprioritized tq a b)
+  reprioritized-leaves : q .number ≡ 0x02 → task (t .tasks) (q .a) .mode ≢ notInUse → Left t i (reprioritized tq (q .a) (q .b))
   unfolding reprioritized
   reprioritized-leaves number used =
-      let k = task (t .tasks) a in
-      let lt : a < taskCount = by-range a taskCount (λ l. l) (λ l. absurd (used (ap (λ (m : Task). m .mode) (task-out (t .tasks) a l)))) in
-      chosen (λ (y : Queued). Left t i y) (eqb b (k .priority)) _ _
+      let k = task (t .tasks) (q .a) in
+      chosen (λ (y : Queued). Left t i y) (eqb (q .b) (k .priority)) _ _
       (λ _. stay t i)
       (λ new.
       chosen (λ (y : Queued). Left t i y) (blocked (k .mode)) _ _
       (λ e.
-      in-row i (Arrival t) tq a (withPriority k b)
-      (λ own. rw (← own, task-same (t .tasks) a (withPriority k b) (typed .tasks) lt) (repriced k b e)))
+      in-row i (Arrival t) tq (q .a) (withPriority k (q .b))
+      (λ own. rw (← own, task-same (t .tasks) (q .a) (withPriority k (q .b)) (typed .tasks) (in-use (t .tasks) (q .a) used)) (repriced k (q .b) e)))
       (λ e.
-      moves t typed q i u a
-      (λ (own : a ≡ i).
+      moves t typed q i u (q .a)
+      (λ (own : q .a ≡ i).
       ⊎-elim
-      (λ (same : b ≡ task (t .tasks) i .priority). eqb-false b (k .priority) new (rw own same))
+      (λ (same : q .b ≡ task (t .tasks) i .priority). eqb-false (q .b) (k .priority) new (rw own same))
       (λ (waits : blocked (task (t .tasks) i .mode) ≡ true). true≢false (sym waits ∙ rw own at e))
       (u .kept number own))
-      atBack (placedAt k b) (λ _ xs. refl)))
+      atBack (placedAt k (q .b)) (λ _ xs. refl)))
 
-  set-priority-leaves : q .number ≡ 0x02
-      → Leaves t i whole (called (setPriorityCases (t .tasks) (t .state) x a b c d) (setPriorityEffect tq a b))
-  unfolding setPriorityCases setPriorityEffect
-  set-priority-leaves number z =
-      reprioritized-leaves number (eqb-false _ _ (accepted-is (setPriorityCases (t .tasks) (t .state) x a b c d) z .at3))
+  sleep-leaves : context (t .lines) (t .state) ≡ T → Left t i (sleepEffect tq (t .state) (q .a) .next)
+  unfolding sleepEffect
+  sleep-leaves by = by-test t i whole (eqb (q .a) 0) _ _ (λ _. stay t i) (λ _. current-moves t typed q i u by _)
 
-  yield-leaves : Leaves t i whole (called (yieldCases (t .state) x a b c d) (yieldEffect tq (t .state)))
-  unfolding yieldCases yieldEffect
-  yield-leaves z = current-moves t typed q i u (called-by-task x (accepted-is (yieldCases (t .state) x a b c d) z .at2)) _
-
-  end-leaves : Leaves t i whole (called (endCases (t .state) x a b c d) (endEffect tq (t .state)))
-  unfolding endCases endEffect
-  end-leaves z = current-moves t typed q i u (called-by-task x (accepted-is (endCases (t .state) x a b c d) z .at2)) _
-
-  sleep-leaves : Leaves t i whole (called (sleepCases (t .state) x a b c d) (sleepEffect tq (t .state) a))
-  unfolding sleepCases sleepEffect
-  sleep-leaves z =
-      let by = called-by-task x (accepted-is (sleepCases (t .state) x a b c d) z .at2) in
-      chosen (λ (e : After Queued). Left t i (e .next)) (eqb a 0) _ _ (λ _. stay t i) (λ _. current-moves t typed q i u by _)
-
-  last-result-leaves : Leaves t i whole (called (lastResultCases (t .tasks) a b c d) (lastResultEffect tq a))
-  unfolding lastResultEffect
-  last-result-leaves z = stay t i
-
-  pub tasks-leave : Leaves t i whole (taskCall tq (t .state) x (q .number) a b c d)
-  unfolding taskCall
+  pub tasks-leave : Leaves t i whole (taskCall tq (t .state) (context (t .lines) (t .state)) (q .number) (q .a) (q .b) (q .c) (q .d))
+  unfolding taskCall createCases deleteCases setPriorityCases setPriorityEffect yieldCases yieldEffect endCases endEffect sleepCases lastResultEffect
   tasks-leave =
-      by-number t i whole (q .number) 0x00 _ _ (λ _. create-leaves)
-      (by-number t i whole (q .number) 0x01 _ _ delete-leaves
-      (by-number t i whole (q .number) 0x02 _ _ set-priority-leaves
-      (by-number t i whole (q .number) 0x03 _ _ (λ _. yield-leaves)
-      (by-number t i whole (q .number) 0x04 _ _ (λ _. end-leaves)
-      (by-number t i whole (q .number) 0x05 _ _ (λ _. sleep-leaves)
-      (by-number t i whole (q .number) 0x06 _ _ (λ _. last-result-leaves) (unknown-leaves t i whole tq)))))))
+      by-number t i whole (q .number) 0x00 _ _ (λ _ z. create-leaves (accepted-is _ z .at6))
+      (by-number t i whole (q .number) 0x01 _ _ (λ n z. delete-leaves n (not-false _ (accepted-is _ z .at5)))
+      (by-number t i whole (q .number) 0x02 _ _ (λ n z. reprioritized-leaves n (eqb-false _ _ (accepted-is _ z .at3)))
+      (by-number t i whole (q .number) 0x03 _ _ (λ _ z. current-moves t typed q i u (called-by-task _ (accepted-is _ z .at2)) _)
+      (by-number t i whole (q .number) 0x04 _ _ (λ _ z. current-moves t typed q i u (called-by-task _ (accepted-is _ z .at2)) _)
+      (by-number t i whole (q .number) 0x05 _ _ (λ _ z. sleep-leaves (called-by-task _ (accepted-is _ z .at2)))
+      (by-number t i whole (q .number) 0x06 _ _ (λ _ _. stay t i) (unknown-leaves t i whole tq)))))))

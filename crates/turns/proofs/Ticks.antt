@@ -1,5 +1,5 @@
 -- Calls 70 to 76 leave a task that has not its last tick its row and its place.
-use Prim.Native.Nat.{ℕ, zero, suc, _<_, _≤_}
+use Prim.Native.Nat.{ℕ, zero, suc, _≤_}
 use mathlib.Core.Path.{_≡_, refl, sym, ap, _∙_}
 use mathlib.Core.Logic.{_≢_}
 use native.Mathlib.Omega.{arith}
@@ -7,7 +7,6 @@ use borrow.Author.Tests.{eqb-true, eqb-false}
 use lib.Dec.{eqb}
 use lib.ListN.{length}
 use Rattle.fold.specs.Find.{rising}
-use Rattle.laws.proofs.Rows.{by-range}
 use Rattle.rules.specs.Tables.{Typed, taskCount, task}
 use Rattle.rules.specs.Lines.{Queued, queued, atBack}
 use Rattle.rules.specs.Sound.{Sound}
@@ -16,9 +15,9 @@ use Rattle.rules.specs.Tick.{Ticked, tickedOf, oneLess, endedWith, taskTick, cl
 use Rattle.rules.specs.Dispatch.{context}
 use Rattle.rules.specs.declared.Tables.{Tables}
 use Rattle.rules.specs.declared.Task.{Task}
+use Rattle.laws.proofs.Calls.{chosen}
 use Rattle.runs.specs.Run.{Asked}
-use Rattle.keeps.proofs.Chosen.{chosen}
-use Rattle.keeps.proofs.TaskRows.{task-same, task-other, task-out}
+use Rattle.keeps.proofs.TaskRows.{task-same, task-other, task-in}
 use Rattle.turns.proofs.Same.{Unmoved, Arrival}
 use Rattle.turns.proofs.Steps.{SameRow, SameIn, in-refl, in-trans, in-row, in-moved, moved-others}
 use Rattle.turns.proofs.SwiLines.{clocks-aside}
@@ -62,8 +61,7 @@ module _ (i : ℕ) (A : ℕ → Type 0) (x : Queued) (tasks : length (x .tasks) 
       (λ _. moved-others atBack n next y i other))
       (λ _.
       let left : w .left ≢ 0 = eqb-false _ _ some in
-      let lt : n < taskCount =
-      by-range n taskCount (λ l. l) (λ l. absurd (left (ap (λ (m : Task). m .left) (task-out (y .tasks) n l)))) in
+      let lt = task-in (y .tasks) n (λ e. left (ap (λ (m : Task). m .left) e)) in
       goes n y _ k
       (in-row i A y n (oneLess w) (λ own. rw (← own, task-same (y .tasks) n (oneLess w) full lt) (less w left)))
       (λ other. task-other (y .tasks) n (oneLess w) i (λ e. other (sym e)))))

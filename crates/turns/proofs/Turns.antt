@@ -23,19 +23,20 @@ use Rattle.rules.specs.Sound.{Sound, taskRule, semaphoreRule}
 use Rattle.rules.specs.declared.Tables.{Tables}
 use Rattle.rules.specs.declared.Task.{Task}
 use Rattle.rules.specs.declared.Thread.the-variants as Threads
-use Rattle.runs.specs.Run.{Asked, Words, next}
+use Rattle.runs.specs.Run.{Asked, next}
 use Rattle.runs.specs.Turn.{BlockedOn, beforeAt, isPost, ReadyAt, queue, Undisturbed, Yields}
+use Rattle.refusals.proofs.Known.{callFor}
 use Rattle.keeps.proofs.Groups.{OfTasks, Almost}
 use Rattle.keeps.proofs.Members.{bit-same}
-use Rattle.keeps.proofs.TaskRows.{task-same, task-out, task-stands, semaphore-row}
+use Rattle.keeps.proofs.TaskRows.{task-same, in-use, task-stands, semaphore-row}
 use Rattle.keeps.proofs.Standing.{sound-almost}
 use Rattle.keeps.proofs.Moves.{moved-line, moved-from, moved-row, moved-rows}
 use Rattle.keeps.proofs.Waiting.{row-other, used-at, woken-row, current-under, current-row, current-ready}
-use Rattle.laws.proofs.Rows.{by-range}
-use Rattle.turns.proofs.Same.{servedLine, Unmoved, Same}
+use Rattle.turns.proofs.Same.{servedLine, Unmoved}
+use Rattle.turns.proofs.Leaves.{Left}
 use Rattle.turns.proofs.Calls.{call-same}
 use Rattle.turns.proofs.Ahead.{sub-length, ahead-first, first-ahead, ahead-back}
-use Rattle.turns.proofs.Made.{callFor, Accepted, by-answer, tasks-after, semaphores-after, line-after}
+use Rattle.turns.proofs.Made.{Accepted, by-answer, tasks-after, semaphores-after, line-after}
 use Rattle.turns.proofs.Reach.{Reaches, atSemaphore, atEvent, atMailbox, nobody, reaches, reached-line, first-home, not-first}
 use Rattle.turns.proofs.SameKind.{kind-kept}
 
@@ -48,10 +49,6 @@ running-current ls st x e = go (ltb 0 (state st DEPTH)) (anyone ls activeLine) e
     go true b e = absurd (let z : _≡_ {A = ℕ} 0 1 = cc in omega arith)
     go false true e = absurd (let z : _≡_ {A = ℕ} 0 1 = cc in omega arith)
     go false false e = cc
-
--- a task in use is one of the 32
-in-use : (ts : List ℕ) (i : ℕ) → task ts i .mode ≢ 0 → i < taskCount
-in-use ts i n = by-range i taskCount (λ h. h) (λ h. absurd (n (ap (λ (k : Task). k .mode) (task-out ts i h))))
 
 -- ---- a ready task
 pub record StaysReady (p i : ℕ) (t : Tables) (q : Asked) : Type 0 where
@@ -88,7 +85,7 @@ module _ (t : Tables) (typed : Typed t) (s : Sound t) (p i : ℕ) (is : ReadyAt 
   in-queue =
       omega (arith, sound-almost t typed s .standing .tasks i (readyLine p) of-queue, bit-same _ _ ready-home)
 
-  module _ (q : Asked) (words : Words q) (rests : running (t .lines) (t .state) ≢ Threads.Task i) (ok : Accepted t q)
+  module _ (q : Asked) (rests : running (t .lines) (t .state) ≢ Threads.Task i) (ok : Accepted t q)
       (keeps : task (next t q .tasks) i .priority ≡ p) where
     -- given another priority it would have it
     set-tasks : q .number ≡ 0x02 → q .a ≡ i → q .b ≢ task (t .tasks) i .priority
@@ -125,8 +122,8 @@ module _ (t : Tables) (typed : Typed t) (s : Sound t) (p i : ℕ) (is : ReadyAt 
           lasts = λ e. omega (arith, ready-left);
         }
 
-    same : Same i t (next t q)
-    same = call-same t typed s q words i not-moved
+    same : Left t i (queued (next t q .tasks) (next t q .lines))
+    same = call-same t typed s q i not-moved
 
     yield-lines : q .number ≡ 0x03
         → callFor t q .effect .next .lines ≡ moved atBack (current (t .state)) (task (t .tasks) (current (t .state))) (queued (t .tasks) (t .lines)) .lines
@@ -147,11 +144,11 @@ module _ (t : Tables) (typed : Typed t) (s : Sound t) (p i : ℕ) (is : ReadyAt 
     accepted-stays : StaysReady p i t q
     accepted-stays =
         let place = same .place (readyLine p) (record { tasks = of-queue; kind = λ l. absurd (omega arith) }) in-queue in
-        record { ready = (same .mode ∙ is .0, keeps); order = place .1; yielded = yielder-gone }
+        record { ready = (same .row .mode ∙ is .0, keeps); order = place .1; yielded = yielder-gone }
 
-pub ready-stays : (t : Tables) → Typed t → Sound t → (q : Asked) → Words q → (p i : ℕ) → ReadyAt p i t → Undisturbed p i t q
+pub ready-stays : (t : Tables) → Typed t → Sound t → (q : Asked) → (p i : ℕ) → ReadyAt p i t → Undisturbed p i t q
     → StaysReady p i t q
-ready-stays t typed s q words p i is (rests, keeps) =
+ready-stays t typed s q p i is (rests, keeps) =
     by-answer t s q
     (λ no.
     record {
@@ -159,7 +156,7 @@ ready-stays t typed s q words p i is (rests, keeps) =
       order = rw (no .next) (Sublistᴰ·refl (ahead i (queue p t)));
       yielded = λ x y. absurd (no .code (y .2));
     })
-    (λ ok. accepted-stays t typed s p i is q words rests ok keeps)
+    (λ ok. accepted-stays t typed s p i is q rests ok keeps)
 
 -- ---- a waiter without end
 pub record Waiter (s i : ℕ) (t : Tables) : Type 0 where
@@ -176,7 +173,7 @@ pub record Served (s i : ℕ) (t : Tables) (q : Asked) : Type 0 where
   pub value : task (next t q .tasks) i .value ≡ 0
 
 -- what one call leaves of it
-abbrev Stays : ℕ → ℕ → Tables → Asked → Type 0
+abbrev pub Stays : ℕ → ℕ → Tables → Asked → Type 0
 Stays s i t q = Waiter s i (next t q) × (length (beforeAt s i (next t q)) + bit (isPost s t q) ≤ length (beforeAt s i t))
 
 module _ (t : Tables) (typed : Typed t) (sound : Sound t) (s i : ℕ) (w : Waiter s i t) where
@@ -213,7 +210,7 @@ module _ (t : Tables) (typed : Typed t) (sound : Sound t) (s i : ℕ) (w : Waite
   unfolding semaphoreRule
   semaphore-used z = let (_, (free, _)) = sound .semaphores s object-in in omega (arith, someone, free z .1 .1)
 
-  module _ (q : Asked) (words : Words q) (ok : Accepted t q) where
+  module _ (q : Asked) (ok : Accepted t q) where
     kind-stays : semaphore (next t q .semaphores) s KIND < 2
     kind-stays =
         rw (semaphores-after t q ok, kind-kept t s semaphore-used has-waiters _ (q .number) (q .a) (q .b) (q .c) (q .d) (ok .cases)) (w .arrival)
@@ -307,19 +304,19 @@ module _ (t : Tables) (typed : Typed t) (sound : Sound t) (s i : ℕ) (w : Waite
 
       waits-on : Stays s i t q
       waits-on =
-          let same = call-same t typed sound q words i left-waiting in
+          let same = call-same t typed sound q i left-waiting in
           let place = same .place (semaphoreLine s) (record { tasks = of-line; kind = λ l. w .arrival }) in-line in (
             record {
-              blocked = (same .mode ∙ w .blocked .0, same .object ∙ w .blocked .1);
-              endless = same .endless (w .endless);
+              blocked = (same .row .mode ∙ w .blocked .0, same .row .object ∙ w .blocked .1);
+              endless = same .row .endless (w .endless);
               arrival = kind-stays;
             },
             rw no-post (omega (arith, sub-length (place .1))),
           )
 
-pub waiter-stays : (t : Tables) → Typed t → Sound t → (q : Asked) → Words q → (s i : ℕ) → Waiter s i t
-    → (Waiter s i (next t q) × (length (beforeAt s i (next t q)) + bit (isPost s t q) ≤ length (beforeAt s i t))) ⊎ Served s i t q
-waiter-stays t typed sound q words s i w =
+pub waiter-stays : (t : Tables) → Typed t → Sound t → (q : Asked) → (s i : ℕ) → Waiter s i t
+    → Stays s i t q ⊎ Served s i t q
+waiter-stays t typed sound q s i w =
     by-answer t sound q
     (λ no. inl (rw (no .next) w, rw (no .next, ne-eqb _ _ (no .code), and-false) (omega arith)))
     (λ ok.
@@ -327,9 +324,9 @@ waiter-stays t typed sound q words s i w =
     (λ (e : q .number ≡ 0x23).
     ⊎-elim
     (λ (d : q .a ≡ s).
-    ⊎-elim (λ h. inr (serves t typed sound s i w q words ok e d _ refl h)) (λ h. inl (passes t typed sound s i w q words ok e d _ refl h))
+    ⊎-elim (λ h. inr (serves t typed sound s i w q ok e d _ refl h)) (λ h. inl (passes t typed sound s i w q ok e d _ refl h))
     (same? (first (t .lines) (semaphoreLine s)) i))
-    (λ (n : q .a ≢ s). inl (waits-on t typed sound s i w q words ok (λ _. n)))
+    (λ (n : q .a ≢ s). inl (waits-on t typed sound s i w q ok (λ _. n)))
     (same? (q .a) s))
-    (λ (n : q .number ≢ 0x23). inl (waits-on t typed sound s i w q words ok (λ e. absurd (n e))))
+    (λ (n : q .number ≢ 0x23). inl (waits-on t typed sound s i w q ok (λ e. absurd (n e))))
     (same? (q .number) 0x23))

@@ -1,24 +1,18 @@
 -- Any calls one after the other, and a task that waits without end: it waits on, or an accepted post on its semaphore has served it.
 use Prim.Native.Nat.{ℕ, _+_, _-_, _<_, _≤_}
-use mathlib.Core.Path.{_≡_, refl, sym, ap, _∙_}
+use mathlib.Core.Path.{refl, ap}
 use mathlib.Core.Logic.{_⊎_, inl, inr, ⊎-elim}
-use mathlib.Core.Bool.{true}
-use mathlib.Core.List.{List, [], _∷_, _++_}
+use mathlib.Core.List.{List, [], _∷_}
 use native.Mathlib.Omega.{arith}
 use lib.ListN.{length}
 use Rattle.fold.specs.Lists.{bit}
-use Rattle.rules.specs.Tables.{Typed, ready, task}
+use Rattle.rules.specs.Tables.{Typed, ready}
 use Rattle.rules.specs.Sound.{Sound}
 use Rattle.rules.specs.declared.Tables.{Tables}
-use Rattle.runs.specs.Run.{Asked, Words, next, after, Always, Each, AllWords}
+use Rattle.runs.specs.Run.{Asked, next, after, Always, Each, AllWords}
 use Rattle.runs.specs.Turn.{BlockedOn, beforeAt, isPost, posts, ServedIn}
-use Rattle.turns.proofs.Turns.{Waiter, Served, waiter-stays}
-
--- ---- the tables at the start of a run
-pub always-head : (P : Tables → Type 0) (u : Tables) (qs : List Asked) → Always P u qs → P u
-unfolding Always
-always-head P u [] h = h
-always-head P u (q ∷ qs) h = h .0
+use Rattle.turns.proofs.Made.{next-typed, next-sound}
+use Rattle.turns.proofs.Turns.{Waiter, Stays, Served, waiter-stays}
 
 -- a run that begins with q and then serves task i
 further : (s i k m : ℕ) (u : Tables) (q : Asked) (qs : List Asked) → BlockedOn s i u → bit (isPost s u q) + m ≤ k → ServedIn s i m (next u q) qs
@@ -41,22 +35,21 @@ further s i k m u q qs b le x =
     }
 
 -- it waits on, with those before it lessened by each post; or it was served
-module _ (keeps : (t : Tables) → Typed t → Sound t → (q : Asked) → Words q → Typed (next t q) × Sound (next t q)) (s i : ℕ) where
+module _ (s i : ℕ) where
   pub turn : (k : ℕ) (u : Tables) → Typed u → Sound u → Waiter s i u → length (beforeAt s i u) ≤ k → (qs : List Asked) → AllWords u qs
       → (Always (BlockedOn s i) u qs × (length (beforeAt s i (after u qs)) + posts s u qs ≤ k)) ⊎ ServedIn s i k u qs
   unfolding Each Always after posts
   turn k u typed sound w le [] words = inl (w .blocked, omega (arith, le))
   turn k u typed sound w le (q ∷ qs) (word, words) =
-      let kept = keeps u typed sound q word in
       ⊎-elim
-      (λ (r : Waiter s i (next u q) × (length (beforeAt s i (next u q)) + bit (isPost s u q) ≤ length (beforeAt s i u))).
+      (λ (r : Stays s i u q).
       let fewer : length (beforeAt s i (next u q)) ≤ k - bit (isPost s u q) = omega (arith, r .1, le) in
       let room : bit (isPost s u q) + (k - bit (isPost s u q)) ≤ k = omega (arith, r .1, le) in
       ⊎-elim
       (λ (h : Always (BlockedOn s i) (next u q) qs × (length (beforeAt s i (after (next u q) qs)) + posts s (next u q) qs ≤ k - bit (isPost s u q))).
       inl ((w .blocked, h .0), omega (arith, h .1, room)))
       (λ (x : ServedIn s i (k - bit (isPost s u q)) (next u q) qs). inr (further s i k (k - bit (isPost s u q)) u q qs (w .blocked) room x))
-      (turn (k - bit (isPost s u q)) (next u q) (kept .0) (kept .1) (r .0) fewer qs words))
+      (turn (k - bit (isPost s u q)) (next u q) (next-typed u typed sound q word) (next-sound u typed sound q word) (r .0) fewer qs words))
       (λ (x : Served s i u q).
       inr
       record {
@@ -73,7 +66,7 @@ module _ (keeps : (t : Tables) → Typed t → Sound t → (q : Asked) → Words
         outcome = x .outcome;
         value = x .value;
       })
-      (waiter-stays u typed sound q word s i w)
+      (waiter-stays u typed sound q s i w)
 
   -- after more than k accepted posts on s it was served
   pub in-time : (k : ℕ) (u : Tables) → Typed u → Sound u → Waiter s i u → length (beforeAt s i u) ≤ k → (qs : List Asked) → AllWords u qs

@@ -1,13 +1,12 @@
 -- What the calls one after the other leave of a task's row and its lines.
 use Prim.Native.Nat.{ℕ, _≤_, _<_}
-use mathlib.Core.Path.{_≡_, refl, sym, ap, _∙_}
+use mathlib.Core.Path.{_≡_, ap, _∙_}
 use mathlib.Core.List.{List}
 use borrow.Author.Tests.{lt-ltb, le-ltb}
 use mathlib.Core.Bool.{true, false}
 use Rattle.rules.specs.Rows.{field}
 use Rattle.rules.specs.Tables.{task, withTask}
-use Rattle.rules.specs.Lines.{line, isLower, homeOf, Queued, queued, moved, left, entered, atBack}
-use Rattle.rules.specs.Waits.{readied, woken, waiting}
+use Rattle.rules.specs.Lines.{line, isLower, homeOf, Queued, queued, moved, left, entered}
 use Rattle.rules.specs.declared.Task.{Task}
 
 module _ (place : List ℕ → ℕ) (i : ℕ) (k : Task) (ts ls : List ℕ) where

@@ -15,6 +15,7 @@ replay-all-spec =
     Inv-loop
     μ-loop
     (λ c κs. tt)
+    (λ c κs. tt)
     (λ c. tt)
     (λ c. tt)
     (λ c κs. tt)

@@ -1,4 +1,5 @@
 use borrow.Author.Needs.{needs}
+use Rattle.rules.specs.Tables.{tables}
 use Rattle.kernel.proofs.Ranges.{from, below, beyond, of-kind, task-range, swi-range, semaphore-range, event-range, mailbox-range, clock-range, heap-range, switch-range, no-range}
 use Rattle.laws.proofs.Calls.{unknown-is}
 use Rattle.kernel.proofs.calls.any_call.Statement.{statement}
@@ -17,12 +18,12 @@ any-call-spec =
     (λ c κs. search needs)
     (λ c κs. search needs)
     (λ c κs. search needs)
-    (λ c. of-kind (task-range _ _ _ _ _ _ _ (below _ 0 (c .before .before .before .before .match .keys1))) (c .task-call .ensures))
-    (λ c. let n = c .before .before .before .before .before .match .keys2 in of-kind (swi-range _ _ _ _ _ _ _ (from _ 1 n) (below _ 1 n)) (c .swi-call .ensures))
-    (λ c. let n = c .before .before .before .before .before .match .keys3 in of-kind (semaphore-range _ _ _ _ _ _ _ (from _ 2 n) (below _ 2 n)) (c .semaphore-call .ensures))
-    (λ c. let n = c .before .before .before .before .before .match .keys4 in of-kind (event-range _ _ _ _ _ _ _ (from _ 3 n) (below _ 3 n)) (c .event-call .ensures))
-    (λ c. let n = c .before .before .before .before .before .match .keys5 in of-kind (mailbox-range _ _ _ _ _ _ _ (from _ 4 n) (below _ 4 n)) (c .mailbox-call .ensures))
-    (λ c. let n = c .before .before .before .match .keys6 in of-kind (clock-range _ _ _ _ _ _ _ (from _ 5 n) (below _ 5 n)) (c .clock-call .ensures))
-    (λ c. let n = c .before .before .match .keys7 in of-kind (heap-range _ _ _ _ _ _ _ (from _ 6 n) (below _ 6 n)) (c .heap-call .ensures))
-    (λ c. let n = c .before .before .before .before .before .before .match .keys8 in of-kind (switch-range _ _ _ _ _ _ _ (from _ 7 n) (below _ 7 n)) (c .switch-call .ensures))
-    (λ c. let n = c .before .match .rest in unknown-is _ _ (no-range _ _ _ _ _ _ _ (beyond _ (n .0 .0 .0 .0 .0 .0 .0 .1) (n .0 .0 .0 .0 .0 .0 .1) (n .0 .0 .0 .0 .0 .1) (n .0 .0 .0 .0 .1) (n .0 .0 .0 .1) (n .0 .0 .1) (n .0 .1) (n .1))) (c .refused .ensures)))
+    (λ c. let a = c .before .before .before .before .before .args in of-kind (task-range (tables (a .tasks .now) (a .lines .now) (a .semaphores .now) (a .events .now) (a .mailboxes .now) (a .swis .now) (a .clocks .now) (a .heap .now) (a .state .now)) (a .x) (a .number) (a .a) (a .b) (a .c) (a .d) (below _ 0 (c .before .before .before .before .match .keys1))) (c .task-call .ensures))
+    (λ c. let a = c .before .before .before .before .before .before .args in let n = c .before .before .before .before .before .match .keys2 in of-kind (swi-range (tables (a .tasks .now) (a .lines .now) (a .semaphores .now) (a .events .now) (a .mailboxes .now) (a .swis .now) (a .clocks .now) (a .heap .now) (a .state .now)) (a .x) (a .number) (a .a) (a .b) (a .c) (a .d) (from _ 1 n) (below _ 1 n)) (c .swi-call .ensures))
+    (λ c. let a = c .before .before .before .before .before .before .args in let n = c .before .before .before .before .before .match .keys3 in of-kind (semaphore-range (tables (a .tasks .now) (a .lines .now) (a .semaphores .now) (a .events .now) (a .mailboxes .now) (a .swis .now) (a .clocks .now) (a .heap .now) (a .state .now)) (a .x) (a .number) (a .a) (a .b) (a .c) (a .d) (from _ 2 n) (below _ 2 n)) (c .semaphore-call .ensures))
+    (λ c. let a = c .before .before .before .before .before .before .args in let n = c .before .before .before .before .before .match .keys4 in of-kind (event-range (tables (a .tasks .now) (a .lines .now) (a .semaphores .now) (a .events .now) (a .mailboxes .now) (a .swis .now) (a .clocks .now) (a .heap .now) (a .state .now)) (a .x) (a .number) (a .a) (a .b) (a .c) (a .d) (from _ 3 n) (below _ 3 n)) (c .event-call .ensures))
+    (λ c. let a = c .before .before .before .before .before .before .args in let n = c .before .before .before .before .before .match .keys5 in of-kind (mailbox-range (tables (a .tasks .now) (a .lines .now) (a .semaphores .now) (a .events .now) (a .mailboxes .now) (a .swis .now) (a .clocks .now) (a .heap .now) (a .state .now)) (a .x) (a .number) (a .a) (a .b) (a .c) (a .d) (from _ 4 n) (below _ 4 n)) (c .mailbox-call .ensures))
+    (λ c. let a = c .before .before .before .before .args in let n = c .before .before .before .match .keys6 in of-kind (clock-range (tables (a .tasks .now) (a .lines .now) (a .semaphores .now) (a .events .now) (a .mailboxes .now) (a .swis .now) (a .clocks .now) (a .heap .now) (a .state .now)) (a .x) (a .number) (a .a) (a .b) (a .c) (a .d) (from _ 5 n) (below _ 5 n)) (c .clock-call .ensures))
+    (λ c. let a = c .before .before .before .args in let n = c .before .before .match .keys7 in of-kind (heap-range (tables (a .tasks .now) (a .lines .now) (a .semaphores .now) (a .events .now) (a .mailboxes .now) (a .swis .now) (a .clocks .now) (a .heap .now) (a .state .now)) (a .x) (a .number) (a .a) (a .b) (a .c) (a .d) (from _ 6 n) (below _ 6 n)) (c .heap-call .ensures))
+    (λ c. let a = c .before .before .before .before .before .before .before .args in let n = c .before .before .before .before .before .before .match .keys8 in of-kind (switch-range (tables (a .tasks .now) (a .lines .now) (a .semaphores .now) (a .events .now) (a .mailboxes .now) (a .swis .now) (a .clocks .now) (a .heap .now) (a .state .now)) (a .x) (a .number) (a .a) (a .b) (a .c) (a .d) (from _ 7 n) (below _ 7 n)) (c .switch-call .ensures))
+    (λ c. let a = c .before .before .args in let n = c .before .match .rest in unknown-is _ _ (no-range (tables (a .tasks .now) (a .lines .now) (a .semaphores .now) (a .events .now) (a .mailboxes .now) (a .swis .now) (a .clocks .now) (a .heap .now) (a .state .now)) (a .x) (a .number) (a .a) (a .b) (a .c) (a .d) (beyond _ (n .0 .0 .0 .0 .0 .0 .0 .1) (n .0 .0 .0 .0 .0 .0 .1) (n .0 .0 .0 .0 .0 .1) (n .0 .0 .0 .0 .1) (n .0 .0 .0 .1) (n .0 .0 .1) (n .0 .1) (n .1))) (c .refused .ensures)))

@@ -1,0 +1,170 @@
+-- 01, 'The calls': a run for each kind of object in which cases a to l show little, and the order of the checks.
+use mathlib.Core.Path.{refl}
+use mathlib.Core.List.{List, [], _∷_}
+use Rattle.rules.specs.Tables.{forever}
+use Rattle.rules.specs.Fresh.{fresh}
+use Rattle.rules.proofs.Runs.{Line, _runs_, AllRun, _⇒_, asked, said, saw, T, S, I, createTask, deleteTask, setPriority, yield, end, sleep}
+use Rattle.rules.proofs.Runs.{lastResult, createSwi, deleteSwi, postSwi, endSwi, postedOf, createSemaphore, pend, createMailbox}
+use Rattle.rules.proofs.Runs.{deleteMailbox, postMailbox, pendMailbox, createClock, startClock, stopClock, ticksOf, swisOff, restoreSwis}
+use Rattle.rules.proofs.Runs.{tasksOff, restoreTasks, interruptIn, interruptOut, tick}
+use Rattle.rules.proofs.Faster.{faster, quickly, fresh-sound}
+
+-- "Tasks join queues at the back."; "03 yield"; "02 set priority: value the old one"; "05 sleep"; "04 end"; "01 delete: terminated only"
+abbrev pub tasks : List Line
+tasks =
+    createTask 5 ⇒ said 0 0 1 (T 1)
+    ∷ createTask 5 ⇒ said 0 0 2 (T 1)
+    ∷ yield ⇒ said 0 0 0 (T 2)
+    ∷ setPriority 1 6 ⇒ said 0 0 5 (T 1)
+    ∷ sleep 0 ⇒ said 0 0 0 (T 1)
+    ∷ sleep 1 ⇒ said 0 2 0 (T 2)
+    ∷ deleteTask 1 ⇒ said 5 0 0 (T 2)
+    ∷ end ⇒ said 0 0 0 (T 0)
+    ∷ end ⇒ said 5 0 0 (T 0)
+    ∷ deleteTask 2 ⇒ said 0 0 0 (T 0)
+    ∷ interruptIn ⇒ said 0 0 0 I
+    ∷ tick ⇒ said 0 0 0 I
+    ∷ lastResult 1 ⇒ said 0 0 0 I
+    ∷ interruptOut ⇒ said 0 0 0 (T 1)
+    ∷ []
+
+-- "value the oldest word"; "Limit 0 instead of a wait: outcome 1"; "41 delete: 5 with .. messages"
+abbrev pub messages : List Line
+messages =
+    createMailbox 2 ⇒ said 0 0 0 (T 0)
+    ∷ postMailbox 0 7 0 ⇒ said 0 0 0 (T 0)
+    ∷ postMailbox 0 8 0 ⇒ said 0 0 0 (T 0)
+    ∷ postMailbox 0 9 0 ⇒ said 0 1 0 (T 0)
+    ∷ deleteMailbox 0 ⇒ said 5 0 0 (T 0)
+    ∷ pendMailbox 0 0 ⇒ said 0 0 7 (T 0)
+    ∷ pendMailbox 0 0 ⇒ said 0 0 8 (T 0)
+    ∷ pendMailbox 0 0 ⇒ said 0 1 0 (T 0)
+    ∷ deleteMailbox 0 ⇒ said 0 0 0 (T 0)
+    ∷ []
+
+-- "else wait holding the word"; "the first waiting writer's word then joins the back and that writer is ready"; "to the first waiting reader"
+abbrev pub writers-and-readers : List Line
+writers-and-readers =
+    createMailbox 1 ⇒ said 0 0 0 (T 0)
+    ∷ postMailbox 0 7 0 ⇒ said 0 0 0 (T 0)
+    ∷ createTask 5 ⇒ said 0 0 1 (T 1)
+    ∷ postMailbox 0 8 forever ⇒ said 0 2 0 (T 0)
+    ∷ pendMailbox 0 0 ⇒ said 0 0 7 (T 1)
+    ∷ lastResult 1 ⇒ said 0 0 0 (T 1)
+    ∷ pendMailbox 0 0 ⇒ said 0 0 8 (T 1)
+    ∷ pendMailbox 0 forever ⇒ said 0 2 0 (T 0)
+    ∷ postMailbox 0 9 0 ⇒ said 0 0 0 (T 1)
+    ∷ lastResult 1 ⇒ said 0 0 9 (T 1)
+    ∷ []
+
+-- "50 create: .. stopped"; "start sets the first ticks again"; "at 0 the Swi is posted, and the clock has its period again or stops if that is 0"
+abbrev pub clocks : List Line
+clocks =
+    createSwi 3 0 ⇒ said 0 0 0 (T 0)
+    ∷ createClock 0 2 3 ⇒ said 0 0 0 (T 0)
+    ∷ createClock 0 1 0 ⇒ said 0 0 1 (T 0)
+    ∷ ticksOf 0 ⇒ saw 0
+    ∷ startClock 0 ⇒ said 0 0 0 (T 0)
+    ∷ ticksOf 0 ⇒ saw 2
+    ∷ deleteSwi 0 ⇒ said 5 0 0 (T 0)
+    ∷ interruptIn ⇒ said 0 0 0 I
+    ∷ tick ⇒ said 0 0 0 I
+    ∷ postedOf 0 ⇒ saw 0
+    ∷ tick ⇒ said 0 0 0 I
+    ∷ postedOf 0 ⇒ saw 1
+    ∷ ticksOf 0 ⇒ saw 3
+    ∷ stopClock 0 ⇒ said 0 0 0 I
+    ∷ ticksOf 0 ⇒ saw 0
+    ∷ startClock 1 ⇒ said 0 0 0 I
+    ∷ tick ⇒ said 0 0 0 I
+    ∷ ticksOf 1 ⇒ saw 0
+    ∷ interruptOut ⇒ said 0 0 0 (S 0)
+    ∷ []
+
+-- "off answers 1 if they were on, else 0; restore takes key 1 (on) or 0 (no change)"; Swis and tasks are held back until then
+abbrev pub switches : List Line
+switches =
+    createSwi 3 0 ⇒ said 0 0 0 (T 0)
+    ∷ swisOff ⇒ said 0 0 1 (T 0)
+    ∷ swisOff ⇒ said 0 0 0 (T 0)
+    ∷ tasksOff ⇒ said 0 0 1 (T 0)
+    ∷ postSwi 0 ⇒ said 0 0 0 (T 0)
+    ∷ createTask 5 ⇒ said 0 0 1 (T 0)
+    ∷ yield ⇒ said 9 0 0 (T 0)
+    ∷ restoreSwis 0 ⇒ said 0 0 0 (T 0)
+    ∷ restoreSwis 2 ⇒ said 4 0 0 (T 0)
+    ∷ restoreSwis 1 ⇒ said 0 0 0 (S 0)
+    ∷ endSwi ⇒ said 0 0 0 (T 0)
+    ∷ restoreTasks 1 ⇒ said 0 0 0 (T 1)
+    ∷ []
+
+-- "74 interrupt in, 7 at depth 8; 75 out"
+abbrev pub interrupts : List Line
+interrupts =
+    interruptOut ⇒ said 2 0 0 (T 0)
+    ∷ interruptIn ⇒ said 0 0 0 I
+    ∷ interruptIn ⇒ said 0 0 0 I
+    ∷ interruptIn ⇒ said 0 0 0 I
+    ∷ interruptIn ⇒ said 0 0 0 I
+    ∷ interruptIn ⇒ said 0 0 0 I
+    ∷ interruptIn ⇒ said 0 0 0 I
+    ∷ interruptIn ⇒ said 0 0 0 I
+    ∷ interruptIn ⇒ said 0 0 0 I
+    ∷ interruptIn ⇒ said 7 0 0 I
+    ∷ interruptOut ⇒ said 0 0 0 I
+    ∷ interruptIn ⇒ said 0 0 0 I
+    ∷ []
+
+-- "Checks run in the order of this table": 1 before 2, 2 before 3, 3 before 4, 4 before 5 and before 7, 5 before 9
+abbrev pub order : List Line
+order =
+    createSemaphore 0 0 ⇒ said 0 0 0 (T 0)
+    ∷ createSemaphore 0 65535 ⇒ said 0 0 1 (T 0)
+    ∷ asked 0x23 7 1 0 0 ⇒ said 3 0 0 (T 0)
+    ∷ asked 0x23 1 1 0 0 ⇒ said 4 0 0 (T 0)
+    ∷ setPriority 0 16 ⇒ said 4 0 0 (T 0)
+    ∷ tasksOff ⇒ said 0 0 1 (T 0)
+    ∷ pend 0 1 ⇒ said 5 0 0 (T 0)
+    ∷ yield ⇒ said 9 0 0 (T 0)
+    ∷ interruptIn ⇒ said 0 0 0 I
+    ∷ asked 0x77 1 0 0 0 ⇒ said 1 0 0 I
+    ∷ asked 0x80 0 0 0 0 ⇒ said 1 0 0 I
+    ∷ pend 7 1 ⇒ said 2 0 0 I
+    ∷ pend 7 0 ⇒ said 3 0 0 I
+    ∷ []
+
+pub record Calls : Type 0 where
+  pub of-tasks : fresh runs tasks
+  pub of-messages : fresh runs messages
+  pub of-writers-and-readers : fresh runs writers-and-readers
+  pub of-clocks : fresh runs clocks
+  pub of-switches : fresh runs switches
+  pub of-interrupts : fresh runs interrupts
+  pub of-order : fresh runs order
+
+abbrev all : List (List Line)
+all =
+    tasks
+    ∷ messages
+    ∷ writers-and-readers
+    ∷ clocks
+    ∷ switches
+    ∷ interrupts
+    ∷ order
+    ∷ []
+
+all-run : AllRun fresh all
+unfolding quickly
+all-run = faster fresh all fresh-sound refl
+
+pub calls : Calls
+calls =
+    record {
+      of-tasks = all-run .0;
+      of-messages = all-run .1 .0;
+      of-writers-and-readers = all-run .1 .1 .0;
+      of-clocks = all-run .1 .1 .1 .0;
+      of-switches = all-run .1 .1 .1 .1 .0;
+      of-interrupts = all-run .1 .1 .1 .1 .1 .0;
+      of-order = all-run .1 .1 .1 .1 .1 .1 .0;
+    }

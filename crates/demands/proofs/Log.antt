@@ -1,0 +1,181 @@
+-- Demand 2, "Log records are read by exactly its layout": what `readAt` answers at a position, by the bytes that stand there. Of any bytes and
+-- any position.
+use Prim.Native.Nat.{ℕ, suc, _+_, _-_, _*_, _<_, _≤_}
+use mathlib.Core.Path.{_≡_, refl, sym, ap, subst, _∙_}
+use mathlib.Core.Bool.{true, cond as if}
+use mathlib.Core.Logic.{_≢_, _⊎_, _↔_, inl, inr, ⊎-elim}
+use mathlib.Core.List.{List, _∷_, _++_}
+use native.Mathlib.Omega.{arith}
+use borrow.Author.Tests.{eq-eqb, ne-eqb, lt-ltb, le-ltb}
+use lib.Dec.{eqb, ltb}
+use lib.ListN.{length, take, drop, getD, take-append-drop, length-append, length-drop}
+use lib.Seq.{drop-cons, drop-drop, getD-drop, take-at, length-take-le}
+use Rattle.fold.proofs.Laws.{same?, lt-or-le}
+use Rattle.rules.specs.Log.{halfAt, readAt, argumentBytes, argument, moveTo}
+use Rattle.rules.specs.declared.Read.{Read}
+use Rattle.rules.specs.declared.Read.the-variants.{Record, End, Cut, Length, Version}
+
+-- the two bytes of the length are left, and they are 00 12
+abbrev pub LengthAt : List ℕ → ℕ → Type 0
+LengthAt s at = (at + 2 ≤ length s) × (getD s at 0 ≡ 0x00) × (getD s (at + 1) 0 ≡ 0x12)
+
+-- "A record is 20 bytes: length 00 12, big-endian, counting what follows; version 01; call number; four arguments of four big-endian bytes."
+pub record RecordAt (s : List ℕ) (at number : ℕ) (arguments : List ℕ) : Type 0 where
+  pub rest : List ℕ
+  pub bytes : drop at s ≡ 0x00 ∷ 0x12 ∷ 0x01 ∷ number ∷ (arguments ++ rest)
+  pub sixteen : length arguments ≡ 16
+
+-- "None left is the end, a position past the log `cut`". "Faults, first found first: exactly 1 byte left, `cut`; length not 18, `length`; fewer
+-- than 18 after it, `cut`; version not 1, `version`; each with the record's byte offset from 0."
+abbrev pub StandsAt : List ℕ → ℕ → Read → Type 0
+StandsAt s at (Record number start) = (start ≡ at + 4) × RecordAt s at number (argumentBytes s start)
+StandsAt s at End = length s ≡ at
+StandsAt s at (Cut n) = (n ≡ at) × ((length s < at) ⊎ (length s ≡ at + 1) ⊎ (LengthAt s at × (length s < at + 20)))
+StandsAt s at (Length n) = (n ≡ at) × (at + 2 ≤ length s) × (LengthAt s at → ⊥)
+StandsAt s at (Version n) = (n ≡ at) × (at + 20 ≤ length s) × LengthAt s at × (getD s (at + 2) 0 ≢ 0x01)
+
+module _ (s : List ℕ) (at : ℕ) where
+  -- ---- the record's bytes
+  byte : (l : List ℕ) → drop at s ≡ l → (k : ℕ) → getD s (at + k) 0 ≡ getD l k 0
+  byte l p k = sym (getD-drop at s k 0) ∙ ap (λ (x : List ℕ). getD x k 0) p
+
+  next : (i j : ℕ) → i < length s → suc i ≡ j → drop i s ≡ getD s i 0 ∷ drop j s
+  next i j h e = drop-cons s i 0 h ∙ ap (λ (k : ℕ). getD s i 0 ∷ drop k s) e
+
+  module _ (number : ℕ) (arguments : List ℕ) (r : RecordAt s at number arguments) where
+    whole : at + 20 ≤ length s
+    whole = omega (arith, length-drop at s, ap length (r .bytes), length-append arguments (r .rest), r .sixteen)
+
+    begins : getD s at 0 ≡ 0x00
+    begins = let e : at + 0 ≡ at = omega arith in rw e at (byte _ (r .bytes) 0)
+
+    -- its argument bytes are the sixteen behind the call number
+    pub arguments-are : argumentBytes s (at + 4) ≡ arguments
+    unfolding argumentBytes
+    arguments-are =
+        ap (take 16) (sym (drop-drop 4 at s) ∙ ap (drop 4) (r .bytes)) ∙ take-at arguments (r .rest) 16 (r .sixteen)
+
+  -- ---- the tests one after the other
+  past : length s < at → readAt s at ≡ Cut at
+  unfolding readAt
+  past h = rw (lt-ltb (length s) at h)
+
+  none : length s ≡ at → readAt s at ≡ End
+  unfolding readAt
+  none e = rw (le-ltb (length s) at (omega arith), eq-eqb (length s) at e)
+
+  one : length s ≡ at + 1 → readAt s at ≡ Cut at
+  unfolding readAt
+  one e =
+      rw (le-ltb (length s) at (omega arith), ne-eqb (length s) at (λ (q : length s ≡ at). omega arith), eq-eqb (length s - at) 1 (omega arith))
+
+  -- with two bytes or more: their number, how many follow, and the version
+  module _ (two : at + 2 ≤ length s) where
+    tested : readAt s at
+        ≡ if (eqb (halfAt s at) 18)
+        (if (ltb (length s - at) 20) (Cut at) (if (eqb (getD s (at + 2) 0) 1) (Record (getD s (at + 3) 0) (at + 4)) (Version at)))
+        (Length at)
+    unfolding readAt
+    tested =
+        rw (
+          le-ltb (length s) at (omega arith),
+          ne-eqb (length s) at (λ (q : length s ≡ at). omega arith),
+          ne-eqb (length s - at) 1 (λ (q : length s - at ≡ 1). omega arith),
+        )
+
+    wrong : (LengthAt s at → ⊥) → readAt s at ≡ Length at
+    wrong n = rw (tested, ne-eqb (halfAt s at) 18 (λ (e : halfAt s at ≡ 18). n (two, omega arith, omega arith)))
+
+  module _ (l : LengthAt s at) where
+    good : eqb (halfAt s at) 18 ≡ true
+    good = let (_, a, b) = l in eq-eqb (halfAt s at) 18 (omega arith)
+
+    short : length s < at + 20 → readAt s at ≡ Cut at
+    short h = rw (tested (l .0), good, lt-ltb (length s - at) 20 (omega (arith, l .0)))
+
+    module _ (h : at + 20 ≤ length s) where
+      strange : getD s (at + 2) 0 ≢ 0x01 → readAt s at ≡ Version at
+      strange n = rw (tested (l .0), good, le-ltb (length s - at) 20 (omega arith), ne-eqb (getD s (at + 2) 0) 1 n)
+
+      read : getD s (at + 2) 0 ≡ 0x01 → readAt s at ≡ Record (getD s (at + 3) 0) (at + 4)
+      read e = rw (tested (l .0), good, le-ltb (length s - at) 20 (omega arith), eq-eqb (getD s (at + 2) 0) 1 e)
+
+      record-there : getD s (at + 2) 0 ≡ 0x01 → RecordAt s at (getD s (at + 3) 0) (argumentBytes s (at + 4))
+      unfolding argumentBytes
+      record-there e =
+          record {
+            rest = drop 16 (drop (at + 4) s);
+            bytes =
+                rw (
+                  next at (at + 1) (omega arith) (omega arith),
+                  next (at + 1) (at + 2) (omega arith) (omega arith),
+                  next (at + 2) (at + 3) (omega arith) (omega arith),
+                  next (at + 3) (at + 4) (omega arith) (omega arith),
+                  l .1,
+                  l .2,
+                  e,
+                  take-append-drop 16 (drop (at + 4) s),
+                );
+            sixteen = length-take-le 16 (drop (at + 4) s) (omega (arith, length-drop (at + 4) s));
+          }
+
+  -- ---- what is answered stands there, and what stands there is answered
+  stands : StandsAt s at (readAt s at)
+  stands =
+      ⊎-elim
+      (λ (h : length s < at). rw (past h) (refl, inl h))
+      (λ (g : at ≤ length s).
+      ⊎-elim
+      (λ (e : length s ≡ at). rw (none e) e)
+      (λ (n : length s ≢ at).
+      ⊎-elim
+      (λ (e : length s ≡ at + 1). rw (one e) (refl, inr (inl e)))
+      (λ (m : length s ≢ at + 1).
+      let two : at + 2 ≤ length s = omega arith in
+      ⊎-elim
+      (λ (e : halfAt s at ≡ 18).
+      let l : LengthAt s at = (two, omega arith, omega arith) in
+      ⊎-elim
+      (λ (h : length s < at + 20). rw (short l h) (refl, inr (inr (l, h))))
+      (λ (h : at + 20 ≤ length s).
+      ⊎-elim
+      (λ (v : getD s (at + 2) 0 ≡ 1). rw (read l h v) (refl, record-there l h v))
+      (λ (v : getD s (at + 2) 0 ≢ 1). rw (strange l h v) (refl, h, l, v))
+      (same? (getD s (at + 2) 0) 1))
+      (lt-or-le (length s) (at + 20)))
+      (λ (e : halfAt s at ≢ 18).
+      let differs : LengthAt s at → ⊥ = λ l. let (_, a, b) = l in e (omega arith) in
+      rw (wrong two differs) (refl, two, differs))
+      (same? (halfAt s at) 18))
+      (same? (length s) (at + 1)))
+      (same? (length s) at))
+      (lt-or-le (length s) at)
+
+  only : (r : Read) → StandsAt s at r → readAt s at ≡ r
+  only (Record number start) (e, r) =
+      let h = whole number (argumentBytes s start) r in
+      let at-byte = byte _ (r .bytes) in
+      read (omega arith, begins number (argumentBytes s start) r, at-byte 1) h (at-byte 2)
+      ∙ ap (λ (n : ℕ). Record n (at + 4)) (at-byte 3)
+      ∙ ap (Record number) (sym e)
+  only End e = none e
+  only (Cut n) (e, inl h) = rw e (past h)
+  only (Cut n) (e, inr (inl h)) = rw e (one h)
+  only (Cut n) (e, inr (inr (l, h))) = rw e (short l h)
+  only (Length n) (e, two, differs) = rw e (wrong two differs)
+  only (Version n) (e, h, l, v) = rw e (strange l h v)
+
+-- ---- the layout: an answer is given exactly where it stands
+pub log-layout : (s : List ℕ) (at : ℕ) (r : Read) → (readAt s at ≡ r) ↔ StandsAt s at r
+log-layout s at r = (λ e. subst (λ (x : Read). StandsAt s at x) e (stands s at), only s at r)
+
+-- a record's four arguments, "of four big-endian bytes"
+pub argument-is : (bytes : List ℕ) (n : ℕ)
+    → argument bytes n
+    ≡ getD bytes (n * 4) 0 * 16777216 + getD bytes (n * 4 + 1) 0 * 65536 + getD bytes (n * 4 + 2) 0 * 256 + getD bytes (n * 4 + 3) 0
+argument-is bytes n = let e : n * 4 + 2 + 1 ≡ n * 4 + 3 = omega arith in rw e (omega arith)
+
+-- "only a good record moves it": by its twenty bytes
+pub record-moves : (s : List ℕ) (at number start : ℕ) → readAt s at ≡ Record number start → moveTo (readAt s at) at ≡ at + 20
+unfolding moveTo
+record-moves s at number start e = let (d, _) = log-layout s at (Record number start) .0 e in rw e (omega arith)

@@ -1,0 +1,190 @@
+// One call by both entries: by value, and in place on lent tables.
+use super::same::same_answer;
+use super::same::same_tables;
+use super::same::same_thread;
+use kernel::calls::Said;
+use kernel::entries;
+use rules::Clocks;
+use rules::Events;
+use rules::Heap;
+use rules::Lines;
+use rules::Mailboxes;
+use rules::Semaphores;
+use rules::State;
+use rules::Step;
+use rules::Swis;
+use rules::Tables;
+use rules::Tasks;
+use rules::Thread;
+ghost use mathlib.Core.Path.{_≡_};
+ghost use Rattle.rules.specs.Step.{call};
+
+// A call's number and its arguments.
+pub struct Call {
+    pub number: u32,
+    pub a: u32,
+    pub b: u32,
+    pub c: u32,
+    pub d: u32,
+}
+
+// What the call by value left, and whether the call in place says the same in everything.
+pub struct Tried {
+    pub step: Step,
+    pub agrees: bool,
+}
+
+// The answers are the same, and so are the threads: the two that the calls gave, and the two that run in what they left.
+fn same_said(step: Step, said: Said, running: Thread) -> bool {
+    let thread = step.thread;
+    let in_place = said.thread;
+    same_answer(step.answer, said.answer)
+        & same_thread(thread, in_place)
+        & same_thread(thread, running)
+        & same_thread(thread, entries::thread_of(step.tables))
+}
+
+// The call in place said the same as the call by value, and left the same tables.
+fn agrees(
+    step: Step,
+    said: Said,
+    tasks: &Tasks,
+    lines: &Lines,
+    semaphores: &Semaphores,
+    events: &Events,
+    mailboxes: &Mailboxes,
+    swis: &Swis,
+    clocks: &Clocks,
+    heap: &Heap,
+    state: &State,
+) -> bool {
+    let running = entries::thread(
+        tasks,
+        lines,
+        semaphores,
+        events,
+        mailboxes,
+        swis,
+        clocks,
+        heap,
+        state,
+    );
+    same_said(step, said, running)
+        & same_tables(
+            step.tables,
+            tasks,
+            lines,
+            semaphores,
+            events,
+            mailboxes,
+            swis,
+            clocks,
+            heap,
+            state,
+        )
+}
+
+// The call in place.
+fn call_in_place(
+    tasks: &mut Tasks,
+    lines: &mut Lines,
+    semaphores: &mut Semaphores,
+    events: &mut Events,
+    mailboxes: &mut Mailboxes,
+    swis: &mut Swis,
+    clocks: &mut Clocks,
+    heap: &mut Heap,
+    state: &mut State,
+    k: Call,
+) -> Said {
+    entries::call_in_place(
+        tasks,
+        lines,
+        semaphores,
+        events,
+        mailboxes,
+        swis,
+        clocks,
+        heap,
+        state,
+        k.number,
+        k.a,
+        k.b,
+        k.c,
+        k.d,
+    )
+}
+
+// Makes the call in place, of which `step` is the call by value, and compares.
+fn agrees_in_place(
+    step: Step,
+    tasks: &mut Tasks,
+    lines: &mut Lines,
+    semaphores: &mut Semaphores,
+    events: &mut Events,
+    mailboxes: &mut Mailboxes,
+    swis: &mut Swis,
+    clocks: &mut Clocks,
+    heap: &mut Heap,
+    state: &mut State,
+    k: Call,
+) -> bool {
+    let said = call_in_place(
+        tasks,
+        lines,
+        semaphores,
+        events,
+        mailboxes,
+        swis,
+        clocks,
+        heap,
+        state,
+        k,
+    );
+    agrees(
+        step,
+        said,
+        tasks,
+        lines,
+        semaphores,
+        events,
+        mailboxes,
+        swis,
+        clocks,
+        heap,
+        state,
+    )
+}
+
+// One call by both entries: the lent tables and `t` are the same before.
+pub fn try_call(
+    t: Tables,
+    tasks: &mut Tasks,
+    lines: &mut Lines,
+    semaphores: &mut Semaphores,
+    events: &mut Events,
+    mailboxes: &mut Mailboxes,
+    swis: &mut Swis,
+    clocks: &mut Clocks,
+    heap: &mut Heap,
+    state: &mut State,
+    k: Call,
+) -> Tried
+    ensures { λ r. ⌜ r .step ≡ call t (k .number) (k .a) (k .b) (k .c) (k .d) ⌝ }
+{
+    let step = entries::call(t, k.number, k.a, k.b, k.c, k.d);
+    let agrees = agrees_in_place(
+        step,
+        tasks,
+        lines,
+        semaphores,
+        events,
+        mailboxes,
+        swis,
+        clocks,
+        heap,
+        state,
+        k,
+    );
+    Tried { step, agrees }
+}
