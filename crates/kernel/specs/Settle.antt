@@ -18,7 +18,9 @@ tasksOnly some = record { swis = false; tasks = some }
 abbrev pub bothParts : Parts
 bothParts = record { swis = true; tasks = true }
 
--- calls of tasks, semaphores, events and mailboxes move no Swi; calls of clocks and of the heap move nobody
+-- Calls of tasks, semaphores, events and mailboxes move no Swi. Of tasks, a delete (01) and a last result (06) move nobody; at semaphores and events
+-- only a wait that begins and a post that wakes somebody move a task; at mailboxes a create, a delete and what is not met move nobody. Calls of
+-- clocks and of the heap move nobody; calls of Swis and of switches may leave anything to do.
 unfoldable pub leftBy : ℕ → ℕ → ℕ → Parts
 leftBy number o v =
     if (inRange number 0x00) (tasksOnly (not (eqb number 0x01) && not (eqb number 0x06)))
