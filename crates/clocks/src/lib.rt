@@ -16,7 +16,7 @@ ghost use Prim.Native.Nat.{_≤_};
 ghost use Rattle.rules.specs.Answer.{after, answered, called, codeOf};
 ghost use Rattle.rules.specs.Clocks.{freeClock, withLeft, clockCall};
 ghost use Rattle.rules.specs.Clocks.{createCases, createEffect, deleteCases, deleteEffect};
-ghost use Rattle.rules.specs.Clocks.{startCases, startEffect, stopEffect};
+ghost use Rattle.rules.specs.Clocks.{startStopCases, startEffect, stopEffect};
 ghost use Rattle.rules.specs.Tick.{aged};
 
 // The lowest free number; 16 where there is none.
@@ -141,8 +141,8 @@ pub fn delete(clocks: &mut Clocks, x: u32, a: u32, b: u32, c: u32, d: u32) -> An
 
 // ---- 52 start, 53 stop
 
-pub fn start_code(clocks: &Clocks, a: u32, b: u32, c: u32, d: u32) -> u32
-    ensures { λ r. ⌜ r ≡ codeOf (startCases (now (clocks .entry)) a b c d) ⌝ }
+pub fn start_stop_code(clocks: &Clocks, a: u32, b: u32, c: u32, d: u32) -> u32
+    ensures { λ r. ⌜ r ≡ codeOf (startStopCases (now (clocks .entry)) a b c d) ⌝ }
 {
     let k = clock(clocks, a as usize);
     if k.used == 0 {
@@ -166,10 +166,10 @@ pub fn start_effect(clocks: &mut Clocks, a: u32) -> Answer
 
 pub fn start(clocks: &mut Clocks, a: u32, b: u32, c: u32, d: u32) -> Answer
     ensures { λ r. ⌜ after r (now (clocks .exit)) ≡ answered (now (clocks .entry))
-        (called (startCases (now (clocks .entry)) a b c d)
+        (called (startStopCases (now (clocks .entry)) a b c d)
         (startEffect (now (clocks .entry)) a)) ⌝ }
 {
-    let code = start_code(clocks, a, b, c, d);
+    let code = start_stop_code(clocks, a, b, c, d);
     if code != 0 {
         return refused(code);
     }
@@ -188,10 +188,10 @@ pub fn stop_effect(clocks: &mut Clocks, a: u32) -> Answer
 
 pub fn stop(clocks: &mut Clocks, a: u32, b: u32, c: u32, d: u32) -> Answer
     ensures { λ r. ⌜ after r (now (clocks .exit)) ≡ answered (now (clocks .entry))
-        (called (startCases (now (clocks .entry)) a b c d)
+        (called (startStopCases (now (clocks .entry)) a b c d)
         (stopEffect (now (clocks .entry)) a)) ⌝ }
 {
-    let code = start_code(clocks, a, b, c, d);
+    let code = start_stop_code(clocks, a, b, c, d);
     if code != 0 {
         return refused(code);
     }

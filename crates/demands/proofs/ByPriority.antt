@@ -17,7 +17,7 @@ use Rattle.rules.specs.declared.Tables.{Tables}
 use Rattle.rules.proofs.Runs.{Line, _⇒_, said, says, calls, T, createTask, createSemaphore, post}
 use Rattle.rules.proofs.Runs as Runs
 use Rattle.rules.proofs.Faster.{quickly}
-use Rattle.rules.proofs.Busy.{linesWith, _has_}
+use Rattle.rules.proofs.Standing.{linesWith, _has_}
 use Rattle.runs.specs.Run.{Asked, made, next, after}
 use Rattle.runs.specs.Turn.{BlockedOn, isPost}
 use Rattle.demands.proofs.Two.{fresh-typed, fresh-is-sound}

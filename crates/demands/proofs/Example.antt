@@ -17,7 +17,7 @@ use Rattle.rules.specs.declared.Tables.{Tables}
 use Rattle.rules.specs.declared.Thread.the-variants.{Task}
 use Rattle.rules.proofs.Runs.{says, calls}
 use Rattle.rules.proofs.Faster.{quickly}
-use Rattle.rules.proofs.Busy.{linesWith}
+use Rattle.rules.proofs.Standing.{linesWith}
 use Rattle.runs.specs.Run.{asked, made, next, after, Each}
 use Rattle.runs.specs.Turn.{BlockedOn, ServedIn, ReadyAt, queue, Undisturbed, Gone, Unhindered}
 use Rattle.demands.proofs.Three.{pend, Turn, Queues, demand-3}

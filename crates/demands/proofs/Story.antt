@@ -11,7 +11,7 @@ use Rattle.rules.specs.declared.Tables.{Tables}
 use Rattle.rules.proofs.Runs.{Line, _⇒_, asked, said, calls, T, I, createTask, setPriority, yield, end, lastResult, createSemaphore, deleteSemaphore}
 use Rattle.rules.proofs.Runs.{pend, post, tasksOff, restoreTasks, interruptIn, interruptOut, tick}
 use Rattle.rules.proofs.Faster.{quickly}
-use Rattle.rules.proofs.Busy.{linesWith, _has_}
+use Rattle.rules.proofs.Standing.{linesWith, _has_}
 use Rattle.runs.specs.Run.{Asked}
 use Rattle.demands.proofs.Two.{fresh-typed, fresh-is-sound}
 use Rattle.demands.proofs.BySteps.{asks, pass, inWords, Leads, leads, anything, blocked, undisturbed}

@@ -23,11 +23,11 @@ use Rattle.rules.proofs.Read as R
 use Rattle.text.specs.Put.{Put}
 use Rattle.text.proofs.Puts.{fits, put-none, put-more}
 use Rattle.calllog.proofs.Records.{record-fits}
-use Rattle.desk.specs.Part.{kept, Left, textBefore, lineBefore, waiting, lastText, over, partFor, readable, partOf}
+use Rattle.parts.specs.Part.{kept, Left, textBefore, lineBefore, waiting, lastText, over, partFor, readable, partOf}
 use Rattle.desk.specs.declared.Ran.{Ran}
 use Rattle.desk.specs.Done.{Lined, Gone, Turned}
-use Rattle.desk.proofs.Steps.{partAt, part-whole, part-step}
-use Rattle.desk.proofs.Bounds.{part-bounded}
+use Rattle.parts.proofs.Steps.{partAt, part-whole, part-step}
+use Rattle.parts.proofs.Bounds.{part-bounded}
 
 -- ---- one record
 pub call-is : (t : Tables) (number : ℕ) (bytes : List ℕ) {a b c d : ℕ} {s : Step} → s ≡ call t number a b c d

@@ -1,5 +1,2 @@
-pub mod Steps
-pub mod Whole
-pub mod Bounds
 pub mod Going
 pub mod Moved

@@ -8,7 +8,7 @@ use Rattle.rules.specs.Text.{lineText, lineFeed}
 use Rattle.rules.specs.declared.Step.{Step}
 use Rattle.rules.specs.declared.Tables.{Tables}
 use Rattle.text.specs.Put.{Put}
-use Rattle.desk.specs.Part.{kept, Left}
+use Rattle.parts.specs.Part.{kept, Left}
 use Rattle.desk.specs.declared.Ran.{Ran}
 use Rattle.desk.specs.declared.Progress.{Progress}
 

@@ -2,7 +2,7 @@
 use rules::Read;
 use text::Text;
 ghost use Rattle.text.specs.Put.{Put};
-ghost use Rattle.desk.specs.Part.{lastText};
+ghost use Rattle.parts.specs.Part.{lastText};
 
 // The last line, where something else than a record was found.
 pub fn put_last(out: &mut Text, at: usize, found: Read, offset: u64, n: u64) -> usize

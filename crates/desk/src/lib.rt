@@ -22,7 +22,7 @@ ghost use Rattle.rules.specs.Log.{argumentBytes};
 ghost use Rattle.rules.specs.Tables.{tables};
 ghost use Rattle.rules.specs.Step.{stepOf};
 ghost use Rattle.rules.specs.Replay.{recordCall};
-ghost use Rattle.desk.specs.Part.{partOf};
+ghost use Rattle.parts.specs.Part.{partOf};
 ghost use Rattle.kernel.specs.Known.{Known};
 ghost use Rattle.desk.specs.Done.{Lined, Gone, Turned};
 
@@ -44,29 +44,11 @@ fn record_call(
     number: u8,
     bytes: &[u8],
 ) -> Said
-    requires { ⌜ Known known (tables
-        (now tasks) (now lines) (now semaphores)
-        (now events) (now mailboxes) (now swis)
-        (now clocks) (now heap) (now state)) ⌝ }
-    ensures { λ r. ⌜ stepOf (tables
-        (now (tasks .exit)) (now (lines .exit)) (now (semaphores .exit))
-        (now (events .exit)) (now (mailboxes .exit)) (now (swis .exit))
-        (now (clocks .exit)) (now (heap .exit)) (now (state .exit)))
-        (r .answer) (r .thread)
-        ≡ recordCall (tables
-        (now (tasks .entry)) (now (lines .entry)) (now (semaphores .entry))
-        (now (events .entry)) (now (mailboxes .entry)) (now (swis .entry))
-        (now (clocks .entry)) (now (heap .entry)) (now (state .entry)))
-        number (now (bytes .entry)) ⌝ }
-    ensures { λ _. ⌜ Known known (tables
-        (now (tasks .exit)) (now (lines .exit)) (now (semaphores .exit))
-        (now (events .exit)) (now (mailboxes .exit)) (now (swis .exit))
-        (now (clocks .exit)) (now (heap .exit)) (now (state .exit))) ⌝ }
+    requires { ⌜ Known known (tables (now tasks) (now lines) (now semaphores) (now events) (now mailboxes) (now swis) (now clocks) (now heap) (now state)) ⌝ }
+    ensures { λ r. ⌜ stepOf (tables (now (tasks .exit)) (now (lines .exit)) (now (semaphores .exit)) (now (events .exit)) (now (mailboxes .exit)) (now (swis .exit)) (now (clocks .exit)) (now (heap .exit)) (now (state .exit))) (r .answer) (r .thread)
+        ≡ recordCall (tables (now (tasks .entry)) (now (lines .entry)) (now (semaphores .entry)) (now (events .entry)) (now (mailboxes .entry)) (now (swis .entry)) (now (clocks .entry)) (now (heap .entry)) (now (state .entry))) number (now (bytes .entry)) ⌝ }
+    ensures { λ _. ⌜ Known known (tables (now (tasks .exit)) (now (lines .exit)) (now (semaphores .exit)) (now (events .exit)) (now (mailboxes .exit)) (now (swis .exit)) (now (clocks .exit)) (now (heap .exit)) (now (state .exit))) ⌝ }
 {
-    let a = calllog::argument(bytes, 0);
-    let b = calllog::argument(bytes, 1);
-    let c = calllog::argument(bytes, 2);
-    let d = calllog::argument(bytes, 3);
     kernel::known::known_call(
         known,
         tasks,
@@ -79,10 +61,10 @@ fn record_call(
         heap,
         state,
         number as u32,
-        a,
-        b,
-        c,
-        d,
+        calllog::argument(bytes, 0),
+        calllog::argument(bytes, 1),
+        calllog::argument(bytes, 2),
+        calllog::argument(bytes, 3),
     )
 }
 
@@ -105,23 +87,9 @@ fn record_line(
     out: &mut Text,
     at: usize,
 ) -> usize
-    requires { ⌜ Known known (tables
-        (now tasks) (now lines) (now semaphores)
-        (now events) (now mailboxes) (now swis)
-        (now clocks) (now heap) (now state)) ⌝ }
-    ensures { λ r. ⌜ Lined (recordCall (tables
-        (now (tasks .entry)) (now (lines .entry)) (now (semaphores .entry))
-        (now (events .entry)) (now (mailboxes .entry)) (now (swis .entry))
-        (now (clocks .entry)) (now (heap .entry)) (now (state .entry)))
-        number (argumentBytes (now (log .entry)) (place + 4))) n (tables
-        (now (tasks .exit)) (now (lines .exit)) (now (semaphores .exit))
-        (now (events .exit)) (now (mailboxes .exit)) (now (swis .exit))
-        (now (clocks .exit)) (now (heap .exit)) (now (state .exit)))
-        (now (out .entry)) at (now (out .exit)) r ⌝ }
-    ensures { λ _. ⌜ Known known (tables
-        (now (tasks .exit)) (now (lines .exit)) (now (semaphores .exit))
-        (now (events .exit)) (now (mailboxes .exit)) (now (swis .exit))
-        (now (clocks .exit)) (now (heap .exit)) (now (state .exit))) ⌝ }
+    requires { ⌜ Known known (tables (now tasks) (now lines) (now semaphores) (now events) (now mailboxes) (now swis) (now clocks) (now heap) (now state)) ⌝ }
+    ensures { λ r. ⌜ Lined (recordCall (tables (now (tasks .entry)) (now (lines .entry)) (now (semaphores .entry)) (now (events .entry)) (now (mailboxes .entry)) (now (swis .entry)) (now (clocks .entry)) (now (heap .entry)) (now (state .entry))) number (argumentBytes (now (log .entry)) (place + 4))) n (tables (now (tasks .exit)) (now (lines .exit)) (now (semaphores .exit)) (now (events .exit)) (now (mailboxes .exit)) (now (swis .exit)) (now (clocks .exit)) (now (heap .exit)) (now (state .exit))) (now (out .entry)) at (now (out .exit)) r ⌝ }
+    ensures { λ _. ⌜ Known known (tables (now (tasks .exit)) (now (lines .exit)) (now (semaphores .exit)) (now (events .exit)) (now (mailboxes .exit)) (now (swis .exit)) (now (clocks .exit)) (now (heap .exit)) (now (state .exit))) ⌝ }
 {
     let bytes = calllog::reader::read_arguments(log, place);
     let said = record_call(
@@ -169,19 +137,8 @@ fn known_records(
     count: u64,
     out: &mut Text,
 ) -> Ran
-    requires { ⌜ Known known (tables
-        (now tasks) (now lines) (now semaphores)
-        (now events) (now mailboxes) (now swis)
-        (now clocks) (now heap) (now state)) ⌝ }
-    ensures { λ r. ⌜ Gone (partOf last (now (log .entry)) offset count (tables
-        (now (tasks .entry)) (now (lines .entry)) (now (semaphores .entry))
-        (now (events .entry)) (now (mailboxes .entry)) (now (swis .entry))
-        (now (clocks .entry)) (now (heap .entry)) (now (state .entry))))
-        (now (log .entry)) offset (tables
-        (now (tasks .exit)) (now (lines .exit)) (now (semaphores .exit))
-        (now (events .exit)) (now (mailboxes .exit)) (now (swis .exit))
-        (now (clocks .exit)) (now (heap .exit)) (now (state .exit)))
-        (now (out .entry)) (now (out .exit)) r ⌝ }
+    requires { ⌜ Known known (tables (now tasks) (now lines) (now semaphores) (now events) (now mailboxes) (now swis) (now clocks) (now heap) (now state)) ⌝ }
+    ensures { λ r. ⌜ Gone (partOf last (now (log .entry)) offset count (tables (now (tasks .entry)) (now (lines .entry)) (now (semaphores .entry)) (now (events .entry)) (now (mailboxes .entry)) (now (swis .entry)) (now (clocks .entry)) (now (heap .entry)) (now (state .entry)))) (now (log .entry)) offset (tables (now (tasks .exit)) (now (lines .exit)) (now (semaphores .exit)) (now (events .exit)) (now (mailboxes .exit)) (now (swis .exit)) (now (clocks .exit)) (now (heap .exit)) (now (state .exit))) (now (out .entry)) (now (out .exit)) r ⌝ }
 {
     let mut at = 0;
     let mut n = count;
@@ -244,15 +201,7 @@ pub fn records(
     count: u64,
     out: &mut Text,
 ) -> Ran
-    ensures { λ r. ⌜ Gone (partOf last (now (log .entry)) offset count (tables
-        (now (tasks .entry)) (now (lines .entry)) (now (semaphores .entry))
-        (now (events .entry)) (now (mailboxes .entry)) (now (swis .entry))
-        (now (clocks .entry)) (now (heap .entry)) (now (state .entry))))
-        (now (log .entry)) offset (tables
-        (now (tasks .exit)) (now (lines .exit)) (now (semaphores .exit))
-        (now (events .exit)) (now (mailboxes .exit)) (now (swis .exit))
-        (now (clocks .exit)) (now (heap .exit)) (now (state .exit)))
-        (now (out .entry)) (now (out .exit)) r ⌝ }
+    ensures { λ r. ⌜ Gone (partOf last (now (log .entry)) offset count (tables (now (tasks .entry)) (now (lines .entry)) (now (semaphores .entry)) (now (events .entry)) (now (mailboxes .entry)) (now (swis .entry)) (now (clocks .entry)) (now (heap .entry)) (now (state .entry)))) (now (log .entry)) offset (tables (now (tasks .exit)) (now (lines .exit)) (now (semaphores .exit)) (now (events .exit)) (now (mailboxes .exit)) (now (swis .exit)) (now (clocks .exit)) (now (heap .exit)) (now (state .exit))) (now (out .entry)) (now (out .exit)) r ⌝ }
 {
     let known = kernel::known::tested(
         tasks,
@@ -282,16 +231,6 @@ pub fn records(
         count,
         out,
     )
-}
-
-// The first n bytes; all where there are fewer.
-fn front<'a>(bytes: &'a [u8], n: usize) -> &'a [u8]
-    ensures { λ r. ⌜ now r ≡ take n (now (bytes .entry)) ⌝ }
-{
-    if n < bytes.len() {
-        return &bytes[..n];
-    }
-    bytes
 }
 
 // Of the first n bytes, those from `at` on to the front; how many they are.
@@ -338,18 +277,10 @@ pub fn replay_part(
     count: u64,
     out: &mut Text,
 ) -> Progress
-    ensures { λ r. ⌜ Turned (partOf last (take n (now (part .entry))) offset count (tables
-        (now (tasks .entry)) (now (lines .entry)) (now (semaphores .entry))
-        (now (events .entry)) (now (mailboxes .entry)) (now (swis .entry))
-        (now (clocks .entry)) (now (heap .entry)) (now (state .entry))))
-        (tables
-        (now (tasks .exit)) (now (lines .exit)) (now (semaphores .exit))
-        (now (events .exit)) (now (mailboxes .exit)) (now (swis .exit))
-        (now (clocks .exit)) (now (heap .exit)) (now (state .exit)))
-        (now (part .entry)) (now (part .exit)) (now (out .entry)) (now (out .exit)) r ⌝ }
+    ensures { λ r. ⌜ Turned (partOf last (take n (now (part .entry))) offset count (tables (now (tasks .entry)) (now (lines .entry)) (now (semaphores .entry)) (now (events .entry)) (now (mailboxes .entry)) (now (swis .entry)) (now (clocks .entry)) (now (heap .entry)) (now (state .entry)))) (tables (now (tasks .exit)) (now (lines .exit)) (now (semaphores .exit)) (now (events .exit)) (now (mailboxes .exit)) (now (swis .exit)) (now (clocks .exit)) (now (heap .exit)) (now (state .exit))) (now (part .entry)) (now (part .exit)) (now (out .entry)) (now (out .exit)) r ⌝ }
     ensures { λ r. ⌜ (r .held < 20) × (r .len ≤ 16384) ⌝ }
 {
-    let log = front(part, n);
+    let log = text::front(part, n);
     let ran = records(
         tasks,
         lines,

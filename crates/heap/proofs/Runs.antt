@@ -8,12 +8,13 @@ use native.Mathlib.Omega.{arith}
 use borrow.Author.Tests.{not-true, not-false, lt-ltb, le-ltb, le-leb, lt-leb, eq-eqb, ne-eqb}
 use lib.Dec.{eqb, leb}
 use lib.ListN.{getD}
-use Rattle.fold.specs.Find.{allBelow, firstBelow, firstFrom}
+use Rattle.fold.specs.Find.{allBelow, firstBelow, firstFrom, highestBelow}
 use Rattle.fold.proofs.Laws.{lt-or-le}
 use Rattle.fold.proofs.Finds.{all-none, all-step, all-end, all-at, all-make, all-no}
 use Rattle.fold.proofs.Finds.{Passed, first-starts, first-goes, first-here, first-none, IsFirst, first-is, first-below-is}
+use Rattle.fold.proofs.Finds.{high-goes, high-here, high-is, high-one, IsHighest}
 use Rattle.rules.specs.Heap.{unit, isRun, lowestRun}
-use Rattle.heap.specs.Free.{isFree, noneFree, firstFree, adjacent}
+use Rattle.heap.specs.Free.{isFree, noneFree, firstFree, freeFrom, adjacent}
 
 pub unit-in : (h : List ℕ) (u : ℕ) → u < 256 → unit h u ≡ getD h u 0
 unit-in h u l = rw (lt-ltb u 256 l)
@@ -92,6 +93,67 @@ module _ (h : List ℕ) (u : ℕ) where
   unfolding firstFree firstFrom
   free-end l = let q : 256 - u ≡ 0 = omega arith in rw q
 
+-- four in a turn: those that are not free are passed one after the other
+module _ (h : List ℕ) (u : ℕ) (l : u < 253) where
+  past : (k : ℕ) → k ≤ 3 → getD h (u + k) 0 ≢ 0 → firstFree h (u + k) ≡ firstFree h u → firstFree h (u + suc k) ≡ firstFree h u
+  past k m e p = let q : u + k + 1 ≡ u + suc k = omega arith in (rw q at (free-on h (u + k) (omega arith) e)) ∙ p
+
+  module _ (e0 : getD h u 0 ≢ 0) where
+    pub past-1 : firstFree h (u + 1) ≡ firstFree h u
+    past-1 = free-on h u (omega arith) e0
+
+    module _ (e1 : getD h (u + 1) 0 ≢ 0) where
+      pub past-2 : firstFree h (u + 2) ≡ firstFree h u
+      past-2 = past 1 (omega arith) e1 past-1
+
+      module _ (e2 : getD h (u + 2) 0 ≢ 0) where
+        pub past-3 : firstFree h (u + 3) ≡ firstFree h u
+        past-3 = past 2 (omega arith) e2 past-2
+
+        pub past-4 : getD h (u + 3) 0 ≢ 0 → firstFree h (u + 4) ≡ firstFree h u
+        past-4 e3 = past 3 (omega arith) e3 past-3
+
+-- ---- the place from which on all before e are free
+abbrev notFree : List ℕ → ℕ → Bool
+notFree h j = not (isFree h j)
+
+-- of the units before e those from p on are free: the search has those before p left
+pub record FreeTo (h : List ℕ) (e p : ℕ) : Type 0 where
+  pub within : p ≤ 256
+  pub passed : highestBelow p (notFree h) ≡ highestBelow e (notFree h)
+
+module _ (h : List ℕ) (e : ℕ) where
+  -- units past the heap count as free, so the search starts at its end
+  pub from-start : {p : ℕ} → p ≡ min e 256 → FreeTo h e p
+  from-start {p} q =
+      let low = high-is p (notFree h) in
+      let after : (j : ℕ) → highestBelow p (notFree h) ≤ j → j < e → notFree h j ≡ false = λ j a b.
+      ⊎-elim (λ (c : j < p). low .after j a c) (λ (c : p ≤ j). ap not (free-past h j (omega arith))) (lt-or-le j p) in
+      let all : IsHighest e (notFree h) (highestBelow p (notFree h)) = record { high = omega (arith, low .high); has = low .has; after = after } in
+      record { within = omega arith; passed = high-one e (notFree h) _ _ all (high-is e (notFree h)) }
+
+  module _ (u p : ℕ) (s : FreeTo h e p) where
+    pub from-none : p ≤ u → u ≡ freeFrom h u e
+    unfolding freeFrom
+    from-none l = omega (arith, s .passed, high-is p (notFree h) .high)
+
+    module _ (l : u < p) where
+      in-place : isFree h (p - 1) ≡ eqb (getD h (p - 1) 0) 0
+      in-place = free-in h (p - 1) (omega (arith, s .within))
+
+      pub from-here : getD h (p - 1) 0 ≢ 0 → p ≡ freeFrom h u e
+      unfolding freeFrom
+      from-here d =
+          let q = high-here (notFree h) p (highestBelow e (notFree h)) (omega arith) (ap not (in-place ∙ ne-eqb _ 0 d)) (s .passed) in
+          omega (arith, q)
+
+      pub from-on : getD h (p - 1) 0 ≡ 0 → FreeTo h e (p - 1)
+      from-on d =
+          record {
+            within = omega (arith, s .within);
+            passed = high-goes (notFree h) p (highestBelow e (notFree h)) (omega arith) (ap not (in-place ∙ eq-eqb _ 0 d)) (s .passed);
+          }
+
 -- ---- how many adjacent units have entry e, n at most
 module _ (h : List ℕ) (u n e : ℕ) where
   unfoldable pub Counted : ℕ → Type 0
@@ -129,6 +191,7 @@ module _ (h : List ℕ) (u n e : ℕ) where
 -- ---- a run of n free units
 -- no run starts before u
 pub record NoRun (h : List ℕ) (n u : ℕ) : Type 0 where
+  pub short : n ≤ 256
   pub within : u ≤ 256
   pub passed : Passed 256 (isRun h n) (lowestRun h n) u
 
@@ -146,61 +209,73 @@ module _ (h : List ℕ) (n : ℕ) where
   unfolding isRun
   too-long u l = rw (lt-leb (u + n) 256 l)
 
-  pub run-start : NoRun h n 0
+  -- a search that has come to u goes on at v where no run starts between them
+  skipped : (u v : ℕ) → u ≤ v → v ≤ 256 → ((j : ℕ) → u ≤ j → j < v → isRun h n j ≡ false) → Passed 256 (isRun h n) (lowestRun h n) u
+      → Passed 256 (isRun h n) (lowestRun h n) v
+  skipped u v a b none p =
+      let q : u + (v - u) ≡ v = omega arith in
+      rw q at (passed-on 256 (isRun h n) (lowestRun h n) (v - u) u (omega arith) (λ j c d. none j c (omega arith)) p)
+
+  starts : Passed 256 (isRun h n) (lowestRun h n) 0
   unfolding lowestRun
-  run-start = record { within = omega arith; passed = first-starts 256 (isRun h n) }
+  starts = first-starts 256 (isRun h n)
 
-  pub run-end : (u : ℕ) → 256 ≤ u → NoRun h n u → 256 ≡ lowestRun h n
-  run-end u l s = first-none 256 (isRun h n) (lowestRun h n) u l (s .within) (s .passed)
+  -- a run that starts at u or later ends past the heap
+  none-left : (u : ℕ) → u ≤ 256 → 256 < u + n → Passed 256 (isRun h n) (lowestRun h n) u → 256 ≡ lowestRun h n
+  none-left u a l p =
+      first-none 256 (isRun h n) (lowestRun h n) 256 (omega arith) (omega arith) (skipped u 256 a (omega arith) (λ j c d. too-long j (omega arith)) p)
 
-  module _ (u k : ℕ) (s : NoRun h n u) (l : u < 256) (count : k ≡ adjacent h u n 0) where
-    counted : IsFirst 0 (min n (256 - u)) (other h u 0) k
-    unfolding adjacent
-    counted = rw (sym count) at (first-below-is (min n (256 - u)) (other h u 0))
+  pub run-never : 256 < n → 256 ≡ lowestRun h n
+  run-never l = none-left 0 (omega arith) (omega arith) starts
 
-    pub run-fits : u + k ≤ 256
-    run-fits = omega (arith, counted .high)
+  pub run-start : n ≤ 256 → NoRun h n 0
+  run-start l = record { short = l; within = omega arith; passed = starts }
 
-    pub run-here : k ≡ n → u ≡ lowestRun h n
-    unfolding isRun
-    run-here e =
-        let w : u + n ≤ 256 = omega (arith, run-fits) in
-        let f = all-make (λ j. isFree h (u + j)) n (λ j b. not-false _ (counted .before j (omega arith) (omega arith))) in
-        first-here 256 (isRun h n) (lowestRun h n) u l (rw (le-leb (u + n) 256 w) f) (s .passed)
+  module _ (u : ℕ) (s : NoRun h n u) where
+    pub run-end : 256 - n < u → 256 ≡ lowestRun h n
+    run-end l = none-left u (s .within) (omega (arith, s .short)) (s .passed)
 
-    module _ (e : k ≢ n) {v : ℕ} (first : v ≡ firstFree h (u + k)) where
-      fewer : k < n
-      fewer = omega (arith, counted .high)
+    module _ (p : ℕ) (l : u ≤ 256 - n) (start : p ≡ freeFrom h u (u + n)) where
+      last : IsHighest (u + n) (notFree h) (highestBelow (u + n) (notFree h))
+      last = high-is (u + n) (notFree h)
 
-      ended : u + k < 256 → isFree h (u + k) ≡ false
-      ended a = not-true _ (counted .has (omega (arith, fewer)))
+      fits : u + n ≤ 256
+      fits = omega (arith, s .short)
 
-      next : IsFirst (u + k) 256 (isFree h) v
-      unfolding firstFree
-      next =
-          let q : u + k + (256 - (u + k)) ≡ 256 = omega (arith, run-fits) in
-          rw (sym first) at (rw q at (first-is (u + k) (256 - (u + k)) (isFree h)))
-
-      -- each start before v has a unit that is not free, the one at which the count ended or itself, or ends past the heap
-      none-before : (j : ℕ) → u ≤ j → j < v → isRun h n j ≡ false
-      none-before j a b =
+      -- only for n = 0 does 256 pass the loop's test, and there the search ends with 256
+      pub run-here : p ≡ u → u ≡ lowestRun h n
+      unfolding isRun freeFrom
+      run-here e =
+          let f = all-make (λ j. isFree h (u + j)) n (λ j b. not-false _ (last .after (u + j) (omega arith) (omega arith))) in
           ⊎-elim
-          (λ (c : j < u + k). ⊎-elim
-          (λ (d : u + k < 256). no-run j (u + k) (omega arith) (omega (arith, fewer)) (ended d))
-          (λ (d : 256 ≤ u + k). too-long j (omega (arith, fewer)))
-          (lt-or-le (u + k) 256))
-          (λ (c : u + k ≤ j). no-run j j (omega arith) (omega (arith, fewer)) (next .before j c b))
-          (lt-or-le j (u + k))
+          (λ (c : u < 256). first-here 256 (isRun h n) (lowestRun h n) u c (rw (le-leb (u + n) 256 fits) f) (s .passed))
+          (λ (c : 256 ≤ u). omega (arith, first-none 256 (isRun h n) (lowestRun h n) u c (s .within) (s .passed)))
+          (lt-or-le u 256)
 
-      pub run-later : u < v
-      run-later =
-          let same : v ≡ u → ⊥ = λ q.
-          let z : u + k ≡ v = omega (arith, next .low) in
-          true≢false (sym (next .has (omega arith)) ∙ rw z at (ended (omega (arith, next .low)))) in
-          omega (arith, next .low)
+      module _ (e : p ≢ u) {v : ℕ} (first : v ≡ firstFree h p) where
+        is-last : IsHighest (u + n) (notFree h) p
+        unfolding freeFrom
+        is-last = let q : highestBelow (u + n) (notFree h) ≡ p = omega arith in rw q at last
 
-      pub run-next : NoRun h n v
-      run-next =
-          let q : u + (v - u) ≡ v = omega (arith, run-later) in
-          let p = passed-on 256 (isRun h n) (lowestRun h n) (v - u) u (omega (arith, next .high)) (λ j a b. none-before j a (omega arith)) (s .passed) in
-          record { within = next .high; passed = rw q at p }
+        next : IsFirst p 256 (isFree h) v
+        unfolding firstFree
+        next =
+            let q : p + (256 - p) ≡ 256 = omega (arith, is-last .high, fits) in
+            rw (sym first) at (rw q at (first-is p (256 - p) (isFree h)))
+
+        pub run-later : 256 - v < 256 - u
+        unfolding freeFrom
+        run-later = omega (arith, is-last .high, fits, next .low)
+
+        -- each start before v has a unit that is not free: the one before p, or itself
+        none-before : (j : ℕ) → u ≤ j → j < v → isRun h n j ≡ false
+        unfolding freeFrom
+        none-before j a b =
+            ⊎-elim
+            (λ (c : j < p). no-run j (p - 1) (omega arith) (omega (arith, is-last .high)) (not-true _ (is-last .has (omega arith))))
+            (λ (c : p ≤ j). no-run j j (omega arith) (omega (arith, is-last .high)) (next .before j c b))
+            (lt-or-le j p)
+
+        pub run-next : NoRun h n v
+        run-next =
+            record { short = s .short; within = next .high; passed = skipped u v (omega (arith, run-later)) (next .high) none-before (s .passed) }

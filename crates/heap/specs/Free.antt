@@ -1,9 +1,9 @@
 -- Free units and adjacent ones, as the search for a run and the measure of a block look for them.
-use Prim.Native.Nat.{ℕ, _+_, _-_, min}
+use Prim.Native.Nat.{ℕ, _+_, _-_, min, max}
 use mathlib.Core.Bool.{Bool, not}
 use mathlib.Core.List.{List}
 use lib.Dec.{eqb}
-use Rattle.fold.specs.Find.{allBelow, firstBelow, firstFrom}
+use Rattle.fold.specs.Find.{allBelow, firstBelow, firstFrom, highestBelow}
 use Rattle.rules.specs.Tables.{heapUnits}
 use Rattle.rules.specs.Heap.{unit, free}
 
@@ -17,6 +17,10 @@ noneFree h u = allBelow 16 (λ k. not (isFree h (u + k)))
 -- the first from u on, which is at most 256; 256 where there is none
 unfoldable pub firstFree : List ℕ → ℕ → ℕ
 firstFree h u = firstFrom u (heapUnits - u) (isFree h)
+
+-- the lowest place from u on from which all units before e are free
+unfoldable pub freeFrom : List ℕ → ℕ → ℕ → ℕ
+freeFrom h u e = max u (highestBelow e (λ j. not (isFree h j)))
 
 -- how many adjacent units from u on have entry e, n at most
 unfoldable pub adjacent : List ℕ → ℕ → ℕ → ℕ → ℕ

@@ -12,7 +12,7 @@ ghost use lib.ListN.{replicate};
 ghost use Rattle.rules.specs.Answer.{after, answered, called};
 ghost use Rattle.rules.specs.Heap.{withUnits, unitsOf, lowestRun, blockSize, isBlock};
 ghost use Rattle.rules.specs.Heap.{takeCases, takeEffect, giveCases, giveEffect, heapCall};
-ghost use Rattle.heap.specs.Free.{noneFree, firstFree, adjacent};
+ghost use Rattle.heap.specs.Free.{noneFree, firstFree, freeFrom, adjacent};
 
 // A heap entry is free, first of a block or later in one.
 pub const FREE: u8 = 0;
@@ -56,11 +56,12 @@ fn past_full(heap: &Heap, from: usize) -> usize
     u
 }
 
-// The first free unit from `from` on, which is at most 256; 256 where there is none.
-fn first_free(heap: &Heap, from: usize) -> usize
+// The first free unit from `from` on, which is at most 256; 256 where there is none. It looks at one
+// after the other.
+fn next_free(heap: &Heap, from: usize) -> usize
     ensures { λ r. ⌜ r ≡ firstFree (now (heap .entry)) from ⌝ }
 {
-    let mut u = past_full(heap, from);
+    let mut u = from;
     while u < 256 {
         if heap[u] == FREE {
             return u;
@@ -68,6 +69,29 @@ fn first_free(heap: &Heap, from: usize) -> usize
         u += 1;
     }
     u
+}
+
+// The same where it may be far: 16 units at a time, then four in a turn, and the last ones singly.
+fn first_free(heap: &Heap, from: usize) -> usize
+    ensures { λ r. ⌜ r ≡ firstFree (now (heap .entry)) from ⌝ }
+{
+    let mut u = past_full(heap, from);
+    while u < 253 {
+        if heap[u] == FREE {
+            return u;
+        }
+        if heap[u + 1] == FREE {
+            return u + 1;
+        }
+        if heap[u + 2] == FREE {
+            return u + 2;
+        }
+        if heap[u + 3] == FREE {
+            return u + 3;
+        }
+        u += 4;
+    }
+    next_free(heap, u)
 }
 
 // How many adjacent units from u on have this entry, n at most.
@@ -88,18 +112,37 @@ fn adjacent(heap: &Heap, u: usize, n: usize, entry: u8) -> usize
     k
 }
 
+// The lowest place from u on from which all units before `end` are free. It looks from the end on,
+// because the last unit that is not free rules out the most starts.
+fn free_from(heap: &Heap, u: usize, end: usize) -> usize
+    ensures { λ r. ⌜ r ≡ freeFrom (now (heap .entry)) u end ⌝ }
+{
+    let mut p = least(end, 256);
+    while u < p {
+        if heap[p - 1] != FREE {
+            return p;
+        }
+        p -= 1;
+    }
+    u
+}
+
 // Where the lowest run of n adjacent free units starts; 256 where there is none.
 pub fn lowest_run(heap: &Heap, n: usize) -> usize
     ensures { λ r. ⌜ (r ≡ lowestRun (now (heap .entry)) n) × (r ≤ 256) ⌝ }
 {
+    if 256 < n {
+        return 256;
+    }
     // no run of n starts before u
     let mut u = 0;
-    while u < 256 {
-        let k = adjacent(heap, u, n, FREE);
-        if k == n {
+    while u <= 256 - n {
+        let p = free_from(heap, u, u + n);
+        if p == u {
             return u;
         }
-        u = first_free(heap, u + k);
+        // a run that starts before p would have the unit before p, which is not free
+        u = first_free(heap, p);
     }
     256
 }

@@ -11,7 +11,7 @@ use Rattle.rules.specs.Answer.{called}
 use Rattle.rules.specs.Dispatch.{context}
 use Rattle.rules.specs.Sound.{Sound, clockRule}
 use Rattle.rules.specs.Step.{withClocks}
-use Rattle.rules.specs.Clocks.{freeClock, withLeft, createCases, createEffect, deleteCases, deleteEffect, startCases, startEffect, stopEffect, clockCall}
+use Rattle.rules.specs.Clocks.{freeClock, withLeft, createCases, createEffect, deleteCases, deleteEffect, startStopCases, startEffect, stopEffect, clockCall}
 use Rattle.rules.specs.declared.Clock.{Clock}
 use Rattle.rules.specs.declared.Tables.{Tables}
 use Rattle.laws.proofs.Rows.{row-used}
@@ -49,14 +49,14 @@ module _ (t : Tables) (typed : Typed t) (s : Sound t) where
       let (u, (z, o)) = s .clocks a (row-used clockWidth clockCount (t .clocks) a 0 used) in
       clock-settles a (withLeft (clock (t .clocks) a) n) (u, (λ e. absurd (used e), o))
 
-  start-keeps : (a b c d : ℕ) → Keeps (withClocks t) (called (startCases (t .clocks) a b c d) (startEffect (t .clocks) a))
-  unfolding startCases startEffect
+  start-keeps : (a b c d : ℕ) → Keeps (withClocks t) (called (startStopCases (t .clocks) a b c d) (startEffect (t .clocks) a))
+  unfolding startStopCases startEffect
   start-keeps a b c d z =
-      left-settles a (clock (t .clocks) a .first) (eqb-false _ _ (accepted-is (startCases (t .clocks) a b c d) z .at3))
+      left-settles a (clock (t .clocks) a .first) (eqb-false _ _ (accepted-is (startStopCases (t .clocks) a b c d) z .at3))
 
-  stop-keeps : (a b c d : ℕ) → Keeps (withClocks t) (called (startCases (t .clocks) a b c d) (stopEffect (t .clocks) a))
-  unfolding startCases stopEffect
-  stop-keeps a b c d z = left-settles a 0 (eqb-false _ _ (accepted-is (startCases (t .clocks) a b c d) z .at3))
+  stop-keeps : (a b c d : ℕ) → Keeps (withClocks t) (called (startStopCases (t .clocks) a b c d) (stopEffect (t .clocks) a))
+  unfolding startStopCases stopEffect
+  stop-keeps a b c d z = left-settles a 0 (eqb-false _ _ (accepted-is (startStopCases (t .clocks) a b c d) z .at3))
 
 pub clocks-keeps : (t : Tables) → Typed t → Sound t → (number a b c d : ℕ) → Words a b c d
     → Keeps (withClocks t) (clockCall (t .clocks) (t .swis) (context (t .lines) (t .state)) number a b c d)

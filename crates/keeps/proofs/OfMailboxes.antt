@@ -17,7 +17,7 @@ use Rattle.rules.specs.Dispatch.{context}
 use Rattle.rules.specs.Sound.{Sound, mailboxRule}
 use Rattle.rules.specs.Step.{withMailboxes, withQueued}
 use Rattle.rules.specs.Waits.{Served, served, waiting, woken}
-use Rattle.rules.specs.Mailboxes.{freeMailbox, waitsFirst, isFull, postWaits, pendWaits, taken, mailboxCall, createCases, createEffect, deleteCases, deleteEffect, pendCases, pendEffect, postCases, postEffect}
+use Rattle.rules.specs.Mailboxes.{freeMailbox, waitsFirst, isFull, postWaits, pendWaits, oldestTaken, mailboxCall, createCases, createEffect, deleteCases, deleteEffect, pendCases, pendEffect, postCases, postEffect}
 use Rattle.rules.specs.declared.Tables.{Tables}
 use Rattle.laws.proofs.Rows.{by-range, length-withRow, row-same, row-other, row-used}
 use Rattle.laws.proofs.Listed.{zero-at}
@@ -227,7 +227,7 @@ module _ (t : Tables) (typed : Typed t) (s : Sound t) where
   pend : (a b c d : ℕ) → b < wordEnd
       → Keeps (withMailboxes t)
       (called (pendCases (t .mailboxes) (t .state) (context (t .lines) (t .state)) a b c d) (pendEffect (here t) (t .state) a b))
-  unfolding pendCases pendEffect pendWaits taken
+  unfolding pendCases pendEffect pendWaits oldestTaken
   pend a b c d word z =
       let ok = accepted-is (pendCases (t .mailboxes) (t .state) (context (t .lines) (t .state)) a b c d) z in
       let used : capacity t a ≢ 0 = eqb-false (capacity t a) 0 (ok .at3) in

@@ -14,7 +14,7 @@ use Rattle.rules.specs.Tables.{Typed, wordEnd, tables, state, withState, DEPTH,
 use Rattle.rules.specs.Dispatch.{context}
 use Rattle.rules.specs.Sound.{Sound}
 use Rattle.rules.specs.Step.{withTicked}
-use Rattle.rules.specs.Switches.{offCases, offEffect, restoreCases, restoreEffect, inCases, inEffect, outCases, outEffect}
+use Rattle.rules.specs.Switches.{offCases, offEffect, restoreCases, restoreEffect, inCases, inEffect, interruptCases, outEffect}
 use Rattle.rules.specs.Tick.{Ticked, tickedOf, clocksTicked, ticked, onState, switchCall}
 use Rattle.rules.specs.declared.Tables.{Tables}
 use Rattle.laws.proofs.Calls.{chosen}
@@ -135,5 +135,5 @@ switches-keeps t typed s number a b c d w =
     (chosen-kept (withTicked t) (eqb number 0x72) (k (offCases (notT x) a b c d) _ (off-settles t typed s TASKS (inr refl)))
     (chosen-kept (withTicked t) (eqb number 0x73) (k (restoreCases (notT x) a b c d) _ (restore-settles t typed s TASKS a (inr refl)))
     (chosen-kept (withTicked t) (eqb number 0x74) (k (inCases (t .state) a b c d) _ (in-settles t typed s))
-    (chosen-kept (withTicked t) (eqb number 0x75) (k (outCases x a b c d) _ (out-settles t typed s))
-    (chosen-kept (withTicked t) (eqb number 0x76) (tick-kept t typed s (outCases x a b c d)) (unknown-kept (withTicked t) _))))))) .keeps
+    (chosen-kept (withTicked t) (eqb number 0x75) (k (interruptCases x a b c d) _ (out-settles t typed s))
+    (chosen-kept (withTicked t) (eqb number 0x76) (tick-kept t typed s (interruptCases x a b c d)) (unknown-kept (withTicked t) _))))))) .keeps

@@ -141,8 +141,8 @@ module _ (q : Served) (rows : Means (tasksRule (q .tasks))) (st : List ℕ) (x n
       (tested (eqb c 0) (stays refl) (goes (rw (eqb-true number 0x42 e)) (waits-aside (queue q) rows _ (current st) _ (omega arith))))
       (stays refl))
 
-  taken-aside : SwisStay (q .lines) (Mailboxes.taken q a .lines)
-  unfolding Mailboxes.taken
+  taken-aside : SwisStay (q .lines) (Mailboxes.oldestTaken q a .lines)
+  unfolding Mailboxes.oldestTaken
   taken-aside j low high =
       chosen (λ (y : Served). line (y .lines) j ≡ line (q .lines) j) (Mailboxes.waitsFirst (q .tasks) (q .lines) a writing) _ _
       (λ _. woken-aside (queue q) rows _ 0 0 j low high) (λ _. refl)

@@ -1,7 +1,7 @@
 -- What a test tells of the tables, and that each call keeps it.
 use Prim.Native.Nat.{ℕ, _^_, _<_}
 use mathlib.Core.Path.{_≡_, sym, subst, _∙_}
-use mathlib.Core.Bool.{Bool, true, _&&_}
+use mathlib.Core.Bool.{Bool, true, false, _&&_, false≢true}
 use lib.Dec.{eqb}
 use lib.ListN.{length}
 use borrow.Author.Tests.{eqb-true}
@@ -60,6 +60,10 @@ pub tested-is : (t : Tables) {n₁ n₂ n₃ n₄ n₅ n₆ n₇ n₈ n₉ : ℕ
     → Tested (lengths n₁ n₂ n₃ n₄ n₅ n₆ n₇ n₈ n₉ && s) t
 tested-is t e₁ e₂ e₃ e₄ e₅ e₆ e₇ e₈ e₉ e =
     record { is = rw (e₁, e₂, e₃, e₄, e₅, e₆, e₇, e₈, e₉, e); known = known-tested t e₁ e₂ e₃ e₄ e₅ e₆ e₇ e₈ e₉ e }
+
+-- nothing is known of tables that were not tested
+pub unknown : (t : Tables) → Known false t
+unknown t = record { typed = λ e. absurd (false≢true e); sound = λ e. absurd (false≢true e) }
 
 -- ---- a call
 pub words-fit : {a b c d : ℕ} → a < 2 ^ 32 → b < 2 ^ 32 → c < 2 ^ 32 → d < 2 ^ 32 → Words a b c d

@@ -8,8 +8,8 @@ use Rattle.rules.specs.Dispatch.{running, context, Dispatched}
 use Rattle.rules.specs.Sound.{sound}
 use Rattle.rules.specs.Step.{callOf, withDispatched, stepOf, finished, step, call}
 use Rattle.rules.proofs.Agree.{sound-means}
-use Rattle.kernel.specs.Settle.{settledAfter}
-use Rattle.kernel.proofs.Settles.{settles-is}
+use Rattle.settling.specs.Settle.{settledAfter}
+use Rattle.settling.proofs.Settles.{settles-is}
 use Rattle.rules.specs.declared.Answer.{Answer}
 use Rattle.rules.specs.declared.Step.{Step}
 use Rattle.rules.specs.declared.Tables.{Tables}
@@ -18,17 +18,16 @@ use Rattle.rules.specs.declared.Thread.the-variants.{Task}
 
 -- ---- the parts of a call on sound tables, one after the other
 module _ (t : Tables) (is : sound t ≡ true) (n a b c d : ℕ) where
-  pub step-is : {x : ℕ} {r : Answer} {u : Tables} {y : Dispatched} {who : Thread}
-      → x ≡ context (t .lines) (t .state) → after r u ≡ answered t (callOf t x n a b c d)
+  pub step-is : {r : Answer} {u : Tables} {y : Dispatched} {who : Thread}
+      → after r u ≡ answered t (callOf t (context (t .lines) (t .state)) n a b c d)
       → y ≡ settledAfter n r (u .swis) (u .lines) (u .state) → who ≡ running (y .lines) (y .state)
       → stepOf (withDispatched u y) r who ≡ step t n a b c d
   unfolding step finished
-  step-is {x} {r} {u} {y} p q s w =
+  step-is {r} {u} {y} q s w =
       ap (stepOf (withDispatched u y) r) w
       ∙ ap (λ (z : Dispatched). stepOf (withDispatched u z) r (running (z .lines) (z .state)))
-      (s ∙ settles-is t (sound-means t is) x n a b c d q)
+      (s ∙ settles-is t (sound-means t is) (context (t .lines) (t .state)) n a b c d q)
       ∙ ap finished q
-      ∙ ap (λ (k : ℕ). finished (answered t (callOf t k n a b c d))) p
 
 -- ---- the test of soundness, and what follows it
 module _ (t : Tables) {s : Bool} (is : s ≡ sound t) where

@@ -41,10 +41,7 @@ pub fn tested(
     heap: &Heap,
     state: &State,
 ) -> bool
-    ensures { λ r. ⌜ Tested r (tables
-        (now (tasks .entry)) (now (lines .entry)) (now (semaphores .entry))
-        (now (events .entry)) (now (mailboxes .entry)) (now (swis .entry))
-        (now (clocks .entry)) (now (heap .entry)) (now (state .entry))) ⌝ }
+    ensures { λ r. ⌜ Tested r (tables (now (tasks .entry)) (now (lines .entry)) (now (semaphores .entry)) (now (events .entry)) (now (mailboxes .entry)) (now (swis .entry)) (now (clocks .entry)) (now (heap .entry)) (now (state .entry))) ⌝ }
 {
     (words_of(tasks) == 256)
         & (bytes_of(lines) == 2145)
@@ -81,14 +78,9 @@ fn still_sound(
     heap: &Heap,
     state: &State,
 ) -> bool
-    requires { ⌜ Known known (tables
-        (now tasks) (now lines) (now semaphores)
-        (now events) (now mailboxes) (now swis)
-        (now clocks) (now heap) (now state)) ⌝ }
-    ensures { λ r. ⌜ r ≡ sound (tables
-        (now (tasks .entry)) (now (lines .entry)) (now (semaphores .entry))
-        (now (events .entry)) (now (mailboxes .entry)) (now (swis .entry))
-        (now (clocks .entry)) (now (heap .entry)) (now (state .entry))) ⌝ }
+    requires { ⌜ Known known (tables (now tasks) (now lines) (now semaphores) (now events) (now mailboxes) (now swis) (now clocks) (now heap) (now state)) ⌝ }
+    ensures { λ r. ⌜ r
+        ≡ sound (tables (now (tasks .entry)) (now (lines .entry)) (now (semaphores .entry)) (now (events .entry)) (now (mailboxes .entry)) (now (swis .entry)) (now (clocks .entry)) (now (heap .entry)) (now (state .entry))) ⌝ }
 {
     if known {
         return true;
@@ -124,24 +116,10 @@ pub fn known_call(
     c: u32,
     d: u32,
 ) -> Said
-    requires { ⌜ Known known (tables
-        (now tasks) (now lines) (now semaphores)
-        (now events) (now mailboxes) (now swis)
-        (now clocks) (now heap) (now state)) ⌝ }
-    ensures { λ r. ⌜ stepOf (tables
-        (now (tasks .exit)) (now (lines .exit)) (now (semaphores .exit))
-        (now (events .exit)) (now (mailboxes .exit)) (now (swis .exit))
-        (now (clocks .exit)) (now (heap .exit)) (now (state .exit)))
-        (r .answer) (r .thread)
-        ≡ call (tables
-        (now (tasks .entry)) (now (lines .entry)) (now (semaphores .entry))
-        (now (events .entry)) (now (mailboxes .entry)) (now (swis .entry))
-        (now (clocks .entry)) (now (heap .entry)) (now (state .entry)))
-        number a b c d ⌝ }
-    ensures { λ _. ⌜ Known known (tables
-        (now (tasks .exit)) (now (lines .exit)) (now (semaphores .exit))
-        (now (events .exit)) (now (mailboxes .exit)) (now (swis .exit))
-        (now (clocks .exit)) (now (heap .exit)) (now (state .exit))) ⌝ }
+    requires { ⌜ Known known (tables (now tasks) (now lines) (now semaphores) (now events) (now mailboxes) (now swis) (now clocks) (now heap) (now state)) ⌝ }
+    ensures { λ r. ⌜ stepOf (tables (now (tasks .exit)) (now (lines .exit)) (now (semaphores .exit)) (now (events .exit)) (now (mailboxes .exit)) (now (swis .exit)) (now (clocks .exit)) (now (heap .exit)) (now (state .exit))) (r .answer) (r .thread)
+        ≡ call (tables (now (tasks .entry)) (now (lines .entry)) (now (semaphores .entry)) (now (events .entry)) (now (mailboxes .entry)) (now (swis .entry)) (now (clocks .entry)) (now (heap .entry)) (now (state .entry))) number a b c d ⌝ }
+    ensures { λ _. ⌜ Known known (tables (now (tasks .exit)) (now (lines .exit)) (now (semaphores .exit)) (now (events .exit)) (now (mailboxes .exit)) (now (swis .exit)) (now (clocks .exit)) (now (heap .exit)) (now (state .exit))) ⌝ }
 {
     if !still_sound(
         known,

@@ -1,4 +1,3 @@
-// The call core: one call on lent tables, and the entries.
+// The call core on lent tables: one call on sound ones, and calls on tables that were tested once.
 pub mod calls;
-pub mod entries;
 pub mod known;

@@ -4,3 +4,4 @@ pub mod InPlace
 pub mod Lines
 pub mod Calls
 pub mod Effects
+pub mod Numbers

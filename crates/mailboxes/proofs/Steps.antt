@@ -11,7 +11,7 @@ use Rattle.rules.specs.Answer.{After, after, answer, unknown}
 use Rattle.rules.specs.Tables.{task, current, mailbox, messages, withMessages}
 use Rattle.rules.specs.Lines.{anyone, first, queued, moved, atBack}
 use Rattle.rules.specs.Waits.{Served, served, waiting, woken}
-use Rattle.rules.specs.Mailboxes.{waitsFirst, isFull, postEffect, taken, pendEffect, mailboxCall}
+use Rattle.rules.specs.Mailboxes.{waitsFirst, isFull, postEffect, oldestTaken, pendEffect, mailboxCall}
 use Rattle.rules.specs.declared.Answer.{Answer}
 use Rattle.rules.specs.declared.Task.{Task}
 use Rattle.laws.proofs.Rows.{by-range}
@@ -64,15 +64,15 @@ module _ (ts ls ms st : List ℕ) (a word limit : ℕ) {t : Bool} (is : t ≡ wa
 module _ (ts ls ms : List ℕ) (a : ℕ) {t : Bool} (is : t ≡ waitsFirst ts ls a 6) where
   pub take-writer : t ≡ true → {i : ℕ} {k : Task} → i ≡ first ls (16 + a) → k ≡ task ts i
       → {os₁ : List ℕ} → os₁ ≡ withMessages ms a (drop 1 (messages ms a) ++ (k .first ∷ []))
-      → {ts₁ ls₁ : List ℕ} → queued ts₁ ls₁ ≡ woken i 0 0 (queued ts ls) → served ts₁ ls₁ os₁ ≡ taken (served ts ls ms) a
-  unfolding taken
+      → {ts₁ ls₁ : List ℕ} → queued ts₁ ls₁ ≡ woken i 0 0 (queued ts ls) → served ts₁ ls₁ os₁ ≡ oldestTaken (served ts ls ms) a
+  unfolding oldestTaken
   take-writer p e f g h =
       let o = g ∙ ap (λ (k : Task). withMessages ms a (drop 1 (messages ms a) ++ (k .first ∷ []))) (f ∙ ap (task ts) e) in
       let q = h ∙ ap (λ (i : ℕ). woken i 0 0 (queued ts ls)) e in
       rw (sym is ∙ p) (λ z. served (q z .tasks) (q z .lines) (o z))
 
-  pub take-none : t ≡ false → {os₁ : List ℕ} → os₁ ≡ withMessages ms a (drop 1 (messages ms a)) → served ts ls os₁ ≡ taken (served ts ls ms) a
-  unfolding taken
+  pub take-none : t ≡ false → {os₁ : List ℕ} → os₁ ≡ withMessages ms a (drop 1 (messages ms a)) → served ts ls os₁ ≡ oldestTaken (served ts ls ms) a
+  unfolding oldestTaken
   take-none p g = rw (sym is ∙ p) (ap (served ts ls) g)
 
 module _ (ts ls ms st : List ℕ) (a limit : ℕ) {n : ℕ} (is : n ≡ mailbox ms a 1) where
@@ -80,7 +80,7 @@ module _ (ts ls ms st : List ℕ) (a limit : ℕ) {n : ℕ} (is : n ≡ mailbox 
   unfolding pendEffect
   pend-empty p e = rw (is-same 0 is p) e
 
-  pub pend-takes : n ≢ 0 → {v : ℕ} → v ≡ getD (messages ms a) 0 0 → {s : Served} → s ≡ taken (served ts ls ms) a
+  pub pend-takes : n ≢ 0 → {v : ℕ} → v ≡ getD (messages ms a) 0 0 → {s : Served} → s ≡ oldestTaken (served ts ls ms) a
       → {r : Answer} → r ≡ answer 0 0 v → after r s ≡ pendEffect (served ts ls ms) st a limit
   unfolding pendEffect
   pend-takes p e f g = rw (is-other 0 is p) (accepted-is 0 (getD (messages ms a) 0 0) (g ∙ ap (answer 0 0) e) f)

@@ -26,7 +26,7 @@ ghost use Prim.Native.Nat.{ℕ};
 ghost use Rattle.rules.specs.Answer.{after, answered, called, codeOf};
 ghost use Rattle.rules.specs.Waits.{served};
 ghost use Rattle.rules.specs.Mailboxes.{createCases, createEffect, deleteCases, deleteEffect};
-ghost use Rattle.rules.specs.Mailboxes.{postCases, postEffect, pendCases, taken, pendEffect};
+ghost use Rattle.rules.specs.Mailboxes.{postCases, postEffect, pendCases, oldestTaken, pendEffect};
 ghost use Rattle.mailboxes.specs.Wait.{notDone};
 
 // ---- 40 create (capacity; T): value its number
@@ -260,7 +260,7 @@ pub fn pend_code(
 
 // The oldest message goes; the first waiting writer's word joins the back, that writer is ready.
 pub fn take(tasks: &mut Tasks, lines: &mut Lines, mailboxes: &mut Mailboxes, a: u32)
-    ensures { λ _. ⌜ served (now (tasks .exit)) (now (lines .exit)) (now (mailboxes .exit)) ≡ taken (served (now (tasks .entry)) (now (lines .entry)) (now (mailboxes .entry))) a ⌝ }
+    ensures { λ _. ⌜ served (now (tasks .exit)) (now (lines .exit)) (now (mailboxes .exit)) ≡ oldestTaken (served (now (tasks .entry)) (now (lines .entry)) (now (mailboxes .entry))) a ⌝ }
 {
     if waits_first(tasks, lines, a, WRITING) {
         let i = first(lines, a);

@@ -9,6 +9,7 @@ use rules::Semaphores;
 use rules::State;
 use rules::Swis;
 use rules::Tasks;
+use text::Text;
 ghost use Rattle.rules.specs.Tables.{tables};
 ghost use Rattle.kernel.specs.Known.{Known};
 
@@ -28,10 +29,7 @@ fn make_calls(
     n: usize,
     from: u32,
 ) -> u32
-    requires { ⌜ Known known (tables
-        (now tasks) (now lines) (now semaphores)
-        (now events) (now mailboxes) (now swis)
-        (now clocks) (now heap) (now state)) ⌝ }
+    requires { ⌜ Known known (tables (now tasks) (now lines) (now semaphores) (now events) (now mailboxes) (now swis) (now clocks) (now heap) (now state)) ⌝ }
 {
     let mut sum = from;
     let mut k = 0;
@@ -66,7 +64,7 @@ fn make_calls(
 
 // All of them, from fresh tables.
 fn one_round(calls: &Calls, n: usize, from: u32) -> u32 {
-    let fresh = kernel::entries::fresh();
+    let fresh = entries::fresh();
     let mut tasks = fresh.tasks;
     let mut lines = fresh.lines;
     let mut semaphores = fresh.semaphores;
@@ -104,16 +102,34 @@ fn one_round(calls: &Calls, n: usize, from: u32) -> u32 {
     )
 }
 
+// How often the log is gone through, by the program's first argument.
+fn rounds() -> u32 {
+    let mut name = io::buffer();
+    let length = os::arg(1, &mut name);
+    pacing::rounds_for(&name[..length])
+}
+
+// Puts the line of the sum into a buffer, and writes it from there.
+fn write_sum(out: &mut Text, sum: u32) {
+    let len = pacing::put_sum(out, sum);
+    io::write_all(libc::STDOUT_FILENO, text::front(out, len));
+}
+
+fn print_sum(sum: u32) {
+    let mut out = [0u8; 16384];
+    write_sum(&mut out, sum);
+}
+
 fn main() {
     let mut log = [0u8; 65520];
     let n = pacing::read_log(&mut log) / 20;
     let mut calls = [0u32; 16380];
     pacing::as_calls(&log, &mut calls, n);
     let mut sum = 0;
-    let mut left = pacing::rounds();
+    let mut left = rounds();
     while 0 < left {
         sum = one_round(&calls, n, sum);
         left -= 1;
     }
-    pacing::print_sum(sum);
+    print_sum(sum);
 }

@@ -1,9 +1,10 @@
 // The same with the two entries that test the tables before each call: with `call_in_place`, or with `call` if a second argument is there.
 use pacing::Calls;
+use text::Text;
 
 // The calls in place on tables that are kept, from fresh ones.
 fn in_place(calls: &Calls, n: usize, from: u32) -> u32 {
-    let fresh = kernel::entries::fresh();
+    let fresh = entries::fresh();
     let mut tasks = fresh.tasks;
     let mut lines = fresh.lines;
     let mut semaphores = fresh.semaphores;
@@ -19,7 +20,7 @@ fn in_place(calls: &Calls, n: usize, from: u32) -> u32 {
         if n <= k {
             return sum;
         }
-        let said = kernel::entries::call_in_place(
+        let said = entries::call_in_place(
             &mut tasks,
             &mut lines,
             &mut semaphores,
@@ -45,14 +46,14 @@ fn in_place(calls: &Calls, n: usize, from: u32) -> u32 {
 
 // The calls on tables by value.
 fn by_value(calls: &Calls, n: usize, from: u32) -> u32 {
-    let mut tables = kernel::entries::fresh();
+    let mut tables = entries::fresh();
     let mut sum = from;
     let mut k = 0;
     while k < 3276 {
         if n <= k {
             return sum;
         }
-        let after = kernel::entries::call(
+        let after = entries::call(
             tables,
             calls[k * 5],
             calls[k * 5 + 1],
@@ -69,6 +70,24 @@ fn by_value(calls: &Calls, n: usize, from: u32) -> u32 {
     sum
 }
 
+// How often the log is gone through, by the program's first argument.
+fn rounds() -> u32 {
+    let mut name = io::buffer();
+    let length = os::arg(1, &mut name);
+    pacing::rounds_for(&name[..length])
+}
+
+// Puts the line of the sum into a buffer, and writes it from there.
+fn write_sum(out: &mut Text, sum: u32) {
+    let len = pacing::put_sum(out, sum);
+    io::write_all(libc::STDOUT_FILENO, text::front(out, len));
+}
+
+fn print_sum(sum: u32) {
+    let mut out = [0u8; 16384];
+    write_sum(&mut out, sum);
+}
+
 fn main() {
     let mut log = [0u8; 65520];
     let n = pacing::read_log(&mut log) / 20;
@@ -76,7 +95,7 @@ fn main() {
     pacing::as_calls(&log, &mut calls, n);
     let kept = os::arg_count() < 3;
     let mut sum = 0;
-    let mut left = pacing::rounds();
+    let mut left = rounds();
     while 0 < left {
         if kept {
             sum = in_place(&calls, n, sum);
@@ -85,5 +104,5 @@ fn main() {
         }
         left -= 1;
     }
-    pacing::print_sum(sum);
+    print_sum(sum);
 }

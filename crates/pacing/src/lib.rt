@@ -2,6 +2,14 @@
 use rules::Answer;
 use rules::Thread;
 use text::Text;
+ghost use mathlib.Core.Path.{_≡_};
+ghost use mathlib.Core.List.{_++_};
+ghost use Prim.Native.Nat.{min};
+ghost use lib.Seq.{sets};
+ghost use Rattle.io.specs.Counts.{Counts};
+ghost use Rattle.rules.specs.Text.{wordText, lineFeed};
+ghost use Rattle.text.specs.Put.{Put};
+ghost use Rattle.pacing.specs.Pace.{callWords, threadWord, added, roundsFor, sumWord};
 
 // Of a log the first 3,276 records are used.
 pub type Log = [u8; 65520];
@@ -10,17 +18,23 @@ pub type Log = [u8; 65520];
 pub type Calls = [u32; 16380];
 
 // Reads standard input, once: a file gives all that fits.
-pub fn read_log(log: &mut [u8]) -> usize {
+pub fn read_log(log: &mut [u8]) -> usize
+    ensures { λ r. ⌜ Counts r (now (log .exit)) ⌝ }
+{
     let got = libc::read(libc::STDIN_FILENO, log);
     io::count(got, log)
 }
 
-fn wide(b: u8) -> u32 {
+fn wide(b: u8) -> u32
+    ensures { λ r. ⌜ r ≡ b ⌝ }
+{
     b as u32
 }
 
 // The first n records as words.
-pub fn as_calls(log: &Log, calls: &mut Calls, n: usize) {
+pub fn as_calls(log: &Log, calls: &mut Calls, n: usize)
+    ensures { λ _. ⌜ now (calls .exit) ≡ sets (now (calls .entry)) 0 (callWords (min n 3276) (now (log .entry))) ⌝ }
+{
     let mut k = 0;
     while k < 3276 {
         if n <= k {
@@ -36,7 +50,9 @@ pub fn as_calls(log: &Log, calls: &mut Calls, n: usize) {
     }
 }
 
-fn thread_word(thread: Thread) -> u32 {
+fn thread_word(thread: Thread) -> u32
+    ensures { λ r. ⌜ r ≡ threadWord thread ⌝ }
+{
     match thread {
         Thread::Task(i) => 84 ^ i,
         Thread::Swi(i) => 83 ^ i,
@@ -45,19 +61,21 @@ fn thread_word(thread: Thread) -> u32 {
 }
 
 // The sum goes on by an answer and a thread; their order counts.
-pub fn add(sum: u32, answer: Answer, thread: Thread) -> u32 {
+pub fn add(sum: u32, answer: Answer, thread: Thread) -> u32
+    ensures { λ r. ⌜ r ≡ added sum answer thread ⌝ }
+{
     let with_value = std::num::wrapping_add_u32(sum ^ answer.code, answer.value);
     std::num::wrapping_add_u32(with_value ^ answer.outcome, thread_word(thread))
 }
 
-// How often the log is gone through, by the program's argument: 0 is once, 1 ten times, 2 a hundred times and so on.
-pub fn rounds() -> u32 {
-    let mut name = io::buffer();
-    let length = os::arg(1, &mut name);
-    if length == 0 {
+// How often the log is gone through, by a program's argument: 0 is once, 1 ten times, 2 a hundred times and so on.
+pub fn rounds_for(argument: &[u8]) -> u32
+    ensures { λ r. ⌜ r ≡ roundsFor (now (argument .entry)) ⌝ }
+{
+    if argument.len() == 0 {
         return 1;
     }
-    match name[0] {
+    match argument[0] {
         b'1' => 10,
         b'2' => 100,
         b'3' => 1000,
@@ -66,19 +84,9 @@ pub fn rounds() -> u32 {
     }
 }
 
-fn write_text(text: &[u8], len: usize) {
-    if len <= text.len() {
-        io::write_all(libc::STDOUT_FILENO, &text[..len]);
-    }
-}
-
-fn write_sum(out: &mut Text, sum: u32) {
-    let n = text::put_word(out, 0, b"sum", sum as u64);
-    write_text(out, n);
-}
-
-// Prints the sum.
-pub fn print_sum(sum: u32) {
-    let mut out = [0u8; 16384];
-    write_sum(&mut out, sum);
+// The line of the sum.
+pub fn put_sum(out: &mut Text, sum: u32) -> usize
+    ensures { λ r. ⌜ Put (now (out .entry)) 0 (wordText sumWord sum ++ lineFeed) (now (out .exit)) r ⌝ }
+{
+    text::put_word(out, 0, b"sum", sum as u64)
 }

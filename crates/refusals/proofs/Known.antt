@@ -72,7 +72,7 @@ rows = (refl, refl, refl, refl, refl, refl, refl, refl, refl, refl)
 
 -- in the order of `known`, a line for each range
 pub agrees : (t : Tables) (a b c d : ℕ) → All (λ n. Agrees t (asked n a b c d)) known
-unfolding callOf among count unknownNumber wrongContext limitOf noObject badValue unusedNotZero badArgument beginsWait stateForbids noFreeNumber atItsEnd noHeapRoom switchedOff Waits.outside Tasks.taskCall Tasks.createCases Tasks.deleteCases Tasks.setPriorityCases Tasks.yieldCases Tasks.endCases Tasks.sleepCases Tasks.lastResultCases Swis.swiCall Swis.createCases Swis.deleteCases Swis.postCases Swis.maskCases Swis.endCases Swis.takenCases Semaphores.semaphoreCall Semaphores.createCases Semaphores.deleteCases Semaphores.resetCases Semaphores.waits Semaphores.pendCases Semaphores.postCases Events.eventCall Events.createCases Events.deleteCases Events.waits Events.pendCases Events.postCases Mailboxes.mailboxCall Mailboxes.createCases Mailboxes.deleteCases Mailboxes.postWaits Mailboxes.pendWaits Mailboxes.postCases Mailboxes.pendCases Clocks.clockCall Clocks.createCases Clocks.deleteCases Clocks.startCases Heap.heapCall Heap.takeCases Heap.giveCases Tick.switchCall Switches.offCases Switches.restoreCases Switches.inCases Switches.outCases
+unfolding callOf among count unknownNumber wrongContext limitOf noObject badValue unusedNotZero badArgument beginsWait stateForbids noFreeNumber atItsEnd noHeapRoom switchedOff Waits.outside Tasks.taskCall Tasks.createCases Tasks.deleteCases Tasks.setPriorityCases Tasks.yieldCases Tasks.endCases Tasks.sleepCases Tasks.lastResultCases Swis.swiCall Swis.createCases Swis.deleteCases Swis.postCases Swis.maskCases Swis.endCases Swis.takenCases Semaphores.semaphoreCall Semaphores.createCases Semaphores.deleteCases Semaphores.resetCases Semaphores.waits Semaphores.pendCases Semaphores.postCases Events.eventCall Events.createCases Events.deleteCases Events.waits Events.pendCases Events.postCases Mailboxes.mailboxCall Mailboxes.createCases Mailboxes.deleteCases Mailboxes.postWaits Mailboxes.pendWaits Mailboxes.postCases Mailboxes.pendCases Clocks.clockCall Clocks.createCases Clocks.deleteCases Clocks.startStopCases Heap.heapCall Heap.takeCases Heap.giveCases Tick.switchCall Switches.offCases Switches.restoreCases Switches.inCases Switches.interruptCases
 agrees t a b c d =
     rows & rows & rows & rows & rows & rows & rows
     & rows & rows & rows & rows & rows & rows & rows & rows & rows

@@ -9,8 +9,12 @@ use rules::Mailboxes;
 use rules::Semaphores;
 use rules::State;
 use rules::Swis;
+use rules::Tables;
 use rules::Tasks;
 use text::Text;
+ghost use Rattle.rules.specs.Tables.{tables};
+ghost use Rattle.rules.specs.Sound.{Sound};
+ghost use Rattle.replaying.specs.Safe.{Bytes, Safe};
 
 // What a read left in a part: how many bytes are there now, whether nothing follows, whether it failed.
 struct Came {
@@ -20,7 +24,9 @@ struct Came {
 }
 
 // Reads behind the bytes that wait. There is always room: fewer than 20 of them wait.
-fn read_behind(fd: i32, part: &mut [u8], held: usize) -> Came {
+fn read_behind(fd: i32, part: &mut [u8], held: usize) -> Came
+    ensures { λ _. ⌜ Bytes (now (part .exit)) ⌝ }
+{
     if part.len() <= held {
         return Came {
             n: 0,
@@ -38,11 +44,8 @@ fn read_behind(fd: i32, part: &mut [u8], held: usize) -> Came {
 }
 
 // Writes the text, and says so. Who reads it may have gone, which is no fault.
-fn write_text(text: &[u8], len: usize) -> bool {
-    if text.len() < len {
-        return false;
-    }
-    if io::write_all(libc::STDOUT_FILENO, &text[..len]) {
+fn write_text(out: &[u8], len: usize) -> bool {
+    if io::write_all(libc::STDOUT_FILENO, text::front(out, len)) {
         return true;
     }
     let error = os::errno();
@@ -74,7 +77,10 @@ fn turn(
     p: Progress,
     fd: i32,
     name: &[u8],
-) -> Progress {
+) -> Progress
+    requires { ⌜ Safe (tables (now tasks) (now lines) (now semaphores) (now events) (now mailboxes) (now swis) (now clocks) (now heap) (now state)) ⌝ }
+    ensures { λ _. ⌜ Safe (tables (now (tasks .exit)) (now (lines .exit)) (now (semaphores .exit)) (now (events .exit)) (now (mailboxes .exit)) (now (swis .exit)) (now (clocks .exit)) (now (heap .exit)) (now (state .exit))) ⌝ }
+{
     let came = read_behind(fd, part, p.held);
     if came.failed {
         os::fail(name);
@@ -114,19 +120,24 @@ fn begun() -> Progress {
     }
 }
 
-// Replays what can be read at fd; `name` is told where a read fails.
+// All turns.
 // A loop has to end, and nothing says that a log does: the turns are counted down from a number that no run comes to.
-pub fn replay_all(fd: i32, name: &[u8]) {
-    let fresh = kernel::entries::fresh();
-    let mut tasks = fresh.tasks;
-    let mut lines = fresh.lines;
-    let mut semaphores = fresh.semaphores;
-    let mut events = fresh.events;
-    let mut mailboxes = fresh.mailboxes;
-    let mut swis = fresh.swis;
-    let mut clocks = fresh.clocks;
-    let mut heap = fresh.heap;
-    let mut state = fresh.state;
+fn all_turns(
+    tasks: &mut Tasks,
+    lines: &mut Lines,
+    semaphores: &mut Semaphores,
+    events: &mut Events,
+    mailboxes: &mut Mailboxes,
+    swis: &mut Swis,
+    clocks: &mut Clocks,
+    heap: &mut Heap,
+    state: &mut State,
+    fd: i32,
+    name: &[u8],
+)
+    requires { ⌜ Safe (tables (now tasks) (now lines) (now semaphores) (now events) (now mailboxes) (now swis) (now clocks) (now heap) (now state)) ⌝ }
+    ensures { λ _. ⌜ Safe (tables (now (tasks .exit)) (now (lines .exit)) (now (semaphores .exit)) (now (events .exit)) (now (mailboxes .exit)) (now (swis .exit)) (now (clocks .exit)) (now (heap .exit)) (now (state .exit))) ⌝ }
+{
     let mut part = [0u8; 2560];
     let mut out = [0u8; 16384];
     let mut p = begun();
@@ -136,15 +147,15 @@ pub fn replay_all(fd: i32, name: &[u8]) {
             return;
         }
         p = turn(
-            &mut tasks,
-            &mut lines,
-            &mut semaphores,
-            &mut events,
-            &mut mailboxes,
-            &mut swis,
-            &mut clocks,
-            &mut heap,
-            &mut state,
+            tasks,
+            lines,
+            semaphores,
+            events,
+            mailboxes,
+            swis,
+            clocks,
+            heap,
+            state,
             &mut part,
             &mut out,
             p,
@@ -152,5 +163,45 @@ pub fn replay_all(fd: i32, name: &[u8]) {
             name,
         );
         turns -= 1;
+    }
+}
+
+// Replays what can be read at fd, and answers the tables that it came to; `name` is told where a read fails.
+pub fn replay_all(fd: i32, name: &[u8]) -> Tables
+    ensures { λ r. ⌜ Sound r ⌝ }
+{
+    let fresh = entries::fresh();
+    let mut tasks = fresh.tasks;
+    let mut lines = fresh.lines;
+    let mut semaphores = fresh.semaphores;
+    let mut events = fresh.events;
+    let mut mailboxes = fresh.mailboxes;
+    let mut swis = fresh.swis;
+    let mut clocks = fresh.clocks;
+    let mut heap = fresh.heap;
+    let mut state = fresh.state;
+    all_turns(
+        &mut tasks,
+        &mut lines,
+        &mut semaphores,
+        &mut events,
+        &mut mailboxes,
+        &mut swis,
+        &mut clocks,
+        &mut heap,
+        &mut state,
+        fd,
+        name,
+    );
+    Tables {
+        tasks,
+        lines,
+        semaphores,
+        events,
+        mailboxes,
+        swis,
+        clocks,
+        heap,
+        state,
     }
 }

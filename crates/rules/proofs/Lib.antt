@@ -2,10 +2,6 @@ pub mod Computed
 pub mod Agree
 pub mod Runs
 pub mod Faster
-pub mod Mistakes
-pub mod Logs
-pub mod Broken
-pub mod Busy
-pub mod Unsound
-pub mod Waiters
+pub mod Standing
 pub mod Units
+pub mod Sentences

@@ -35,8 +35,8 @@ unfoldable pub deleteEffect : List ℕ → ℕ → After (List ℕ)
 deleteEffect cs a = accepted done 0 (withClock cs a noClock)
 
 -- ---- "52 start, 53 stop (T S I): start sets the first ticks again."
-unfoldable pub startCases : List ℕ → ℕ → ℕ → ℕ → ℕ → Cases
-startCases cs a b c d = given 3 (eqb (clock cs a .used) 0) (given 4 (unused 0 b c d) never)
+unfoldable pub startStopCases : List ℕ → ℕ → ℕ → ℕ → ℕ → Cases
+startStopCases cs a b c d = given 3 (eqb (clock cs a .used) 0) (given 4 (unused 0 b c d) never)
 
 unfoldable pub startEffect : List ℕ → ℕ → After (List ℕ)
 startEffect cs a = accepted done 0 (withClock cs a (withLeft (clock cs a) (clock cs a .first)))
@@ -50,5 +50,5 @@ unfoldable pub clockCall : List ℕ → List ℕ → ℕ → ℕ → ℕ → ℕ
 clockCall cs ws x number a b c d =
     if (eqb number 0x50) (called (createCases cs ws x a b d) (createEffect cs a b c))
     (if (eqb number 0x51) (called (deleteCases cs x a b c d) (deleteEffect cs a))
-    (if (eqb number 0x52) (called (startCases cs a b c d) (startEffect cs a))
-    (if (eqb number 0x53) (called (startCases cs a b c d) (stopEffect cs a)) (unknown cs))))
+    (if (eqb number 0x52) (called (startStopCases cs a b c d) (startEffect cs a))
+    (if (eqb number 0x53) (called (startStopCases cs a b c d) (stopEffect cs a)) (unknown cs))))

@@ -80,8 +80,8 @@ pendCases ms st x a b c d =
     (given 9 (pendWaits ms a b && switchOff st) never))))
 
 -- the oldest message is gone, and the first waiting writer's word, if any, is at the back
-unfoldable pub taken : Served → ℕ → Served
-taken q a =
+unfoldable pub oldestTaken : Served → ℕ → Served
+oldestTaken q a =
     if (waitsFirst (q .tasks) (q .lines) a writing)
     (requeued
     (served (q .tasks) (q .lines)
@@ -95,7 +95,7 @@ pendEffect q st a limit =
     (if (eqb limit 0) (accepted notMet 0 q)
     (accepted nowWaiting 0
     (requeued q (moved atBack (current st) (waiting (task (q .tasks) (current st)) reading a limit 0 0) (queue q)))))
-    (accepted done (getD (messages (q .objects) a) 0 0) (taken q a))
+    (accepted done (getD (messages (q .objects) a) 0 0) (oldestTaken q a))
 
 -- ---- the calls by number
 unfoldable pub mailboxCall : Served → List ℕ → ℕ → ℕ → ℕ → ℕ → ℕ → ℕ → Call Served

@@ -30,8 +30,8 @@ inCases st a b c d = given 4 (unused a b c d) (given 7 (not (ltb (state st DEPTH
 unfoldable pub inEffect : List ℕ → After (List ℕ)
 inEffect st = accepted done 0 (if (ltb (state st DEPTH) 8) (withState st DEPTH (state st DEPTH + 1)) st)
 
-unfoldable pub outCases : ℕ → ℕ → ℕ → ℕ → ℕ → Cases
-outCases x a b c d = given 2 (notI x) (given 4 (unused a b c d) never)
+unfoldable pub interruptCases : ℕ → ℕ → ℕ → ℕ → ℕ → Cases
+interruptCases x a b c d = given 2 (notI x) (given 4 (unused a b c d) never)
 
 unfoldable pub outEffect : List ℕ → After (List ℕ)
 outEffect st = accepted done 0 (withState st DEPTH (state st DEPTH - 1))

@@ -10,7 +10,7 @@ use Rattle.rules.specs.Lines.{Queued, queued}
 use Rattle.rules.specs.Waits.{woken}
 use Rattle.rules.specs.Swis.{Posts, posts, posted}
 use Rattle.rules.specs.Clocks.{withLeft}
-use Rattle.rules.specs.Switches.{offCases, offEffect, restoreCases, restoreEffect, inCases, inEffect, outCases, outEffect}
+use Rattle.rules.specs.Switches.{offCases, offEffect, restoreCases, restoreEffect, inCases, inEffect, interruptCases, outEffect}
 use Rattle.rules.specs.declared.Task.{Task}
 use Rattle.rules.specs.declared.Clock.{Clock}
 use Rattle.rules.specs.declared.AgedClock.{AgedClock}
@@ -104,5 +104,5 @@ switchCall t x number a b c d =
     (if (eqb number 0x72) (called (offCases (notT x) a b c d) (onState t (offEffect (t .state) TASKS)))
     (if (eqb number 0x73) (called (restoreCases (notT x) a b c d) (onState t (restoreEffect (t .state) TASKS a)))
     (if (eqb number 0x74) (called (inCases (t .state) a b c d) (onState t (inEffect (t .state))))
-    (if (eqb number 0x75) (called (outCases x a b c d) (onState t (outEffect (t .state))))
-    (if (eqb number 0x76) (called (outCases x a b c d) (accepted done 0 (ticked t))) (unknown t)))))))
+    (if (eqb number 0x75) (called (interruptCases x a b c d) (onState t (outEffect (t .state))))
+    (if (eqb number 0x76) (called (interruptCases x a b c d) (accepted done 0 (ticked t))) (unknown t)))))))

@@ -7,7 +7,7 @@ use rules::Swis;
 use rules::Tasks;
 ghost use mathlib.Core.Path.{_≡_};
 ghost use Rattle.rules.specs.Answer.{after, answered, called, accepted, done};
-ghost use Rattle.rules.specs.Switches.{outCases};
+ghost use Rattle.rules.specs.Switches.{interruptCases};
 ghost use Rattle.rules.specs.Tick.{tickedOf, ticked, switchCall};
 
 pub mod state;
@@ -26,9 +26,9 @@ pub fn tick_call(
     c: u32,
     d: u32,
 ) -> Answer
-    ensures { λ r. ⌜ after r (tickedOf (now (tasks .exit)) (now (lines .exit)) (now (swis .exit)) (now (clocks .exit)) (now (state .exit))) ≡ answered (tickedOf (now (tasks .entry)) (now (lines .entry)) (now (swis .entry)) (now (clocks .entry)) (now (state .entry))) (called (outCases x a b c d) (accepted done 0 (ticked (tickedOf (now (tasks .entry)) (now (lines .entry)) (now (swis .entry)) (now (clocks .entry)) (now (state .entry)))))) ⌝ }
+    ensures { λ r. ⌜ after r (tickedOf (now (tasks .exit)) (now (lines .exit)) (now (swis .exit)) (now (clocks .exit)) (now (state .exit))) ≡ answered (tickedOf (now (tasks .entry)) (now (lines .entry)) (now (swis .entry)) (now (clocks .entry)) (now (state .entry))) (called (interruptCases x a b c d) (accepted done 0 (ticked (tickedOf (now (tasks .entry)) (now (lines .entry)) (now (swis .entry)) (now (clocks .entry)) (now (state .entry)))))) ⌝ }
 {
-    let code = state::out_code(x, a, b, c, d);
+    let code = state::interrupt_code(x, a, b, c, d);
     if code != 0 {
         return rows::answers::refused(code);
     }

@@ -5,7 +5,7 @@ ghost use mathlib.Core.Path.{_≡_};
 ghost use Prim.Native.Nat.{_-_};
 ghost use Rattle.rules.specs.Answer.{after, answered, called, codeOf, notT, notTS, notI};
 ghost use Rattle.rules.specs.Tables.{SWIS, TASKS};
-ghost use Rattle.rules.specs.Switches.{wasOn, offCases, offEffect, restoreCases, restoreEffect, inCases, inEffect, outCases, outEffect};
+ghost use Rattle.rules.specs.Switches.{wasOn, offCases, offEffect, restoreCases, restoreEffect, inCases, inEffect, interruptCases, outEffect};
 
 // ---- 70 and 72: a switch off
 
@@ -131,8 +131,8 @@ pub fn interrupt_in(state: &mut State, a: u32, b: u32, c: u32, d: u32) -> Answer
     rows::answers::accepted(0, 0)
 }
 
-pub fn out_code(x: u32, a: u32, b: u32, c: u32, d: u32) -> u32
-    ensures { λ r. ⌜ r ≡ codeOf (outCases x a b c d) ⌝ }
+pub fn interrupt_code(x: u32, a: u32, b: u32, c: u32, d: u32) -> u32
+    ensures { λ r. ⌜ r ≡ codeOf (interruptCases x a b c d) ⌝ }
 {
     if x != 2 {
         return 2;
@@ -155,9 +155,9 @@ pub fn one_less(n: u32) -> u32
 
 // 75 interrupt out.
 pub fn interrupt_out(state: &mut State, x: u32, a: u32, b: u32, c: u32, d: u32) -> Answer
-    ensures { λ r. ⌜ after r (now (state .exit)) ≡ answered (now (state .entry)) (called (outCases x a b c d) (outEffect (now (state .entry)))) ⌝ }
+    ensures { λ r. ⌜ after r (now (state .exit)) ≡ answered (now (state .entry)) (called (interruptCases x a b c d) (outEffect (now (state .entry)))) ⌝ }
 {
-    let code = out_code(x, a, b, c, d);
+    let code = interrupt_code(x, a, b, c, d);
     if code != 0 {
         return rows::answers::refused(code);
     }

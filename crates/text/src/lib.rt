@@ -1,7 +1,9 @@
 // The text of a replay in a lent buffer. Each function writes at a place and says where the text ends; what does not fit is left off.
 use rules::Answer;
 use rules::Thread;
+ghost use mathlib.Core.Path.{_≡_};
 ghost use mathlib.Core.List.{_∷_, [], _++_};
+ghost use lib.ListN.{take};
 ghost use Rattle.rules.specs.Text.{digits, decimal, space, lineFeed, threadText, lineText, wordText};
 ghost use Rattle.text.specs.Put.{Put};
 
@@ -79,7 +81,7 @@ pub fn put_line(out: &mut Text, at: usize, n: u64, answer: Answer, thread: Threa
 }
 
 // A text as it is.
-fn put_text(out: &mut Text, at: usize, text: &[u8]) -> usize
+pub fn put_text(out: &mut Text, at: usize, text: &[u8]) -> usize
     ensures { λ r. ⌜ Put (now (out .entry)) at (now (text .entry)) (now (out .exit)) r ⌝ }
 {
     let mut p = at;
@@ -99,4 +101,14 @@ pub fn put_word(out: &mut Text, at: usize, word: &[u8], n: u64) -> usize
     let q = put_byte(out, p, b' ');
     let end = put_decimal(out, q, n);
     put_byte(out, end, b'\n')
+}
+
+// The first n bytes; all where there are fewer.
+pub fn front<'a>(bytes: &'a [u8], n: usize) -> &'a [u8]
+    ensures { λ r. ⌜ now r ≡ take n (now (bytes .entry)) ⌝ }
+{
+    if n < bytes.len() {
+        return &bytes[..n];
+    }
+    bytes
 }

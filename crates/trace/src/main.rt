@@ -117,7 +117,7 @@ fn told(t: Tables, n: u64, number: u8, bytes: &[u8]) -> Tables {
     let b = calllog::argument(bytes, 1);
     let c = calllog::argument(bytes, 2);
     let d = calllog::argument(bytes, 3);
-    let s = kernel::entries::call(t, number as u32, a, b, c, d);
+    let s = entries::call(t, number as u32, a, b, c, d);
     let next = s.tables;
     let answer = s.answer;
     let thread = s.thread;
@@ -204,7 +204,7 @@ fn turn(fd: i32, c: Carried, path: &[u8]) -> Carried {
 // number that no log has.
 fn trace_all(fd: i32, path: &[u8]) {
     let mut c = Carried {
-        tables: kernel::entries::fresh(),
+        tables: entries::fresh(),
         count: 0,
         offset: 0,
         going: true,

@@ -1,5 +1,7 @@
 // The calls of a log, one after the other, each by both entries.
-use kernel::entries;
+use super::print::print_call;
+use super::print::print_heading;
+use super::print::print_word;
 use rules::Clocks;
 use rules::Events;
 use rules::Heap;
@@ -11,9 +13,6 @@ use rules::State;
 use rules::Swis;
 use rules::Tables;
 use rules::Tasks;
-use trying::print::print_call;
-use trying::print::print_heading;
-use trying::print::print_word;
 use trying::trial::Call;
 use trying::trial::try_call;
 
@@ -56,7 +55,7 @@ fn try_record(
         state,
         k,
     );
-    print_call(n, tried, b"\n");
+    print_call(n, tried);
     let step = tried.step;
     step.tables
 }

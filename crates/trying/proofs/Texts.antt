@@ -1,21 +1,49 @@
--- A text at the start of a buffer ends within it, and a line is not empty.
-use Prim.Native.Nat.{ℕ, _-_, _≤_}
-use mathlib.Core.Path.{_≡_, sym, ap, _∙_}
-use mathlib.Core.List.{List, _++_}
+-- A line whose end is written over by the rest of it.
+use Prim.Native.Nat.{ℕ, suc, _+_, _-_, _≤_}
+use mathlib.Core.Path.{_≡_, refl, ap, _∙_}
+use mathlib.Core.List.{List, [], _∷_, _++_, append-assoc}
 use native.Mathlib.Omega.{arith}
-use lib.ListN.{length, take, length-take, length-append}
-use lib.Seq.{length-sets, length-take-le}
+use lib.ListN.{length, set, length-append, length-take}
+use lib.Seq.{sets, set-set}
+use Rattle.fold.proofs.Runs.{sets-append}
 use Rattle.rules.specs.Text.{lineFeed}
 use Rattle.text.specs.Put.{fitting, Put}
+use Rattle.text.proofs.Puts.{fits, put-more}
 
-module _ {xs ys t : List ℕ} {r : ℕ} where
-  pub within : length xs ≡ 16384 → Put xs 0 t ys r → r ≤ length ys
-  unfolding fitting
-  within e p = omega (arith, ap length (p .bytes) ∙ length-sets xs 0 (take 16384 t), length-take 16384 t, p .end)
+over-one : (xs : List ℕ) (at b : ℕ) (u : List ℕ) → 1 ≤ length u → sets (sets xs at (b ∷ [])) at u ≡ sets xs at u
+over-one xs at b [] h = absurd (omega arith)
+over-one xs at b (c ∷ u) h = ap (λ (l : List ℕ). sets l (suc at) u) (set-set xs at b c)
 
-pub some : {xs ys : List ℕ} {r : ℕ} (s : List ℕ) → Put xs 0 (s ++ lineFeed) ys r → 1 ≤ r
+-- something fits behind a short line
+some-fits : (s t : List ℕ) → length s ≤ 105 → 1 ≤ length (fitting (length s) (t ++ lineFeed))
 unfolding fitting
-some s p = omega (arith, length-take 16384 (s ++ lineFeed), length-append s lineFeed, p .end)
+some-fits s t h = omega (arith, length-take (16384 - length s) (t ++ lineFeed), length-append t lineFeed)
 
-pub counted : {n : ℕ} (ys : List ℕ) → n ≤ length ys → n ≡ length (take n ys)
-counted {n} ys h = sym (length-take-le n ys h)
+module _ {xs ys : List ℕ} {r : ℕ} (s : List ℕ) (h : length (s ++ lineFeed) ≤ 106) (p : Put xs 0 (s ++ lineFeed) ys r) where
+  short : length s ≤ 105
+  short = omega (arith, length-append s lineFeed)
+
+  ends : r ≡ length s + 1
+  ends = omega (arith, p .end, ap length (fits 0 (s ++ lineFeed) (omega arith)), length-append s lineFeed)
+
+  pub some : 1 ≤ r
+  some = omega (arith, ends)
+
+  at-end : r - 1 ≡ length s
+  at-end = omega (arith, ends)
+
+  written : ys ≡ sets (sets xs 0 s) (length s) lineFeed
+  written =
+      let z : length s ≡ 0 + length s = omega arith in
+      p .bytes ∙ rw (fits 0 (s ++ lineFeed) (omega arith)) (rw z (sets-append s lineFeed xs 0))
+
+  first : Put xs 0 s (sets xs 0 s) (length s)
+  first = let e = fits 0 s (omega (arith, short)) in record { bytes = rw e; end = rw e (omega arith) }
+
+  pub put-over : (t : List ℕ) {zs : List ℕ} {q : ℕ} → Put ys (r - 1) (t ++ lineFeed) zs q → Put xs 0 ((s ++ t) ++ lineFeed) zs q
+  put-over t {zs} {q} n =
+      let m : Put (sets xs 0 s) (length s) (t ++ lineFeed) zs q = record {
+        bytes = n .bytes ∙ rw (at-end, written) (over-one (sets xs 0 s) (length s) 10 (fitting (length s) (t ++ lineFeed)) (some-fits s t short));
+        end = n .end ∙ rw at-end;
+      } in
+      rw append-assoc (put-more first m)

@@ -1,4 +1,4 @@
-// For the programs that try calls: one call by both entries, and the lines that are printed of it.
-pub mod print;
+// For the programs that try calls: one call by both entries, and the line that tells of it.
+pub mod put;
 pub mod same;
 pub mod trial;

@@ -3,7 +3,6 @@ use super::same::same_answer;
 use super::same::same_tables;
 use super::same::same_thread;
 use kernel::calls::Said;
-use kernel::entries;
 use rules::Clocks;
 use rules::Events;
 use rules::Heap;

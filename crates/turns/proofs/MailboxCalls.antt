@@ -7,7 +7,7 @@ use lib.Dec.{eqb}
 use Rattle.rules.specs.Tables.{Typed, mailbox, reading, writing, MESSAGES}
 use Rattle.rules.specs.Lines.{mailboxLine}
 use Rattle.rules.specs.Waits.{Served, served, queue, outside}
-use Rattle.rules.specs.Mailboxes.{waitsFirst, isFull, createEffect, deleteEffect, postCases, postEffect, taken, pendCases, pendEffect, mailboxCall}
+use Rattle.rules.specs.Mailboxes.{waitsFirst, isFull, createEffect, deleteEffect, postCases, postEffect, oldestTaken, pendCases, pendEffect, mailboxCall}
 use Rattle.rules.specs.Dispatch.{context}
 use Rattle.rules.specs.declared.Tables.{Tables}
 use Rattle.laws.proofs.Calls.{chosen}
@@ -35,8 +35,8 @@ module _ (t : Tables) (typed : Typed t) (q : Asked) (i : ℕ) (u : Unmoved t q i
       (λ e. current-moves t typed q i u (in-task _ (q .c) limited (eqb-false _ _ e)) _))
       (λ _. stay t i))
 
-  taken-leaves : q .number ≡ 0x43 → Left t i (queue (taken tq (q .a)))
-  unfolding taken servedLine
+  taken-leaves : q .number ≡ 0x43 → Left t i (queue (oldestTaken tq (q .a)))
+  unfolding oldestTaken servedLine
   taken-leaves number =
       chosen (λ (y : Served). Left t i (queue y)) (waitsFirst (t .tasks) (t .lines) (q .a) writing) _ _
       (λ e. first-moves t typed q i u (mailboxLine (q .a)) 0 0 (rw number) (first-waits (t .tasks) (t .lines) (q .a) writing e))

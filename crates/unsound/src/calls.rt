@@ -3,11 +3,11 @@ use super::changes::Change;
 use super::changes::changed;
 use super::flaws::Rule;
 use super::flaws::flaw;
+use super::print::print_call;
+use super::print::print_heading;
 use super::tables::busy;
 use super::tables::held;
 use rules::Tables;
-use trying::print::print_call;
-use trying::print::print_heading;
 use trying::same::same_tables;
 use trying::trial::Call;
 use trying::trial::Tried;
@@ -25,10 +25,10 @@ const INTERRUPT_IN: Call = Call {
 // The line of call n, and whether the tables are as they were.
 fn print_change(n: u64, tried: Tried, is_same: bool) {
     if is_same {
-        print_call(n, tried, b" same\n");
+        print_call(n, tried, b" same");
         return;
     }
-    print_call(n, tried, b" changed\n");
+    print_call(n, tried, b" changed");
 }
 
 // The call's line, and whether every table is as it was.

@@ -7,6 +7,7 @@ mod of_lines;
 mod of_objects;
 mod of_tasks;
 mod places;
+mod print;
 mod tables;
 
 use calls::try_sound;

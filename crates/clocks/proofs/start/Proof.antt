@@ -9,6 +9,6 @@ start-spec =
     (tie.spec
     (λ c κs. search needs)
     (λ c κs. search needs)
-    (λ c. refusal _ _ _ (c .before .before .start-code .ensures) (c .before .if1 .taken) (c .refused .ensures))
+    (λ c. refusal _ _ _ (c .before .before .start-stop-code .ensures) (c .before .if1 .taken) (c .refused .ensures))
     (λ c κs. search needs)
-    (λ c. effected _ _ _ (c .before .before .before .start-code .ensures) (c .before .before .if1 .left) (c .start-effect .ensures)))
+    (λ c. effected _ _ _ (c .before .before .before .start-stop-code .ensures) (c .before .before .if1 .left) (c .start-effect .ensures)))

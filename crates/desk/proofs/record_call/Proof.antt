@@ -13,4 +13,4 @@ record-call-spec =
     (λ c κs. search needs)
     (λ c κs. search needs)
     (λ c κs. search needs)
-    (λ c. let a = c .before .before .before .before .before .before .before .before .before .before .before .before .before .before .before .args in (call-is (tables (a .tasks .now) (a .lines .now) (a .semaphores .now) (a .events .now) (a .mailboxes .now) (a .swis .now) (a .clocks .now) (a .heap .now) (a .state .now)) (a .number) (a .bytes .now) (c .known-call .ensures .0) (c .before .before .before .before .before .before .before .before .before .before .before .before .before .argument .ensures) (c .before .before .before .before .before .before .before .before .before .before .before .before .argument2 .ensures) (c .before .before .before .before .before .before .before .before .before .before .before .argument3 .ensures) (c .before .before .before .before .before .before .before .before .before .before .argument4 .ensures), c .known-call .ensures .1)))
+    (λ c. let a = c .before .before .before .before .before .before .before .before .before .before .before .before .before .before .before .args in (call-is (tables (a .tasks .now) (a .lines .now) (a .semaphores .now) (a .events .now) (a .mailboxes .now) (a .swis .now) (a .clocks .now) (a .heap .now) (a .state .now)) (a .number) (a .bytes .now) (c .known-call .ensures .0) (c .before .before .before .before .argument .ensures) (c .before .before .before .argument2 .ensures) (c .before .before .argument3 .ensures) (c .before .argument4 .ensures), c .known-call .ensures .1)))

@@ -1,7 +1,6 @@
 use Prim.Native.Nat.{_-_}
-use native.Mathlib.Omega.{arith}
 use borrow.Author.Needs.{needs}
-use Rattle.heap.proofs.Runs.{NoRun, run-start, run-fits, run-here, run-later, run-next, run-end}
+use Rattle.heap.proofs.Runs.{NoRun, run-never, run-start, run-here, run-later, run-next, run-end}
 use Rattle.heap.proofs.lowest_run.Statement.{statement}
 use Rattle.heap.proofs.lowest_run.Tie as tie
 
@@ -17,11 +16,12 @@ lowest-run-spec =
     (tie.spec
     Inv-loop
     μ-loop
-    (λ c. run-start _ _)
+    (λ c. (run-never _ _ (c .if1 .taken), search needs))
+    (λ c. run-start _ _ (c .if1 .left))
+    (λ c. search needs)
     (λ c κs. search needs)
-    (λ c. (run-here _ _ _ _ (c .before .before .before .loop .inv) (c .before .before .loop-test .taken) (c .before .adjacent .ensures) (c .if1 .taken), search needs))
-    (λ c. omega (arith, run-fits _ _ _ _ (c .before .before .before .loop .inv) (c .before .before .loop-test .taken) (c .before .adjacent .ensures)))
+    (λ c. (run-here _ _ _ (c .before .before .before .loop .inv) _ (c .before .before .loop-test .taken) (c .before .free-from .ensures) (c .if2 .taken), search needs))
     (λ c κs. search needs)
-    (λ c. omega (arith, run-later _ _ _ _ (c .before .before .before .before .loop .inv) (c .before .before .before .loop-test .taken) (c .before .before .adjacent .ensures) (c .before .if1 .left) (c .first-free .ensures)))
-    (λ c. run-next _ _ _ _ (c .before .before .before .before .loop .inv) (c .before .before .before .loop-test .taken) (c .before .before .adjacent .ensures) (c .before .if1 .left) (c .first-free .ensures))
-    (λ c. (run-end _ _ _ (c .loop-test .left) (c .before .loop .inv), search needs)))
+    (λ c. run-later _ _ _ (c .before .before .before .before .loop .inv) _ (c .before .before .before .loop-test .taken) (c .before .before .free-from .ensures) (c .before .if2 .left) (c .first-free .ensures))
+    (λ c. run-next _ _ _ (c .before .before .before .before .loop .inv) _ (c .before .before .before .loop-test .taken) (c .before .before .free-from .ensures) (c .before .if2 .left) (c .first-free .ensures))
+    (λ c. (run-end _ _ _ (c .before .loop .inv) (c .loop-test .left), search needs)))

@@ -1,5 +1,5 @@
 use Rattle.text.proofs.Puts.{put-none}
-use Rattle.desk.specs.Part.{lastText}
+use Rattle.parts.specs.Part.{lastText}
 use borrow.Author.Needs.{needs}
 use Rattle.desk.proofs.last.put_last.Statement.{statement}
 use Rattle.desk.proofs.last.put_last.Tie as tie

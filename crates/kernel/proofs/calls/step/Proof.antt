@@ -10,5 +10,4 @@ step-spec =
     (λ c κs. search needs)
     (λ c κs. search needs)
     (λ c κs. search needs)
-    (λ c κs. search needs)
-    (λ c. step-is _ (c .before .before .before .before .before .before .before .before .before .before .before .before .before .before .before .before .before .before .before .before .pre) _ _ _ _ _ (c .before .before .before .before .before .before .before .before .before .before .before .before .before .before .before .before .before .context .ensures) (c .before .before .before .before .before .before .before .any-call .ensures) (c .before .before .before .settle .ensures) (c .running .ensures)))
+    (λ c. step-is _ (c .before .before .before .before .before .before .before .before .before .before .before .before .before .before .before .before .before .pre) _ _ _ _ _ (c .before .before .before .before .before .before .before .any-call .ensures) (c .before .before .before .settle .ensures) (c .running .ensures)))

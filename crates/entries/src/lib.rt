@@ -1,0 +1,181 @@
+// The entries: any tables, any number, any arguments.
+use kernel::calls::Said;
+use rules::Clocks;
+use rules::Events;
+use rules::Heap;
+use rules::Lines;
+use rules::Mailboxes;
+use rules::Semaphores;
+use rules::State;
+use rules::Step;
+use rules::Swis;
+use rules::Tables;
+use rules::Tasks;
+use rules::Thread;
+ghost use mathlib.Core.Path.{_≡_};
+ghost use mathlib.Core.Bool.{cond};
+ghost use Rattle.rules.specs.Tables.{tables};
+ghost use Rattle.rules.specs.Fresh.{fresh};
+ghost use Rattle.rules.specs.Dispatch.{running};
+ghost use Rattle.rules.specs.Sound.{sound};
+ghost use Rattle.rules.specs.Step.{stepOf, call};
+ghost use Rattle.rules.specs.declared.Thread.the-variants.{Task};
+
+// Fresh tables.
+pub fn fresh() -> Tables
+    ensures { λ r. ⌜ r ≡ fresh ⌝ }
+{
+    rows::fresh()
+}
+
+// One call on lent tables: code 10 and no change where they are not sound.
+pub fn call_in_place(
+    tasks: &mut Tasks,
+    lines: &mut Lines,
+    semaphores: &mut Semaphores,
+    events: &mut Events,
+    mailboxes: &mut Mailboxes,
+    swis: &mut Swis,
+    clocks: &mut Clocks,
+    heap: &mut Heap,
+    state: &mut State,
+    number: u32,
+    a: u32,
+    b: u32,
+    c: u32,
+    d: u32,
+) -> Said
+    ensures { λ r. ⌜ stepOf (tables (now (tasks .exit)) (now (lines .exit)) (now (semaphores .exit)) (now (events .exit)) (now (mailboxes .exit)) (now (swis .exit)) (now (clocks .exit)) (now (heap .exit)) (now (state .exit))) (r .answer) (r .thread)
+        ≡ call (tables (now (tasks .entry)) (now (lines .entry)) (now (semaphores .entry)) (now (events .entry)) (now (mailboxes .entry)) (now (swis .entry)) (now (clocks .entry)) (now (heap .entry)) (now (state .entry))) number a b c d ⌝ }
+{
+    kernel::known::known_call(
+        false,
+        tasks,
+        lines,
+        semaphores,
+        events,
+        mailboxes,
+        swis,
+        clocks,
+        heap,
+        state,
+        number,
+        a,
+        b,
+        c,
+        d,
+    )
+}
+
+// The tables, and what was said.
+fn stepped(tables: Tables, said: Said) -> Step
+    ensures { λ r. ⌜ r ≡ stepOf tables (said .answer) (said .thread) ⌝ }
+{
+    let answer = said.answer;
+    let thread = said.thread;
+    Step {
+        tables,
+        answer,
+        thread,
+    }
+}
+
+// One call on tables by value.
+pub fn call(t: Tables, number: u32, a: u32, b: u32, c: u32, d: u32) -> Step
+    ensures { λ r. ⌜ r ≡ call t number a b c d ⌝ }
+{
+    let mut tasks = t.tasks;
+    let mut lines = t.lines;
+    let mut semaphores = t.semaphores;
+    let mut events = t.events;
+    let mut mailboxes = t.mailboxes;
+    let mut swis = t.swis;
+    let mut clocks = t.clocks;
+    let mut heap = t.heap;
+    let mut state = t.state;
+    let said = call_in_place(
+        &mut tasks,
+        &mut lines,
+        &mut semaphores,
+        &mut events,
+        &mut mailboxes,
+        &mut swis,
+        &mut clocks,
+        &mut heap,
+        &mut state,
+        number,
+        a,
+        b,
+        c,
+        d,
+    );
+    let tables = Tables {
+        tasks,
+        lines,
+        semaphores,
+        events,
+        mailboxes,
+        swis,
+        clocks,
+        heap,
+        state,
+    };
+    stepped(tables, said)
+}
+
+// The running thread of lent tables: T0 where they are not sound.
+pub fn thread(
+    tasks: &Tasks,
+    lines: &Lines,
+    semaphores: &Semaphores,
+    events: &Events,
+    mailboxes: &Mailboxes,
+    swis: &Swis,
+    clocks: &Clocks,
+    heap: &Heap,
+    state: &State,
+) -> Thread
+    ensures { λ r. ⌜ r
+        ≡ cond (sound (tables (now (tasks .entry)) (now (lines .entry)) (now (semaphores .entry)) (now (events .entry)) (now (mailboxes .entry)) (now (swis .entry)) (now (clocks .entry)) (now (heap .entry)) (now (state .entry)))) (running (now (lines .entry)) (now (state .entry))) (Task 0) ⌝ }
+{
+    if sound::is_sound(
+        tasks,
+        lines,
+        semaphores,
+        events,
+        mailboxes,
+        swis,
+        clocks,
+        heap,
+        state,
+    ) {
+        return dispatch::running(lines, state);
+    }
+    Thread::Task(0)
+}
+
+// The running thread of tables by value.
+pub fn thread_of(t: Tables) -> Thread
+    ensures { λ r. ⌜ r ≡ cond (sound t) (running (t .lines) (t .state)) (Task 0) ⌝ }
+{
+    let tasks = t.tasks;
+    let lines = t.lines;
+    let semaphores = t.semaphores;
+    let events = t.events;
+    let mailboxes = t.mailboxes;
+    let swis = t.swis;
+    let clocks = t.clocks;
+    let heap = t.heap;
+    let state = t.state;
+    thread(
+        &tasks,
+        &lines,
+        &semaphores,
+        &events,
+        &mailboxes,
+        &swis,
+        &clocks,
+        &heap,
+        &state,
+    )
+}

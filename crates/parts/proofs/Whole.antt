@@ -1,0 +1,312 @@
+-- The texts of a log's parts, one after the other, are the text of the whole log, however it is cut.
+use Prim.Native.Nat.{ℕ, zero, suc, _+_, _-_, _*_, _/_, _^_, _≤_, _<_}
+use mathlib.Core.Path.{_≡_, refl, sym, ap, _∙_}
+use mathlib.Core.Logic.{_⊎_, inl, inr, ⊎-elim}
+use mathlib.Core.Bool.{Bool, true, false, _||_, cond as if, true≢false, false≢true}
+use mathlib.Core.List.{List, [], _∷_, _++_, append-nil, append-assoc, flatten}
+use native.Mathlib.Nat.{sub-zero, add-zero}
+use native.Mathlib.Omega.{arith}
+use lib.Dec.{ltb, leb, eqb}
+use lib.ListN.{length, getD, drop, length-append, length-drop, List·getD-append}
+use lib.Seq.{drop-drop, drop-append-le, take-append-le, getD-drop}
+use borrow.Author.Tests.{lt-ltb, le-ltb, eq-eqb, ne-eqb, leb-true}
+use Rattle.fold.proofs.Laws.{same?, lt-or-le}
+use Rattle.rules.specs.Fresh.{fresh}
+use Rattle.rules.specs.Log.{halfAt, readAt, argumentBytes}
+use Rattle.rules.specs.Text.{lineText, lineFeed, wordText, textOf, endWord, cutWord, lengthWord, versionWord}
+use Rattle.rules.specs.Replay.{recordCall, linesFor, linesFrom, replayLines, replayText}
+use Rattle.rules.specs.declared.Read.{Read}
+use Rattle.rules.specs.declared.Read.the-variants.{Record, End, Cut, Length, Version}
+use Rattle.rules.specs.declared.Tables.{Tables}
+use Rattle.calllog.proofs.Records.{record-fits}
+use Rattle.parts.specs.Part.{kept, Left, textBefore, waiting, lastText, over, partFor, readable, partOf, turn, start, written}
+use Rattle.parts.proofs.Steps.{linesAt, lines-step, partAt, part-whole, part-step}
+
+-- ---- what is read in a part is what is read in the log
+shifted : ℕ → Read → Read
+shifted o (Record number start) = Record number (o + start)
+shifted o End = End
+shifted o (Cut k) = Cut (o + k)
+shifted o (Length k) = Length (o + k)
+shifted o (Version k) = Version (o + k)
+
+-- by the tests of `readAt`
+abbrev found : Bool → Bool → Bool → Bool → Bool → Bool → ℕ → ℕ → Read
+found a b c d e f number at =
+    if a (Cut at) (if b End (if c (Cut at) (if d (if e (Cut at) (if f (Record number (at + 4)) (Version at))) (Length at))))
+
+found-shifted : (a b c d e f : Bool) (number o at : ℕ) → found a b c d e f number (o + at) ≡ shifted o (found a b c d e f number at)
+unfolding shifted
+found-shifted true b c d e f number o at = refl
+found-shifted false true c d e f number o at = refl
+found-shifted false false true d e f number o at = refl
+found-shifted false false false true true f number o at = refl
+found-shifted false false false true false true number o at = let p : o + at + 4 ≡ o + (at + 4) = omega arith in rw p
+found-shifted false false false true false false number o at = refl
+found-shifted false false false false e f number o at = refl
+
+-- a fault is at the position
+placeOf : Read → ℕ → ℕ
+placeOf (Record number start) at = at
+placeOf End at = at
+placeOf (Cut k) at = k
+placeOf (Length k) at = k
+placeOf (Version k) at = k
+
+found-place : (a b c d e f : Bool) (number at : ℕ) → placeOf (found a b c d e f number at) at ≡ at
+unfolding placeOf
+found-place true b c d e f number at = refl
+found-place false true c d e f number at = refl
+found-place false false true d e f number at = refl
+found-place false false false true true f number at = refl
+found-place false false false true false true number at = refl
+found-place false false false true false false number at = refl
+found-place false false false false e f number at = refl
+
+read-place : (s : List ℕ) (at : ℕ) (r : Read) → readAt s at ≡ r → placeOf r at ≡ at
+unfolding readAt
+read-place s at r e =
+    rw (← e)
+    (found-place
+    (ltb (length s) at)
+    (eqb (length s) at)
+    (eqb (length s - at) 1)
+    (eqb (halfAt s at) 18)
+    (ltb (length s - at) 20)
+    (eqb (getD s (at + 2) 0) 1)
+    (getD s (at + 3) 0)
+    at)
+
+eqb-same : (a b c d : ℕ) → (a ≡ b → c ≡ d) → (c ≡ d → a ≡ b) → eqb a b ≡ eqb c d
+eqb-same a b c d f g =
+    ⊎-elim (λ (e : a ≡ b). eq-eqb a b e ∙ sym (eq-eqb c d (f e))) (λ n. ne-eqb a b n ∙ sym (ne-eqb c d (λ e. n (g e)))) (same? a b)
+
+ltb-same : (a b c d : ℕ) → (a < b → c < d) → (b ≤ a → d ≤ c) → ltb a b ≡ ltb c d
+ltb-same a b c d f g =
+    ⊎-elim (λ (e : a < b). lt-ltb a b e ∙ sym (lt-ltb c d (f e))) (λ (n : b ≤ a). le-ltb a b n ∙ sym (le-ltb c d (g n))) (lt-or-le a b)
+
+-- part s stands at offset o of log w, and l follows it
+pub record Stands (w : List ℕ) (o : ℕ) (s l : List ℕ) : Type 0 where
+  pub bytes : drop o w ≡ s ++ l
+  pub inside : o ≤ length w
+
+module _ (w : List ℕ) (o : ℕ) (s l : List ℕ) (p : Stands w o s l) where
+  long : length w ≡ o + length s + length l
+  long = omega (arith, p .inside, length-drop o w, ap length (p .bytes), length-append s l)
+
+  -- there is enough of the part, or nothing follows it
+  Enough : ℕ → Type 0
+  Enough n = (n ≤ length s) ⊎ (l ≡ [])
+
+  byte-in : (i : ℕ) → Enough (suc i) → getD w (o + i) 0 ≡ getD s i 0
+  unfolding Enough
+  byte-in i h =
+      sym (getD-drop o w i 0)
+      ∙ ap (λ (x : List ℕ). getD x i 0) (p .bytes)
+      ∙ ⊎-elim (λ (q : suc i ≤ length s). List·getD-append s l 0 i q) (λ (e : l ≡ []). rw (e, append-nil s)) h
+
+  module _ (at : ℕ) (q : at ≤ length s) (h : Enough (at + 20)) where
+    fewer : (n : ℕ) → n ≤ 20 → Enough (at + n)
+    unfolding Enough
+    fewer n k = ⊎-elim (λ (g : at + 20 ≤ length s). inl (omega arith)) inr h
+
+    byte-at : (i : ℕ) → i < 20 → getD w (o + at + i) 0 ≡ getD s (at + i) 0
+    byte-at i k =
+        let e : o + at + i ≡ o + (at + i) = omega arith in
+        let g : Enough (suc (at + i)) = let f : at + suc i ≡ suc (at + i) = omega arith in rw f at (fewer (suc i) (omega arith)) in
+        rw e (byte-in (at + i) g)
+
+    read-in : readAt w (o + at) ≡ shifted o (readAt s at)
+    unfolding readAt Enough
+    read-in =
+        let n = long in
+        let e : (l ≡ []) → length l ≡ 0 = λ z. ap length z in
+        let z : o + at + 0 ≡ o + at = omega arith in
+        let z′ : at + 0 ≡ at = omega arith in
+        let a : ltb (length w) (o + at) ≡ ltb (length s) at = le-ltb (length w) (o + at) (omega arith) ∙ sym (le-ltb (length s) at q) in
+        let b : eqb (length w) (o + at) ≡ eqb (length s) at =
+        ⊎-elim
+        (λ (g : at + 20 ≤ length s). eqb-same (length w) (o + at) (length s) at (λ k. absurd (omega arith)) (λ k. absurd (omega arith)))
+        (λ (g : l ≡ []). let m = e g in eqb-same (length w) (o + at) (length s) at (λ k. omega arith) (λ k. omega arith))
+        h in
+        let c : eqb (length w - (o + at)) 1 ≡ eqb (length s - at) 1 =
+        ⊎-elim
+        (λ (g : at + 20 ≤ length s). eqb-same (length w - (o + at)) 1 (length s - at) 1 (λ k. absurd (omega arith)) (λ k. absurd (omega arith)))
+        (λ (g : l ≡ []). let m = e g in eqb-same (length w - (o + at)) 1 (length s - at) 1 (λ k. omega arith) (λ k. omega arith))
+        h in
+        let f : ltb (length w - (o + at)) 20 ≡ ltb (length s - at) 20 =
+        ⊎-elim
+        (λ (g : at + 20 ≤ length s). ltb-same (length w - (o + at)) 20 (length s - at) 20 (λ k. absurd (omega arith)) (λ k. omega arith))
+        (λ (g : l ≡ []). let m = e g in ltb-same (length w - (o + at)) 20 (length s - at) 20 (λ k. omega arith) (λ k. omega arith))
+        h in
+        let zero-at : getD w (o + at) 0 ≡ getD s at 0 = rw (z, z′) at (byte-at 0 (omega arith)) in
+        rw (a, b, c, f, zero-at, byte-at 1 (omega arith), byte-at 2 (omega arith), byte-at 3 (omega arith))
+        (found-shifted
+        (ltb (length s) at)
+        (eqb (length s) at)
+        (eqb (length s - at) 1)
+        (eqb (halfAt s at) 18)
+        (ltb (length s - at) 20)
+        (eqb (getD s (at + 2) 0) 1)
+        (getD s (at + 3) 0)
+        o
+        at)
+
+    arguments-in : (begin : ℕ) → begin + 16 ≤ at + 20 → begin + 16 ≤ length s → argumentBytes w (o + begin) ≡ argumentBytes s begin
+    unfolding argumentBytes
+    arguments-in begin g k =
+        rw (← drop-drop begin o w, p .bytes, drop-append-le begin s l (omega arith))
+        (take-append-le 16 (drop begin s) l (omega (arith, length-drop begin s)))
+
+-- ---- a line, and what follows it
+line-first : (x : List ℕ) (ls : List (List ℕ)) (y z : List ℕ) → textOf ls ≡ y ++ z → textOf (x ∷ ls) ≡ ((x ++ lineFeed) ++ y) ++ z
+unfolding textOf
+line-first x ls y z e = rw e (simp append-assoc)
+
+line-alone : (x : List ℕ) → textOf (x ∷ []) ≡ (x ++ lineFeed) ++ []
+unfolding textOf
+line-alone x = sym (append-nil (x ++ lineFeed))
+
+test-of : (b c : Bool) → (b || c) ≡ true → (b ≡ true) ⊎ (c ≡ true)
+test-of true c e = inl refl
+test-of false c e = inr e
+
+no-test : (b c : Bool) → (b || c) ≡ false → b ≡ true → ⊥
+no-test true c e h = true≢false e
+no-test false c e h = false≢true h
+
+-- ---- one part of log w
+module _ (w : List ℕ) (small : length w < 2 ^ 64) where
+  -- the text that is still to come
+  unfoldable after : Left → List ℕ
+  after m = if (m .ended) [] (textOf (linesAt w (m .offset) (m .count) (m .tables)))
+
+  -- a part's share of text x, and where the rest goes on
+  record Goes (l x : List ℕ) (last : Bool) (m : Left) : Type 0 where
+    text : x ≡ m .text ++ after m
+    stands : m .ended ≡ false → Stands w (m .offset) (m .rest) l
+    count : m .ended ≡ false → m .count ≤ m .offset
+    ends : last ≡ true → m .ended ≡ true
+
+  module _ (last : Bool) (o : ℕ) (s l : List ℕ) (p : Stands w o s l) (z : last ≡ true → l ≡ []) where
+    module _ (at n : ℕ) (t : Tables) (q : at ≤ length s) (c : n ≤ o + at) where
+      offset-is : kept (o + at) ≡ o + at
+      offset-is = omega (arith, long w o s l p)
+
+      enough : readable last s at ≡ true → Enough w o s l p (at + 20)
+      unfolding Enough
+      enough e =
+          ⊎-elim
+          (λ (h : last ≡ true). inr (z h))
+          (λ (h : leb 20 (length s - at) ≡ true). inl (omega (arith, leb-true 20 (length s - at) h)))
+          (test-of last (leb 20 (length s - at)) e)
+
+      -- the bytes wait
+      waits-goes : readable last s at ≡ false → Goes l (textOf (linesAt w (o + at) n t)) last (waiting s o at n t)
+      unfolding after
+      waits-goes e =
+          record {
+            text = rw offset-is;
+            stands = λ h.
+                rw offset-is
+                (record { bytes = sym (drop-drop at o w) ∙ rw (p .bytes) (drop-append-le at s l q); inside = omega (arith, long w o s l p) });
+            count = λ h. rw offset-is c;
+            ends = λ h. absurd (no-test last (leb 20 (length s - at)) e h);
+          }
+
+      -- the last line
+      ended-goes : (r : Read) (x : List ℕ) → x ++ lineFeed ≡ lastText r o n → Goes l (textOf (x ∷ [])) last (over r s o n t)
+      unfolding after
+      ended-goes r x e =
+          record {
+            text = line-alone x ∙ rw e;
+            stands = λ h. absurd (true≢false h);
+            count = λ h. absurd (true≢false h);
+            ends = λ h. refl;
+          }
+
+      -- a line, and what follows it
+      line-goes : (y : List ℕ) (ls : List (List ℕ)) (m : Left) → Goes l (textOf ls) last m → Goes l (textOf (y ∷ ls)) last (textBefore (y ++ lineFeed) m)
+      unfolding after
+      line-goes y ls m g =
+          record { text = line-first y ls (m .text) (after m) (g .text); stands = g .stands; count = g .count; ends = g .ends }
+
+      fault-is : (r : Read) → readAt s at ≡ r → kept (o + placeOf r at) ≡ o + placeOf r at
+      fault-is r e = rw (read-place s at r e) offset-is
+
+      read-goes : (r : Read) → readAt s at ≡ r → readable last s at ≡ true
+          → ((next m : ℕ) (u : Tables) → next ≡ at + 20 → next ≤ length s → m ≤ o + next → Goes l (textOf (linesAt w (o + next) m u)) last (partAt last s o next m u))
+          → Goes l (textOf (linesFor (shifted o r) w n t (λ next u. linesAt w next (suc n) u))) last (partFor r s o at n t (λ next m u. partAt last s o next m u))
+      unfolding shifted placeOf lastText
+      read-goes (Record number begin) e b ih =
+          let f = record-fits s at number begin e in
+          let a : argumentBytes w (o + begin) ≡ argumentBytes s begin =
+          arguments-in w o s l p at q (enough b) begin (omega arith) (omega arith) in
+          let m : kept (n + 1) ≡ suc n = omega (arith, long w o s l p) in
+          let x : o + begin + 16 ≡ o + (begin + 16) = omega arith in
+          rw (a, m, x)
+          (line-goes
+          (lineText (suc n) (recordCall t number (argumentBytes s begin) .answer) (recordCall t number (argumentBytes s begin) .thread))
+          (linesAt w (o + (begin + 16)) (suc n) (recordCall t number (argumentBytes s begin) .tables))
+          (partAt last s o (begin + 16) (suc n) (recordCall t number (argumentBytes s begin) .tables))
+          (ih (begin + 16) (suc n) (recordCall t number (argumentBytes s begin) .tables) (omega arith) (omega arith) (omega arith)))
+      read-goes End e b ih = ended-goes End (wordText endWord n) refl
+      read-goes (Cut k) e b ih = ended-goes (Cut k) (wordText cutWord (o + k)) (rw (fault-is (Cut k) e))
+      read-goes (Length k) e b ih = ended-goes (Length k) (wordText lengthWord (o + k)) (rw (fault-is (Length k) e))
+      read-goes (Version k) e b ih = ended-goes (Version k) (wordText versionWord (o + k)) (rw (fault-is (Version k) e))
+
+      test-goes : (b : Bool) → readable last s at ≡ b
+          → ((next m : ℕ) (u : Tables) → next ≡ at + 20 → next ≤ length s → m ≤ o + next → Goes l (textOf (linesAt w (o + next) m u)) last (partAt last s o next m u))
+          → Goes l (textOf (linesAt w (o + at) n t)) last (if b (partFor (readAt s at) s o at n t (λ next m u. partAt last s o next m u)) (waiting s o at n t))
+      test-goes true e ih = rw (lines-step w (o + at) n t, read-in w o s l p at q (enough e)) (read-goes (readAt s at) refl e ih)
+      test-goes false e ih = waits-goes e
+
+    goes : (k at n : ℕ) (t : Tables) → length s - at < 20 * k → at ≤ length s → n ≤ o + at
+        → Goes l (textOf (linesAt w (o + at) n t)) last (partAt last s o at n t)
+    goes zero at n t f q c = absurd (omega arith)
+    goes (suc k) at n t f q c =
+        rw (part-step last s o at n t)
+        (test-goes at n t q c (readable last s at) refl (λ next m u e g h. goes k next m u (omega arith) g h))
+
+    part-goes : (n : ℕ) (t : Tables) → n ≤ o → Goes l (textOf (linesAt w o n t)) last (partOf last s o n t)
+    part-goes n t c =
+        rw (part-whole last s o n t)
+        (rw add-zero at (goes (suc (length s)) 0 n t (omega arith) (omega arith) (omega arith)))
+
+  -- ---- part by part
+  after-none : (m : Left) → m .ended ≡ true → after m ≡ []
+  unfolding after
+  after-none m e = rw e
+
+  after-is : (m : Left) (x : List ℕ) (b : Bool) → m .ended ≡ b → (m .ended ≡ false → x ≡ textOf (linesAt w (m .offset) (m .count) (m .tables)))
+      → if b [] x ≡ if b [] (textOf (linesAt w (m .offset) (m .count) (m .tables)))
+  after-is m x true e f = refl
+  after-is m x false e f = f e
+
+  written-is : (cs : List (List ℕ)) (m : Left) → Stands w (m .offset) (m .rest) (flatten cs) → m .count ≤ m .offset
+      → written cs m ≡ textOf (linesAt w (m .offset) (m .count) (m .tables))
+  unfolding written after flatten
+  written-is [] m p c =
+      let stands : Stands w (m .offset) (m .rest ++ []) [] = rw append-nil p in
+      let g = part-goes true (m .offset) (m .rest ++ []) [] stands (λ h. refl) (m .count) (m .tables) c in
+      sym (g .text ∙ rw (after-none (turn true [] m) (g .ends refl)) (append-nil (turn true [] m .text)))
+  written-is (x ∷ cs) m p c =
+      let stands : Stands w (m .offset) (m .rest ++ x) (flatten cs) =
+      record { bytes = p .bytes ∙ sym (append-assoc (m .rest) x (flatten cs)); inside = p .inside } in
+      let g = part-goes false (m .offset) (m .rest ++ x) (flatten cs) stands (λ h. absurd (false≢true h)) (m .count) (m .tables) c in
+      ap
+      (λ (y : List ℕ). turn false x m .text ++ y)
+      (after-is
+      (turn false x m)
+      (written cs (turn false x m))
+      (turn false x m .ended)
+      refl
+      (λ h. written-is cs (turn false x m) (g .stands h) (g .count h)))
+      ∙ sym (g .text)
+
+-- however a log is cut, what is written for its parts is the text of its replay
+pub parts-are-whole : (cs : List (List ℕ)) → length (flatten cs) < 2 ^ 64 → written cs start ≡ replayText (flatten cs)
+unfolding replayText replayLines
+parts-are-whole cs small =
+    written-is (flatten cs) small cs start (record { bytes = refl; inside = omega arith }) (omega arith)
+    ∙ ap (λ (k : ℕ). textOf (linesFrom (suc (k / 20)) (flatten cs) 0 0 fresh)) (sub-zero (length (flatten cs)))

@@ -1,0 +1,94 @@
+-- Sentences of 01, each shown by a small case of its definition, so that a definition that says otherwise is refused at once.
+use Prim.Native.Nat.{ℕ}
+use mathlib.Core.Path.{_≡_, refl}
+use mathlib.Core.Bool.{true, false}
+use mathlib.Core.List.{List, [], _∷_, _++_}
+use Rattle.fold.specs.Lists.{zeros}
+use Rattle.fold.specs.Rule.{holds}
+use Rattle.rules.specs.Answer.{After, accepted, refused, called, answered, given, never, done}
+use Rattle.rules.specs.Tables.{task, forever, ready, atSemaphore}
+use Rattle.rules.specs.Lines.{line, joined, queued, semaphoreLine, activeLine, readyLine}
+use Rattle.rules.specs.Waits.{ticksFor, served}
+use Rattle.rules.specs.Tasks.{reprioritized}
+use Rattle.rules.specs.Swis.{posts, endEffect}
+use Rattle.rules.specs.Semaphores.{placeIn, postEffect}
+use Rattle.rules.specs.Events.{matched}
+use Rattle.rules.specs.Sound.{otherRule}
+use Rattle.rules.specs.Step.{settled, finished}
+use Rattle.rules.specs.declared.Tables.{Tables}
+use Rattle.rules.proofs.Computed.{computed}
+use Rattle.rules.proofs.Standing.{linesWith, _has_}
+
+-- tasks 1, at this priority, and 2, at 5, wait without end at semaphore 0
+abbrev pub waiters : ℕ → List ℕ
+waiters p = (ready ∷ zeros 7) ++ (atSemaphore ∷ p ∷ zeros 6) ++ (atSemaphore ∷ 5 ∷ zeros 6) ++ zeros 232
+
+-- their line, and task 0 ready
+abbrev pub waiting : List ℕ
+unfolding linesWith
+waiting = linesWith (semaphoreLine 0 has (1 ∷ 2 ∷ []) ∷ readyLine 0 has (0 ∷ []) ∷ [])
+
+-- a counting semaphore with this count
+abbrev pub counting : ℕ → List ℕ
+counting n = 1 ∷ 0 ∷ n ∷ zeros 45
+
+-- a Swi of priority 3 and initial trigger 5, with this taken trigger
+abbrev pub taking : ℕ → List ℕ
+taking n = 1 ∷ 3 ∷ 5 ∷ 5 ∷ 0 ∷ n ∷ zeros 90
+
+-- depth 0, both switches on, and this current task
+abbrev pub currently : ℕ → List ℕ
+currently i = 0 ∷ 1 ∷ 1 ∷ 0 ∷ i ∷ []
+
+pub record Sentences : Type 0 where
+  -- "a code is given exactly in its case": where no case holds the call has its effect
+  pub accepts : (t : List ℕ) (e : After (List ℕ)) → answered t (called never e) ≡ e
+  -- "A refusal has outcome 0, value 0 and no change"
+  pub refuses : (t : List ℕ) (e : After (List ℕ)) → answered t (called (given 5 true never) e) ≡ refused 5 t
+  -- 'The answer': what the call answered is given, whoever runs next
+  pub answers : (r : After Tables) → finished r .answer ≡ r .answer
+  -- "After each accepted call .. the current task becomes the front of the highest non-empty ready queue": from task 1, blocked, to task 0
+  pub dispatches : settled 0 [] waiting (currently 1) .state ≡ currently 0
+  -- "Tasks join queues at the back."
+  pub joins : line (joined (readyLine 0) 3 waiting) (readyLine 0) ≡ 0 ∷ 3 ∷ []
+  -- "02 set priority: .. a blocked task keeps its place in line"
+  pub keeps-place : reprioritized (queued (waiters 5) waiting) 1 6 ≡ queued (waiters 6) waiting
+  -- "Limit 4,294,967,295 is without end.", and any other is its ticks
+  pub without-end : ticksFor forever ≡ 0
+  pub limited : ticksFor 7 ≡ 7
+  -- "Kinds 0 and 1 wait in arrival order"
+  pub arrival : placeIn 0 (waiters 5) 5 (1 ∷ 2 ∷ []) ≡ 2
+  -- "23 post: .. the first waiter ready": the second waits on
+  pub wakes : line (postEffect (served (waiters 5) waiting (counting 0)) 0 .next .lines) (semaphoreLine 0) ≡ 2 ∷ []
+  -- "or value 0 and count one up", where nobody waits
+  pub counts : postEffect (served [] [] (counting 0)) 0 ≡ accepted done 0 (served [] [] (counting 1))
+  -- "the whole and-mask if all its bits are posted", and no part of it
+  pub no-part : matched 1 3 0 ≡ 0
+  pub whole-mask : matched 3 3 0 ≡ 3
+  -- "fields without meaning at the time (.., the taken trigger of a Swi not active)" are 0: a Swi that ends has none
+  pub ends : endEffect (posts (taking 2) (linesWith (activeLine has (0 ∷ []) ∷ []))) .next .swis ≡ taking 0
+  -- "fields without meaning at the time (.., an ended wait's data, ..)" are 0: a ready task has no ticks left
+  pub ended-wait : holds (otherRule (task (ready ∷ 5 ∷ 0 ∷ 1 ∷ zeros 4) 0)) ≡ false
+  pub no-wait : holds (otherRule (task (ready ∷ 5 ∷ zeros 6) 0)) ≡ true
+
+pub sentences : Sentences
+unfolding computed linesWith
+sentences =
+    record {
+      accepts = λ t e. refl;
+      refuses = λ t e. refl;
+      answers = λ r. refl;
+      dispatches = refl;
+      joins = refl;
+      keeps-place = refl;
+      without-end = refl;
+      limited = refl;
+      arrival = refl;
+      wakes = refl;
+      counts = refl;
+      no-part = refl;
+      whole-mask = refl;
+      ends = refl;
+      ended-wait = refl;
+      no-wait = refl;
+    }

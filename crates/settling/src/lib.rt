@@ -1,0 +1,91 @@
+// Dispatch after a call on sound tables: each part of the rule where it can have something to do.
+use rules::Answer;
+use rules::Lines;
+use rules::State;
+use rules::Swis;
+ghost use mathlib.Core.Path.{_≡_};
+ghost use mathlib.Core.Bool.{cond};
+ghost use Rattle.rules.specs.Dispatch.{swiDispatched, taskDispatched, dispatchedOf};
+ghost use Rattle.rules.specs.Swis.{posts};
+ghost use Rattle.settling.specs.Settle.{tasksOnly, bothParts, leftBy, settledAfter};
+
+// Which parts of the dispatch rule can have something to do: the Swis', the tasks'.
+struct Parts {
+    swis: bool,
+    tasks: bool,
+}
+
+// The tasks' part at most.
+fn tasks_only(some: bool) -> Parts
+    ensures { λ r. ⌜ r ≡ tasksOnly some ⌝ }
+{
+    Parts {
+        swis: false,
+        tasks: some,
+    }
+}
+
+// Both parts.
+fn both_parts() -> Parts
+    ensures { λ r. ⌜ r ≡ bothParts ⌝ }
+{
+    Parts {
+        swis: true,
+        tasks: true,
+    }
+}
+
+// What an accepted call on sound tables can have left to do. Before it there was nothing; calls of
+// Swis and switches apart no Swi moves, and the number and the answer tell where no task has.
+fn left_by(number: u32, outcome: u32, value: u32) -> Parts
+    ensures { λ r. ⌜ r ≡ leftBy number outcome value ⌝ }
+{
+    match number {
+        0x00..=0x0f => tasks_only((number != 0x01) & (number != 0x06)),
+        0x10..=0x1f => both_parts(),
+        0x20..=0x2f => tasks_only((outcome == 2) | ((number == 0x23) & (value != 0))),
+        0x30..=0x3f => tasks_only((outcome == 2) | ((number == 0x33) & (value != 0))),
+        0x40..=0x4f => tasks_only((0x41 < number) & (outcome != 1)),
+        0x50..=0x6f => tasks_only(false),
+        _ => both_parts(),
+    }
+}
+
+// The Swis' part of dispatch, where one may be due. None is at depth above 0, as after each tick: there
+// no search begins.
+fn settle_swis(some: bool, swis: &mut Swis, lines: &mut Lines, state: &State)
+    ensures { λ _. ⌜ posts (now (swis .exit)) (now (lines .exit))
+        ≡ cond some
+        (swiDispatched (now (state .entry)) (posts (now (swis .entry)) (now (lines .entry))))
+        (posts (now (swis .entry)) (now (lines .entry))) ⌝ }
+{
+    if some & (state[rows::words::DEPTH] == 0) {
+        dispatch::dispatch_swis(swis, lines, state);
+    }
+}
+
+// The tasks' part of dispatch, where one may be due.
+fn settle_tasks(some: bool, lines: &Lines, state: &mut State)
+    ensures { λ _. ⌜ now (state .exit)
+        ≡ cond some
+        (taskDispatched (now (lines .entry)) (now (state .entry)))
+        (now (state .entry)) ⌝ }
+{
+    if some {
+        dispatch::dispatch_tasks(lines, state);
+    }
+}
+
+// Dispatch, after an accepted call only, as far as it can have something to do.
+pub fn settle(number: u32, answer: Answer, swis: &mut Swis, lines: &mut Lines, state: &mut State)
+    ensures { λ _. ⌜ dispatchedOf (now (swis .exit)) (now (lines .exit)) (now (state .exit))
+        ≡ settledAfter number answer (now (swis .entry)) (now (lines .entry)) (now (state .entry)) ⌝ }
+{
+    let code = answer.code;
+    if code != 0 {
+        return;
+    }
+    let left = left_by(number, answer.outcome, answer.value);
+    settle_swis(left.swis, swis, lines, state);
+    settle_tasks(left.tasks, lines, state);
+}
