@@ -1,6 +1,7 @@
 -- What the code of a replay leaves behind: the answer, the text in its buffer and the lent tables at exit.
 use Prim.Native.Nat.{ℕ, _+_, _≤_}
 use mathlib.Core.Path.{_≡_}
+use mathlib.Core.Bool.{Bool}
 use mathlib.Core.List.{List, _++_}
 use lib.ListN.{length, drop}
 use lib.Seq.{sets}
@@ -11,6 +12,10 @@ use Rattle.text.specs.Put.{Put}
 use Rattle.parts.specs.Part.{kept, Left}
 use Rattle.desk.specs.declared.Ran.{Ran}
 use Rattle.desk.specs.declared.Progress.{Progress}
+
+-- where records stopped
+abbrev pub ranTo : ℕ → ℕ → ℕ → Bool → Ran
+ranTo at count len ended = record { at = at; count = count; len = len; ended = ended }
 
 -- the call of record n gave step s: tables t, and its line at a place of buffer xs, which is now ys
 pub record Lined (s : Step) (n : ℕ) (t : Tables) (xs : List ℕ) (at : ℕ) (ys : List ℕ) (r : ℕ) : Type 0 where

@@ -24,7 +24,7 @@ ghost use Rattle.rules.specs.Step.{stepOf};
 ghost use Rattle.rules.specs.Replay.{recordCall};
 ghost use Rattle.parts.specs.Part.{partOf};
 ghost use Rattle.kernel.specs.Known.{Known};
-ghost use Rattle.desk.specs.Done.{Lined, Gone, Turned};
+ghost use Rattle.desk.specs.Done.{ranTo, Lined, Gone, Turned};
 
 // A part of a log: the bytes that waited, and those that came.
 pub type Part = [u8; 2560];
@@ -119,6 +119,17 @@ pub struct Ran {
     pub ended: bool,
 }
 
+fn ran_to(at: usize, count: u64, len: usize, ended: bool) -> Ran
+    ensures { λ r. ⌜ r ≡ ranTo at count len ended ⌝ }
+{
+    Ran {
+        at,
+        count,
+        len,
+        ended,
+    }
+}
+
 // The records of a part that starts at an offset of the log, after `count` others, with what is known of the tables.
 fn known_records(
     known: bool,
@@ -148,12 +159,7 @@ fn known_records(
         let found = step.found;
         let Read::Record { number, start: _ } = found else {
             let end = last::put_last(out, len, found, offset, n);
-            return Ran {
-                at: log.len(),
-                count: n,
-                len: end,
-                ended: true,
-            };
+            return ran_to(log.len(), n, end, true);
         };
         n = std::num::wrapping_add_u64(n, 1);
         len = record_line(
@@ -176,12 +182,7 @@ fn known_records(
         );
         at = step.at;
     }
-    Ran {
-        at,
-        count: n,
-        len,
-        ended: false,
-    }
+    ran_to(at, n, len, false)
 }
 
 // The same, where the tables are tested once.
