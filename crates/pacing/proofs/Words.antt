@@ -1,9 +1,9 @@
 -- The words of a record behind those of the records before it; the rounds that a byte asks for.
-use Prim.Native.Nat.{ℕ, zero, suc, _+_, _-_, _*_, _^_, _≤_, _<_, min}
-use mathlib.Core.Path.{_≡_, refl, sym, ap, _∙_}
-use mathlib.Core.Logic.{_⊎_, inl, inr, ⊎-elim}
+use Prim.Native.Nat.{ℕ, zero, suc, _+_, _-_, _*_, _^_, _≤_, min}
+use mathlib.Core.Path.{_≡_, refl, sym, _∙_}
+use mathlib.Core.Logic.{_⊎_, ⊎-elim}
 use mathlib.Core.Bool.{Bool, true, false, _&&_, cond as if}
-use mathlib.Core.List.{List, [], _∷_, _++_}
+use mathlib.Core.List.{List, [], _∷_}
 use native.Mathlib.Numerals.{add-one}
 use native.Mathlib.Omega.{arith}
 use lib.Dec.{leb, ltb}
@@ -12,7 +12,7 @@ use lib.Seq.{sets}
 use borrow.Author.Tests.{leb-true, ltb-true}
 use Rattle.fold.proofs.Runs.{sets-append}
 use Rattle.rules.specs.Log.{argumentBytes, argument}
-use Rattle.pacing.specs.Pace.{wordsOf, recordWords, callWords, roundsBy, roundsFor}
+use Rattle.pacing.specs.Pace.{recordWords, callWords, roundsBy, roundsFor}
 
 five-each : (n : ℕ) (s : List ℕ) → length (callWords n s) ≡ n * 5
 unfolding callWords

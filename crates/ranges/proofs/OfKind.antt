@@ -2,11 +2,7 @@
 use Prim.Native.Nat.{ℕ, _+_, _*_, _/_, _≤_, _<_}
 use mathlib.Core.Path.{_≡_, refl, sym, ap, _∙_}
 use mathlib.Core.Logic.{_≢_}
-use mathlib.Core.Bool.{true, false, and-false}
 use native.Mathlib.Omega.{arith}
-use native.Mathlib.Nat.{le-trans}
-use borrow.Author.Tests.{lt-ltb, le-ltb, le-leb, leb-true}
-use lib.Dec.{leb}
 use Rattle.rules.specs.Answer.{Call, After, after, answered, codeOf, unknown}
 use Rattle.rules.specs.Lines.{Queued, queued}
 use Rattle.rules.specs.Waits.{Served, served}
@@ -18,7 +14,7 @@ use Rattle.rules.specs.Mailboxes.{mailboxCall}
 use Rattle.rules.specs.Clocks.{clockCall}
 use Rattle.rules.specs.Heap.{heapCall}
 use Rattle.rules.specs.Tick.{Ticked, tickedOf, switchCall}
-use Rattle.rules.specs.Step.{inRange, over, callOf, withQueued, withPosts, withSemaphores, withEvents, withMailboxes, withClocks, withHeap, withTicked}
+use Rattle.rules.specs.Step.{over, callOf, withQueued, withPosts, withSemaphores, withEvents, withMailboxes, withClocks, withHeap, withTicked}
 use Rattle.laws.proofs.Calls.{mapped, mapped-guarded}
 use Rattle.laws.proofs.Numbers.{within, past}
 use Rattle.rules.specs.declared.Answer.{Answer}

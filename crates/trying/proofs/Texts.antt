@@ -1,9 +1,9 @@
 -- A line whose end is written over by the rest of it.
 use Prim.Native.Nat.{ℕ, suc, _+_, _-_, _≤_}
-use mathlib.Core.Path.{_≡_, refl, ap, _∙_}
+use mathlib.Core.Path.{_≡_, ap, _∙_}
 use mathlib.Core.List.{List, [], _∷_, _++_, append-assoc}
 use native.Mathlib.Omega.{arith}
-use lib.ListN.{length, set, length-append, length-take}
+use lib.ListN.{length, length-append, length-take}
 use lib.Seq.{sets, set-set}
 use Rattle.fold.proofs.Runs.{sets-append}
 use Rattle.rules.specs.Text.{lineFeed}

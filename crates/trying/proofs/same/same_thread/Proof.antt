@@ -1,4 +1,4 @@
-use Rattle.trying.proofs.Compared.{equal, said-as, not-so, is-so, unlike}
+use Rattle.trying.proofs.Compared.{equal, said-as, is-so, unlike}
 use borrow.Author.Needs.{needs}
 use Rattle.trying.proofs.same.same_thread.Statement.{statement}
 use Rattle.trying.proofs.same.same_thread.Tie as tie
