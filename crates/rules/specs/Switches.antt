@@ -30,6 +30,7 @@ inCases st a b c d = given 4 (unused a b c d) (given 7 (not (ltb (state st DEPTH
 unfoldable pub inEffect : List ℕ → After (List ℕ)
 inEffect st = accepted done 0 (if (ltb (state st DEPTH) 8) (withState st DEPTH (state st DEPTH + 1)) st)
 
+-- of 75 out and of the tick, 76, which an interrupt alone may make
 unfoldable pub interruptCases : ℕ → ℕ → ℕ → ℕ → ℕ → Cases
 interruptCases x a b c d = given 2 (notI x) (given 4 (unused a b c d) never)
 
