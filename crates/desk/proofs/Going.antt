@@ -1,7 +1,7 @@
 -- What the code of a replay has done so far, and what it leaves when it stops.
 use Prim.Native.Nat.{ℕ, _+_, _-_, _≤_, _<_}
 use mathlib.Core.Path.{_≡_, refl, sym, ap, _∙_}
-use mathlib.Core.Bool.{Bool, true, false}
+use mathlib.Core.Bool.{Bool, true, false, not, _&&_, cond as if, true≢false}
 use mathlib.Core.List.{List, [], _∷_, _++_, append-nil, append-assoc}
 use native.Mathlib.Nat.{zero-add}
 use native.Mathlib.Omega.{arith}
@@ -9,139 +9,197 @@ use types.Run.{OneOf, miss}
 use denote.Enum.Declared.{tagOf}
 use lib.ListN.{length, take, drop, length-take}
 use lib.Seq.{sets, drop-length}
+use Rattle.fold.specs.Lists.{bit}
 use Rattle.rules.specs.Log.{readAt, argumentBytes, argument, moveTo}
 use Rattle.rules.specs.Text.{lineText, lineFeed}
-use Rattle.rules.specs.Step.{call, stepOf}
+use Rattle.rules.specs.Step.{step, stepOf}
 use Rattle.rules.specs.Replay.{recordCall}
 use Rattle.rules.specs.declared.Answer.{Answer}
 use Rattle.rules.specs.declared.Read.{Read}
 use Rattle.rules.specs.declared.Read.the-variants.{Record, End, Cut, Length, Version}
-use Rattle.rules.specs.declared.Step.{Step}
 use Rattle.rules.specs.declared.Tables.{Tables}
 use Rattle.rules.specs.declared.Thread.{Thread}
 use Rattle.rules.proofs.Read as R
 use Rattle.text.specs.Put.{Put}
 use Rattle.text.proofs.Puts.{fits, put-none, put-more}
 use Rattle.calllog.proofs.Records.{record-fits}
-use Rattle.parts.specs.Part.{kept, Left, textBefore, lineBefore, waiting, lastText, over, partFor, readable, partOf}
+use Rattle.parts.specs.Part.{kept, Left, textBefore, waiting, lastText, readable, partOf}
+use Rattle.kernel.specs.Safe.{Safe}
+use Rattle.kernel.specs.declared.calls.Call.{Call}
+use Rattle.kernel.proofs.Keeping.{safe-call}
 use Rattle.desk.specs.declared.Ran.{Ran}
-use Rattle.desk.specs.Done.{Lined, Gone, Turned}
+use Rattle.desk.specs.declared.Progress.{Progress}
+use Rattle.desk.specs.Done.{callIn, ranTo, comeTo, oneFor, oneLast, Went, Gone, Turned}
 use Rattle.parts.proofs.Steps.{partAt, part-whole, part-step}
 use Rattle.parts.proofs.Bounds.{part-bounded}
 
--- ---- one record
-pub call-is : (t : Tables) (number : ℕ) (bytes : List ℕ) {a b c d : ℕ} {s : Step} → s ≡ call t number a b c d
-    → a ≡ argument bytes 0 → b ≡ argument bytes 1 → c ≡ argument bytes 2 → d ≡ argument bytes 3 → s ≡ recordCall t number bytes
-call-is t number bytes e p q r u = e ∙ (λ i. call t number (p i) (q i) (r i) (u i))
+-- ---- a part goes on where it has not ended and can be read
+goes-on : (a b : Bool) → (not a && b) ≡ true → (a ≡ false) × (b ≡ true)
+goes-on true b h = absurd (true≢false (sym h))
+goes-on false b h = (refl, h)
 
-pub lined : (s : Step) (n : ℕ) (t : Tables) (a : Answer) (x : Thread) {xs ys : List ℕ} {at r : ℕ} → stepOf t a x ≡ s
-    → Put xs at (lineText n a x ++ lineFeed) ys r → Lined s n t xs at ys r
-lined s n t a x e p = rw (← e) (record { tables = refl; line = p })
+-- ---- a record's call, the end, and what a turn comes to: the parts of each struct
+pub asked-is : (s : List ℕ) (place number : ℕ) {bytes : List ℕ} {a b c d : ℕ} → bytes ≡ argumentBytes s (place + 4)
+    → a ≡ argument bytes 0 → b ≡ argument bytes 1 → c ≡ argument bytes 2 → d ≡ argument bytes 3
+    → record { number = number; a = a; b = b; c = c; d = d } ≡ callIn (argumentBytes s (place + 4)) number
+asked-is s place number e p q r u = rw (← e, p, q, r, u)
 
--- ---- what is found and is no record
-no-record : (f : Read) (s : List ℕ) (o at n : ℕ) (t : Tables) (rest : ℕ → ℕ → Tables → Left) → OneOf (1 ∷ 2 ∷ 3 ∷ 4 ∷ []) (tagOf R.the-type f)
-    → partFor f s o at n t rest ≡ over f s o n t
-no-record (Record number start) s o at n t rest h = absurd (miss (1 ∷ 2 ∷ 3 ∷ 4 ∷ []) 0 tt h)
-no-record End s o at n t rest h = refl
-no-record (Cut k) s o at n t rest h = refl
-no-record (Length k) s o at n t rest h = refl
-no-record (Version k) s o at n t rest h = refl
+pub ended-is : (s : List ℕ) (f : Read) (o : ℕ) (p : Ran) {xs ys : List ℕ} {len : ℕ} {r : Ran}
+    → Put xs (p .len) (lastText f o (p .count)) ys len → r ≡ ranTo (length s) (p .count) len true
+    → Put xs (p .len) (lastText f o (p .count)) ys (r .len) × (r ≡ ranTo (length s) (p .count) (r .len) true)
+ended-is s f o p q e = rw e (q, refl)
+
+pub come-is : (o : ℕ) (r : Ran) (held : ℕ) {offset : ℕ} → offset ≡ kept (o + r .at)
+    → record { held = held; offset = offset; count = r .count; len = r .len; ended = r .ended } ≡ comeTo o r held
+come-is o r held e = rw e
+
+-- ---- one read
+one-last : (f : Read) (s : List ℕ) (o n : ℕ) (t : Tables) → OneOf (1 ∷ 2 ∷ 3 ∷ 4 ∷ []) (tagOf R.the-type f) → oneFor f s o n t ≡ oneLast f s o n t
+unfolding oneFor
+one-last (Record number start) s o n t h = absurd (miss (1 ∷ 2 ∷ 3 ∷ 4 ∷ []) 0 tt h)
+one-last End s o n t h = refl
+one-last (Cut k) s o n t h = refl
+one-last (Length k) s o n t h = refl
+one-last (Version k) s o n t h = refl
+
+module _ (s : List ℕ) (o : ℕ) (t : Tables) (p : Ran) {f : Read} (found : f ≡ readAt s (p .at)) {xs ys : List ℕ} where
+  -- the end or a fault
+  pub went-last : OneOf (1 ∷ 2 ∷ 3 ∷ 4 ∷ []) (tagOf R.the-type f) → {r : Ran}
+      → Put xs (p .len) (lastText f o (p .count)) ys (r .len) × (r ≡ ranTo (length s) (p .count) (r .len) true)
+      → Went (oneFor (readAt s (p .at)) s o (p .count) t) t xs (p .len) ys r
+  went-last h e =
+      rw (← found, one-last f s o (p .count) t h)
+      (record { line = e .0; tables = refl; at = ap (λ (r : Ran). r .at) (e .1); count = ap (λ (r : Ran). r .count) (e .1); ended = ap (λ (r : Ran). r .ended) (e .1) })
+
+  -- a record: its call on safe tables is `step`
+  pub went-record : Safe t → (number begin : ℕ) → f ≡ Record number begin → {q : Call} → q ≡ callIn (argumentBytes s (p .at + 4)) number
+      → {u : Tables} {a : Answer} {x : Thread} → stepOf u a x ≡ step t (q .number) (q .a) (q .b) (q .c) (q .d)
+      → {n len next : ℕ} → n ≡ kept (p .count + 1) → Put xs (p .len) (lineText n a x ++ lineFeed) ys len → next ≡ moveTo f (p .at)
+      → {r : Ran} → r ≡ ranTo next n len false
+      → Went (oneFor (readAt s (p .at)) s o (p .count) t) u xs (p .len) ys r
+  unfolding oneFor moveTo
+  went-record safe number begin e {q} asked {u} {a} {x} said {n} {len} {next} up line moved r-is =
+      let start = record-fits s (p .at) number begin (sym found ∙ e) .1 in
+      let gave : stepOf u a x ≡ recordCall t number (argumentBytes s begin) =
+      said ∙ safe-call t safe (q .number) (q .a) (q .b) (q .c) (q .d) ∙ rw (asked, start) in
+      let next-is : next ≡ begin + 16 = rw e at moved in
+      rw (← found, e, ← gave, r-is)
+      (record { line = rw (← up) line; tables = refl; at = next-is; count = up; ended = refl })
 
 -- ---- part s from offset o on, after n₀ records, with tables t₀ and buffer xs
+-- where nothing follows
+abbrev done : List ℕ → ℕ → ℕ → Tables → Left
+done s o n t = record { text = []; rest = []; offset = kept (o + length s); count = n; tables = t; ended = true }
+
 module _ (last : Bool) (s : List ℕ) (o n₀ : ℕ) (t₀ : Tables) (xs : List ℕ) where
+  -- what is still to come
+  abbrev pub rest : Bool → ℕ → ℕ → Tables → Left
+  rest ended at n t = if ended (done s o n t) (partAt last s o at n t)
+
   -- the text so far, and what is still to come, is all
-  pub record Sofar (t : Tables) (ys : List ℕ) (at n len : ℕ) : Type 0 where
+  pub record Sofar (t : Tables) (ys : List ℕ) (r : Ran) : Type 0 where
     pub text : List ℕ
-    pub put : Put xs 0 text ys len
-    pub whole : partOf last s o n₀ t₀ ≡ textBefore text (partAt last s o at n t)
-    pub inside : at ≤ length s
+    pub put : Put xs 0 text ys (r .len)
+    pub whole : partOf last s o n₀ t₀ ≡ textBefore text (rest (r .ended) (r .at) (r .count) t)
+    pub inside : r .at ≤ length s
+    pub over : r .ended ≡ true → r .at ≡ length s
 
-  pub sofar-none : Sofar t₀ xs 0 n₀ 0
-  sofar-none = record { text = []; put = put-none xs 0; whole = part-whole last s o n₀ t₀; inside = omega arith }
+  pub sofar-none : {r : Ran} → r ≡ ranTo 0 n₀ 0 false → Sofar t₀ xs r
+  sofar-none e =
+      rw e
+      (record { text = []; put = put-none xs 0; whole = part-whole last s o n₀ t₀; inside = omega arith; over = λ h. absurd (true≢false (sym h)) })
 
-  module _ {t : Tables} {ys : List ℕ} {at n len : ℕ} (w : Sofar t ys at n len) where
-    -- too few bytes are left
-    pub sofar-waits : readable last s at ≡ false
-        → Gone (partOf last s o n₀ t₀) s o t xs ys (record { at = at; count = n; len = len; ended = false })
-    sofar-waits e =
-        let p : partAt last s o at n t ≡ waiting s o at n t = part-step last s o at n t ∙ rw e in
-        rw (w .whole, p)
-        (record {
-          text = rw append-nil (w .put);
-          rest = refl;
-          inside = w .inside;
-          offset = refl;
-          count = refl;
-          tables = refl;
-          ended = refl;
-        })
+  -- a read, and what follows it
+  read-last : (f : Read) (at n : ℕ) (t : Tables) → f ≡ readAt s at → readable last s at ≡ true
+      → partAt last s o at n t
+      ≡ textBefore (oneFor f s o n t .text) (rest (oneFor f s o n t .ended) (oneFor f s o n t .at) (oneFor f s o n t .count) (oneFor f s o n t .tables))
+  unfolding oneFor
+  read-last (Record number start) at n t e h = part-step last s o at n t ∙ rw (h, ← e)
+  read-last End at n t e h = part-step last s o at n t ∙ rw (h, ← e, append-nil)
+  read-last (Cut k) at n t e h = part-step last s o at n t ∙ rw (h, ← e, append-nil)
+  read-last (Length k) at n t e h = part-step last s o at n t ∙ rw (h, ← e, append-nil)
+  read-last (Version k) at n t e h = part-step last s o at n t ∙ rw (h, ← e, append-nil)
 
-    module _ {f : Read} (found : f ≡ readAt s at) (readable-is : readable last s at ≡ true) where
-      -- the end or a fault
-      pub sofar-over : OneOf (1 ∷ 2 ∷ 3 ∷ 4 ∷ []) (tagOf R.the-type f) → {zs : List ℕ} {r : ℕ} → Put ys len (lastText f o n) zs r
-          → Gone (partOf last s o n₀ t₀) s o t xs zs (record { at = length s; count = n; len = r; ended = true })
-      sofar-over h q =
-          let p : partAt last s o at n t ≡ over f s o n t =
-          part-step last s o at n t ∙ rw (readable-is, ← found) (no-record f s o at n t (λ next m u. partAt last s o next m u) h) in
-          rw (w .whole, p)
-          (record {
-            text = put-more (w .put) q;
-            rest = drop-length s;
-            inside = omega arith;
-            offset = refl;
-            count = refl;
-            tables = refl;
-            ended = refl;
-          })
+  -- where it stops is in the part, and nearer to its end
+  abbrev Near : ℕ → ℕ → Bool → Type 0
+  Near at next ended = (next ≤ length s) × ((ended ≡ true → next ≡ length s) × (length s - next + bit (not ended) < length s - at + 1))
 
-      -- a record
-      pub sofar-more : (number begin : ℕ) → f ≡ Record number begin → {m : ℕ} → m ≡ kept (n + 1) → {u : Tables} {zs : List ℕ} {r : ℕ}
-          → Lined (recordCall t number (argumentBytes s (at + 4))) m u ys len zs r → {next : ℕ} → next ≡ moveTo f at
-          → Sofar u zs next m r
-      unfolding moveTo
-      sofar-more number begin e {m} up {u} {zs} {r} at-place {next} moved =
-          let fits = record-fits s at number begin (sym found ∙ e) in
-          let line : Lined (recordCall t number (argumentBytes s begin)) m u ys len zs r = rw (fits .1) at-place in
-          let next-is : next ≡ begin + 16 = rw e at moved in
-          let p : partAt last s o at n t ≡ lineBefore (kept (n + 1)) (recordCall t number (argumentBytes s begin)) (λ v. partAt last s o (begin + 16) (kept (n + 1)) v) =
-          part-step last s o at n t ∙ rw (readable-is, ← found, e) in
-          rw next-is
-          (record {
-            text = w .text ++ (lineText m (recordCall t number (argumentBytes s begin) .answer) (recordCall t number (argumentBytes s begin) .thread) ++ lineFeed);
-            put = put-more (w .put) (line .line);
-            whole = w .whole ∙ rw (p, ← up, ← line .tables) (simp append-assoc);
-            inside = omega arith;
-          })
+  read-near : (f : Read) (at n : ℕ) (t : Tables) → f ≡ readAt s at → Near at (oneFor f s o n t .at) (oneFor f s o n t .ended)
+  unfolding oneFor
+  read-near (Record number start) at n t e =
+      let k = record-fits s at number start (sym e) in (omega arith, (λ h. absurd (true≢false (sym h)), omega arith))
+  read-near End at n t e = (omega arith, (λ h. refl, omega arith))
+  read-near (Cut k) at n t e = (omega arith, (λ h. refl, omega arith))
+  read-near (Length k) at n t e = (omega arith, (λ h. refl, omega arith))
+  read-near (Version k) at n t e = (omega arith, (λ h. refl, omega arith))
 
-      -- and the place is nearer to the end
-      pub sofar-less : (number begin : ℕ) → f ≡ Record number begin → {next : ℕ} → next ≡ moveTo f at
-          → length s - next < length s - at
-      unfolding moveTo
-      sofar-less number begin e {next} moved =
-          let fits = record-fits s at number begin (sym found ∙ e) in
-          let next-is : next ≡ begin + 16 = rw e at moved in
-          omega arith
+  module _ {t : Tables} {ys : List ℕ} {p : Ran} (w : Sofar t ys p) where
+    module _ (on : (not (p .ended) && readable last s (p .at)) ≡ true) {u : Tables} {zs : List ℕ} {r : Ran}
+        (g : Went (oneFor (readAt s (p .at)) s o (p .count) t) u ys (p .len) zs r) where
+      going : (p .ended ≡ false) × (readable last s (p .at) ≡ true)
+      going = goes-on (p .ended) (readable last s (p .at)) on
+
+      near : Near (p .at) (oneFor (readAt s (p .at)) s o (p .count) t .at) (oneFor (readAt s (p .at)) s o (p .count) t .ended)
+      near = read-near (readAt s (p .at)) (p .at) (p .count) t refl
+
+      -- one read more
+      pub sofar-next : Sofar u zs r
+      sofar-next =
+          record {
+            text = w .text ++ oneFor (readAt s (p .at)) s o (p .count) t .text;
+            put = put-more (w .put) (g .line);
+            whole =
+                w .whole
+                ∙ rw (going .0, read-last (readAt s (p .at)) (p .at) (p .count) t refl (going .1), g .at, g .count, g .tables, g .ended) (simp append-assoc);
+            inside = rw (g .at) (near .0);
+            over = λ k. g .at ∙ near .1 .0 (sym (g .ended) ∙ k);
+          }
+
+      -- and less is left
+      pub sofar-less : length s - r .at + bit (not (r .ended)) < length s - p .at + bit (not (p .ended))
+      sofar-less = rw (going .0, g .at, g .ended) (near .1 .1)
+
+    -- the replay has ended, or too few bytes are left
+    pub sofar-stops : (not (p .ended) && readable last s (p .at)) ≡ false → Gone (partOf last s o n₀ t₀) s o t xs ys p
+    sofar-stops = stops (p .ended) refl
+      where
+        stops : (b : Bool) → p .ended ≡ b → (not b && readable last s (p .at)) ≡ false → Gone (partOf last s o n₀ t₀) s o t xs ys p
+        stops true e h =
+            rw (w .whole, e)
+            (record {
+              text = rw append-nil (w .put);
+              rest = rw (w .over e) (drop-length s);
+              inside = w .inside;
+              offset = rw (w .over e);
+              count = refl;
+              tables = refl;
+              ended = refl;
+            })
+        stops false e h =
+            let l : partAt last s o (p .at) (p .count) t ≡ waiting s o (p .at) (p .count) t = part-step last s o (p .at) (p .count) t ∙ rw h in
+            rw (w .whole, e, l)
+            (record { text = rw append-nil (w .put); rest = refl; inside = w .inside; offset = refl; count = refl; tables = refl; ended = refl })
 
 -- ---- a turn: the text fits, and the rest is in front
 module _ (last : Bool) (n o c : ℕ) (t₀ : Tables) (ps xs : List ℕ) (size : length ps ≡ 2560) where
   pub turned : {s : List ℕ} → s ≡ take n ps → {t : Tables} {ys : List ℕ} (r : Ran) → Gone (partOf last s o c t₀) s o t xs ys r
-      → {qs : List ℕ} {held offset : ℕ} → (qs ≡ sets ps 0 (drop (r .at) (take n ps))) × (held ≡ length (drop (r .at) (take n ps)))
-      → offset ≡ kept (o + r .at)
-      → Turned (partOf last (take n ps) o c t₀) t ps qs xs ys (record { held = held; offset = offset; count = r .count; len = r .len; ended = r .ended })
-      × ((held < 20) × (r .len ≤ 16384))
-  turned {s} e {t} {ys} r g {qs} {held} {offset} m f =
+      → {qs : List ℕ} {held : ℕ} → (qs ≡ sets ps 0 (drop (r .at) (take n ps))) × (held ≡ length (drop (r .at) (take n ps)))
+      → {q : Progress} → q ≡ comeTo o r held
+      → Turned (partOf last (take n ps) o c t₀) t ps qs xs ys q × ((q .held < 20) × (q .len ≤ 16384))
+  turned {s} e {t} {ys} r g {qs} {held} m f =
       let h : Gone (partOf last (take n ps) o c t₀) (take n ps) o t xs ys r = rw e at g in
       let b = part-bounded last (take n ps) o c t₀ in
       let k : length (take n ps) ≤ 2560 = omega (arith, length-take n ps) in
       let whole = fits 0 (partOf last (take n ps) o c t₀ .text) (omega (arith, b .text)) in
       let len-is : r .len ≡ length (partOf last (take n ps) o c t₀ .text) = h .text .end ∙ rw (whole, zero-add) in
-      let held-is : held ≡ length (partOf last (take n ps) o c t₀ .rest) = m .1 ∙ ap length (h .rest) in (
+      let held-is : held ≡ length (partOf last (take n ps) o c t₀ .rest) = m .1 ∙ ap length (h .rest) in
+      rw f (
         record {
           text = h .text .bytes ∙ rw whole;
           len = len-is;
           rest = m .0 ∙ rw (h .rest);
           held = held-is;
-          offset = f ∙ h .offset;
+          offset = h .offset;
           count = h .count;
           tables = h .tables;
           ended = h .ended;

@@ -2,6 +2,7 @@
 // that is not whole yet are kept.
 pub mod last;
 
+use kernel::calls::Call;
 use kernel::calls::Said;
 use rules::Clocks;
 use rules::Events;
@@ -15,97 +16,40 @@ use rules::Swis;
 use rules::Tasks;
 use text::Text;
 ghost use mathlib.Core.Path.{_≡_};
+ghost use mathlib.Core.Bool.{true};
+ghost use mathlib.Core.List.{_++_};
 ghost use Prim.Native.Nat.{_+_, _<_, _≤_};
 ghost use lib.ListN.{length, take, drop};
 ghost use lib.Seq.{sets};
-ghost use Rattle.rules.specs.Log.{argumentBytes};
+ghost use Rattle.rules.specs.Log.{readAt, argumentBytes};
 ghost use Rattle.rules.specs.Tables.{tables};
-ghost use Rattle.rules.specs.Step.{stepOf};
-ghost use Rattle.rules.specs.Replay.{recordCall};
-ghost use Rattle.parts.specs.Part.{partOf};
-ghost use Rattle.kernel.specs.Known.{Known};
-ghost use Rattle.desk.specs.Done.{ranTo, Lined, Gone, Turned};
+ghost use Rattle.rules.specs.Text.{lineText, lineFeed};
+ghost use Rattle.text.specs.Put.{Put};
+ghost use Rattle.parts.specs.Part.{lastText, partOf};
+ghost use Rattle.kernel.specs.Safe.{Safe};
+ghost use Rattle.desk.specs.Done.{callIn, ranTo, comeTo, oneFor, Went, Gone, Turned};
 
 // A part of a log: the bytes that waited, and those that came.
 pub type Part = [u8; 2560];
 
-// The call of a record, by its argument bytes.
-fn record_call(
-    known: bool,
-    tasks: &mut Tasks,
-    lines: &mut Lines,
-    semaphores: &mut Semaphores,
-    events: &mut Events,
-    mailboxes: &mut Mailboxes,
-    swis: &mut Swis,
-    clocks: &mut Clocks,
-    heap: &mut Heap,
-    state: &mut State,
-    number: u8,
-    bytes: &[u8],
-) -> Said
-    requires { ⌜ Known known (tables (now tasks) (now lines) (now semaphores) (now events) (now mailboxes) (now swis) (now clocks) (now heap) (now state)) ⌝ }
-    ensures { λ r. ⌜ stepOf (tables (now (tasks .exit)) (now (lines .exit)) (now (semaphores .exit)) (now (events .exit)) (now (mailboxes .exit)) (now (swis .exit)) (now (clocks .exit)) (now (heap .exit)) (now (state .exit))) (r .answer) (r .thread)
-        ≡ recordCall (tables (now (tasks .entry)) (now (lines .entry)) (now (semaphores .entry)) (now (events .entry)) (now (mailboxes .entry)) (now (swis .entry)) (now (clocks .entry)) (now (heap .entry)) (now (state .entry))) number (now (bytes .entry)) ⌝ }
-    ensures { λ _. ⌜ Known known (tables (now (tasks .exit)) (now (lines .exit)) (now (semaphores .exit)) (now (events .exit)) (now (mailboxes .exit)) (now (swis .exit)) (now (clocks .exit)) (now (heap .exit)) (now (state .exit))) ⌝ }
-{
-    kernel::known::known_call(
-        known,
-        tasks,
-        lines,
-        semaphores,
-        events,
-        mailboxes,
-        swis,
-        clocks,
-        heap,
-        state,
-        number as u32,
-        calllog::argument(bytes, 0),
-        calllog::argument(bytes, 1),
-        calllog::argument(bytes, 2),
-        calllog::argument(bytes, 3),
-    )
-}
-
-// The call of record n, which stands at a place of the log, and its line.
-fn record_line(
-    known: bool,
-    tasks: &mut Tasks,
-    lines: &mut Lines,
-    semaphores: &mut Semaphores,
-    events: &mut Events,
-    mailboxes: &mut Mailboxes,
-    swis: &mut Swis,
-    clocks: &mut Clocks,
-    heap: &mut Heap,
-    state: &mut State,
-    log: &[u8],
-    place: usize,
-    number: u8,
-    n: u64,
-    out: &mut Text,
-    at: usize,
-) -> usize
-    requires { ⌜ Known known (tables (now tasks) (now lines) (now semaphores) (now events) (now mailboxes) (now swis) (now clocks) (now heap) (now state)) ⌝ }
-    ensures { λ r. ⌜ Lined (recordCall (tables (now (tasks .entry)) (now (lines .entry)) (now (semaphores .entry)) (now (events .entry)) (now (mailboxes .entry)) (now (swis .entry)) (now (clocks .entry)) (now (heap .entry)) (now (state .entry))) number (argumentBytes (now (log .entry)) (place + 4))) n (tables (now (tasks .exit)) (now (lines .exit)) (now (semaphores .exit)) (now (events .exit)) (now (mailboxes .exit)) (now (swis .exit)) (now (clocks .exit)) (now (heap .exit)) (now (state .exit))) (now (out .entry)) at (now (out .exit)) r ⌝ }
-    ensures { λ _. ⌜ Known known (tables (now (tasks .exit)) (now (lines .exit)) (now (semaphores .exit)) (now (events .exit)) (now (mailboxes .exit)) (now (swis .exit)) (now (clocks .exit)) (now (heap .exit)) (now (state .exit))) ⌝ }
+// The call of the record that stands at a place of the log.
+fn record_call(log: &[u8], place: usize, number: u8) -> Call
+    ensures { λ r. ⌜ r ≡ callIn (argumentBytes (now (log .entry)) (place + 4)) number ⌝ }
 {
     let bytes = calllog::reader::read_arguments(log, place);
-    let said = record_call(
-        known,
-        tasks,
-        lines,
-        semaphores,
-        events,
-        mailboxes,
-        swis,
-        clocks,
-        heap,
-        state,
-        number,
-        bytes,
-    );
+    Call {
+        number: number as u32,
+        a: calllog::argument(bytes, 0),
+        b: calllog::argument(bytes, 1),
+        c: calllog::argument(bytes, 2),
+        d: calllog::argument(bytes, 3),
+    }
+}
+
+// The line of record n, by what its call said.
+fn put_said(out: &mut Text, at: usize, n: u64, said: Said) -> usize
+    ensures { λ r. ⌜ Put (now (out .entry)) at (lineText n (said .answer) (said .thread) ++ lineFeed) (now (out .exit)) r ⌝ }
+{
     let answer = said.answer;
     let thread = said.thread;
     text::put_line(out, at, n, answer, thread)
@@ -130,9 +74,58 @@ fn ran_to(at: usize, count: u64, len: usize, ended: bool) -> Ran
     }
 }
 
-// The records of a part that starts at an offset of the log, after `count` others, with what is known of the tables.
-fn known_records(
-    known: bool,
+// The replay ends at what was found, which is no record.
+fn ended_at(log: &[u8], found: Read, offset: u64, ran: Ran, out: &mut Text) -> Ran
+    ensures { λ r. ⌜ Put (now (out .entry)) (ran .len) (lastText found offset (ran .count)) (now (out .exit)) (r .len) × (r ≡ ranTo (length (now (log .entry))) (ran .count) (r .len) true) ⌝ }
+{
+    let len = last::put_last(out, ran.len, found, offset, ran.count);
+    ran_to(log.len(), ran.count, len, true)
+}
+
+// One read of a part that starts at an offset of the log: a record's call and its line, or the last line.
+fn next_line(
+    tasks: &mut Tasks,
+    lines: &mut Lines,
+    semaphores: &mut Semaphores,
+    events: &mut Events,
+    mailboxes: &mut Mailboxes,
+    swis: &mut Swis,
+    clocks: &mut Clocks,
+    heap: &mut Heap,
+    state: &mut State,
+    log: &[u8],
+    offset: u64,
+    ran: Ran,
+    out: &mut Text,
+) -> Ran
+    requires { ⌜ Safe (tables (now tasks) (now lines) (now semaphores) (now events) (now mailboxes) (now swis) (now clocks) (now heap) (now state)) ⌝ }
+    ensures { λ r. ⌜ Went (oneFor (readAt (now (log .entry)) (ran .at)) (now (log .entry)) offset (ran .count) (tables (now (tasks .entry)) (now (lines .entry)) (now (semaphores .entry)) (now (events .entry)) (now (mailboxes .entry)) (now (swis .entry)) (now (clocks .entry)) (now (heap .entry)) (now (state .entry)))) (tables (now (tasks .exit)) (now (lines .exit)) (now (semaphores .exit)) (now (events .exit)) (now (mailboxes .exit)) (now (swis .exit)) (now (clocks .exit)) (now (heap .exit)) (now (state .exit))) (now (out .entry)) (ran .len) (now (out .exit)) r ⌝ }
+    ensures { λ _. ⌜ Safe (tables (now (tasks .exit)) (now (lines .exit)) (now (semaphores .exit)) (now (events .exit)) (now (mailboxes .exit)) (now (swis .exit)) (now (clocks .exit)) (now (heap .exit)) (now (state .exit))) ⌝ }
+{
+    let step = calllog::reader::read_next(log, ran.at);
+    let found = step.found;
+    let Read::Record { number, start: _ } = found else {
+        return ended_at(log, found, offset, ran, out);
+    };
+    let said = kernel::calls::step(
+        tasks,
+        lines,
+        semaphores,
+        events,
+        mailboxes,
+        swis,
+        clocks,
+        heap,
+        state,
+        record_call(log, ran.at, number),
+    );
+    let n = std::num::wrapping_add_u64(ran.count, 1);
+    let len = put_said(out, ran.len, n, said);
+    ran_to(step.at, n, len, false)
+}
+
+// The records of a part that starts at an offset of the log, after `count` others.
+fn records(
     tasks: &mut Tasks,
     lines: &mut Lines,
     semaphores: &mut Semaphores,
@@ -148,22 +141,13 @@ fn known_records(
     count: u64,
     out: &mut Text,
 ) -> Ran
-    requires { ⌜ Known known (tables (now tasks) (now lines) (now semaphores) (now events) (now mailboxes) (now swis) (now clocks) (now heap) (now state)) ⌝ }
+    requires { ⌜ Safe (tables (now tasks) (now lines) (now semaphores) (now events) (now mailboxes) (now swis) (now clocks) (now heap) (now state)) ⌝ }
     ensures { λ r. ⌜ Gone (partOf last (now (log .entry)) offset count (tables (now (tasks .entry)) (now (lines .entry)) (now (semaphores .entry)) (now (events .entry)) (now (mailboxes .entry)) (now (swis .entry)) (now (clocks .entry)) (now (heap .entry)) (now (state .entry)))) (now (log .entry)) offset (tables (now (tasks .exit)) (now (lines .exit)) (now (semaphores .exit)) (now (events .exit)) (now (mailboxes .exit)) (now (swis .exit)) (now (clocks .exit)) (now (heap .exit)) (now (state .exit))) (now (out .entry)) (now (out .exit)) r ⌝ }
+    ensures { λ _. ⌜ Safe (tables (now (tasks .exit)) (now (lines .exit)) (now (semaphores .exit)) (now (events .exit)) (now (mailboxes .exit)) (now (swis .exit)) (now (clocks .exit)) (now (heap .exit)) (now (state .exit))) ⌝ }
 {
-    let mut at = 0;
-    let mut n = count;
-    let mut len = 0;
-    while last | (20 <= log.len() - at) {
-        let step = calllog::reader::read_next(log, at);
-        let found = step.found;
-        let Read::Record { number, start: _ } = found else {
-            let end = last::put_last(out, len, found, offset, n);
-            return ran_to(log.len(), n, end, true);
-        };
-        n = std::num::wrapping_add_u64(n, 1);
-        len = record_line(
-            known,
+    let mut ran = ran_to(0, count, 0, false);
+    while !ran.ended & (last | (20 <= log.len() - ran.at)) {
+        ran = next_line(
             tasks,
             lines,
             semaphores,
@@ -174,64 +158,12 @@ fn known_records(
             heap,
             state,
             log,
-            at,
-            number,
-            n,
+            offset,
+            ran,
             out,
-            len,
         );
-        at = step.at;
     }
-    ran_to(at, n, len, false)
-}
-
-// The same, where the tables are tested once.
-pub fn records(
-    tasks: &mut Tasks,
-    lines: &mut Lines,
-    semaphores: &mut Semaphores,
-    events: &mut Events,
-    mailboxes: &mut Mailboxes,
-    swis: &mut Swis,
-    clocks: &mut Clocks,
-    heap: &mut Heap,
-    state: &mut State,
-    log: &[u8],
-    last: bool,
-    offset: u64,
-    count: u64,
-    out: &mut Text,
-) -> Ran
-    ensures { λ r. ⌜ Gone (partOf last (now (log .entry)) offset count (tables (now (tasks .entry)) (now (lines .entry)) (now (semaphores .entry)) (now (events .entry)) (now (mailboxes .entry)) (now (swis .entry)) (now (clocks .entry)) (now (heap .entry)) (now (state .entry)))) (now (log .entry)) offset (tables (now (tasks .exit)) (now (lines .exit)) (now (semaphores .exit)) (now (events .exit)) (now (mailboxes .exit)) (now (swis .exit)) (now (clocks .exit)) (now (heap .exit)) (now (state .exit))) (now (out .entry)) (now (out .exit)) r ⌝ }
-{
-    let known = kernel::known::tested(
-        tasks,
-        lines,
-        semaphores,
-        events,
-        mailboxes,
-        swis,
-        clocks,
-        heap,
-        state,
-    );
-    known_records(
-        known,
-        tasks,
-        lines,
-        semaphores,
-        events,
-        mailboxes,
-        swis,
-        clocks,
-        heap,
-        state,
-        log,
-        last,
-        offset,
-        count,
-        out,
-    )
+    ran
 }
 
 // Of the first n bytes, those from `at` on to the front; how many they are.
@@ -260,7 +192,20 @@ pub struct Progress {
     pub ended: bool,
 }
 
-// One turn of a replay: the first n bytes of the part are replayed, and those that wait are moved to its front.
+// What a replay has come to where records of a part stopped.
+fn come_to(offset: u64, ran: Ran, held: usize) -> Progress
+    ensures { λ r. ⌜ r ≡ comeTo offset ran held ⌝ }
+{
+    Progress {
+        held,
+        offset: std::num::wrapping_add_u64(offset, ran.at as u64),
+        count: ran.count,
+        len: ran.len,
+        ended: ran.ended,
+    }
+}
+
+// One turn of a replay that has come to p: the first n bytes of the part are replayed, and those that wait are moved to its front.
 pub fn replay_part(
     tasks: &mut Tasks,
     lines: &mut Lines,
@@ -274,12 +219,12 @@ pub fn replay_part(
     part: &mut Part,
     n: usize,
     last: bool,
-    offset: u64,
-    count: u64,
+    p: Progress,
     out: &mut Text,
 ) -> Progress
-    ensures { λ r. ⌜ Turned (partOf last (take n (now (part .entry))) offset count (tables (now (tasks .entry)) (now (lines .entry)) (now (semaphores .entry)) (now (events .entry)) (now (mailboxes .entry)) (now (swis .entry)) (now (clocks .entry)) (now (heap .entry)) (now (state .entry)))) (tables (now (tasks .exit)) (now (lines .exit)) (now (semaphores .exit)) (now (events .exit)) (now (mailboxes .exit)) (now (swis .exit)) (now (clocks .exit)) (now (heap .exit)) (now (state .exit))) (now (part .entry)) (now (part .exit)) (now (out .entry)) (now (out .exit)) r ⌝ }
-    ensures { λ r. ⌜ (r .held < 20) × (r .len ≤ 16384) ⌝ }
+    requires { ⌜ Safe (tables (now tasks) (now lines) (now semaphores) (now events) (now mailboxes) (now swis) (now clocks) (now heap) (now state)) ⌝ }
+    ensures { λ r. ⌜ Turned (partOf last (take n (now (part .entry))) (p .offset) (p .count) (tables (now (tasks .entry)) (now (lines .entry)) (now (semaphores .entry)) (now (events .entry)) (now (mailboxes .entry)) (now (swis .entry)) (now (clocks .entry)) (now (heap .entry)) (now (state .entry)))) (tables (now (tasks .exit)) (now (lines .exit)) (now (semaphores .exit)) (now (events .exit)) (now (mailboxes .exit)) (now (swis .exit)) (now (clocks .exit)) (now (heap .exit)) (now (state .exit))) (now (part .entry)) (now (part .exit)) (now (out .entry)) (now (out .exit)) r × ((r .held < 20) × (r .len ≤ 16384)) ⌝ }
+    ensures { λ _. ⌜ Safe (tables (now (tasks .exit)) (now (lines .exit)) (now (semaphores .exit)) (now (events .exit)) (now (mailboxes .exit)) (now (swis .exit)) (now (clocks .exit)) (now (heap .exit)) (now (state .exit))) ⌝ }
 {
     let log = text::front(part, n);
     let ran = records(
@@ -294,17 +239,10 @@ pub fn replay_part(
         state,
         log,
         last,
-        offset,
-        count,
+        p.offset,
+        p.count,
         out,
     );
-    let at = ran.at;
-    let held = to_front(part, at, n);
-    Progress {
-        held,
-        offset: std::num::wrapping_add_u64(offset, at as u64),
-        count: ran.count,
-        len: ran.len,
-        ended: ran.ended,
-    }
+    let held = to_front(part, ran.at, n);
+    come_to(p.offset, ran, held)
 }

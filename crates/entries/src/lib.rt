@@ -1,4 +1,5 @@
 // The entries: any tables, any number, any arguments.
+use kernel::calls::Call;
 use kernel::calls::Said;
 use rules::Clocks;
 use rules::Events;
@@ -14,18 +15,73 @@ use rules::Tasks;
 use rules::Thread;
 ghost use mathlib.Core.Path.{_≡_};
 ghost use mathlib.Core.Bool.{cond};
+ghost use Rattle.rules.specs.Answer.{answer};
 ghost use Rattle.rules.specs.Tables.{tables};
 ghost use Rattle.rules.specs.Fresh.{fresh};
 ghost use Rattle.rules.specs.Dispatch.{running};
 ghost use Rattle.rules.specs.Sound.{sound};
 ghost use Rattle.rules.specs.Step.{stepOf, call};
 ghost use Rattle.rules.specs.declared.Thread.the-variants.{Task};
+ghost use Rattle.kernel.specs.Safe.{Safe};
 
-// Fresh tables.
+// Fresh tables: they are sound.
 pub fn fresh() -> Tables
     ensures { λ r. ⌜ r ≡ fresh ⌝ }
+    ensures { λ r. ⌜ Safe r ⌝ }
 {
     rows::fresh()
+}
+
+// What is said of tables that are not sound: code 10, and T0.
+fn unsound() -> Said
+    ensures { λ r. ⌜ (r .answer ≡ answer 10 0 0) × (r .thread ≡ Task 0) ⌝ }
+{
+    Said {
+        answer: rows::answers::refused(10),
+        thread: Thread::Task(0),
+    }
+}
+
+// One call on lent tables: they are tested first, and nothing changes where they are not sound.
+fn tested_call(
+    tasks: &mut Tasks,
+    lines: &mut Lines,
+    semaphores: &mut Semaphores,
+    events: &mut Events,
+    mailboxes: &mut Mailboxes,
+    swis: &mut Swis,
+    clocks: &mut Clocks,
+    heap: &mut Heap,
+    state: &mut State,
+    asked: Call,
+) -> Said
+    ensures { λ r. ⌜ stepOf (tables (now (tasks .exit)) (now (lines .exit)) (now (semaphores .exit)) (now (events .exit)) (now (mailboxes .exit)) (now (swis .exit)) (now (clocks .exit)) (now (heap .exit)) (now (state .exit))) (r .answer) (r .thread) ≡ call (tables (now (tasks .entry)) (now (lines .entry)) (now (semaphores .entry)) (now (events .entry)) (now (mailboxes .entry)) (now (swis .entry)) (now (clocks .entry)) (now (heap .entry)) (now (state .entry))) (asked .number) (asked .a) (asked .b) (asked .c) (asked .d) ⌝ }
+{
+    if !sound::is_sound(
+        tasks,
+        lines,
+        semaphores,
+        events,
+        mailboxes,
+        swis,
+        clocks,
+        heap,
+        state,
+    ) {
+        return unsound();
+    }
+    kernel::calls::step(
+        tasks,
+        lines,
+        semaphores,
+        events,
+        mailboxes,
+        swis,
+        clocks,
+        heap,
+        state,
+        asked,
+    )
 }
 
 // One call on lent tables: code 10 and no change where they are not sound.
@@ -48,8 +104,7 @@ pub fn call_in_place(
     ensures { λ r. ⌜ stepOf (tables (now (tasks .exit)) (now (lines .exit)) (now (semaphores .exit)) (now (events .exit)) (now (mailboxes .exit)) (now (swis .exit)) (now (clocks .exit)) (now (heap .exit)) (now (state .exit))) (r .answer) (r .thread)
         ≡ call (tables (now (tasks .entry)) (now (lines .entry)) (now (semaphores .entry)) (now (events .entry)) (now (mailboxes .entry)) (now (swis .entry)) (now (clocks .entry)) (now (heap .entry)) (now (state .entry))) number a b c d ⌝ }
 {
-    kernel::known::known_call(
-        false,
+    tested_call(
         tasks,
         lines,
         semaphores,
@@ -59,11 +114,7 @@ pub fn call_in_place(
         clocks,
         heap,
         state,
-        number,
-        a,
-        b,
-        c,
-        d,
+        Call { number, a, b, c, d },
     )
 }
 
@@ -93,7 +144,7 @@ pub fn call(t: Tables, number: u32, a: u32, b: u32, c: u32, d: u32) -> Step
     let mut clocks = t.clocks;
     let mut heap = t.heap;
     let mut state = t.state;
-    let said = call_in_place(
+    let said = tested_call(
         &mut tasks,
         &mut lines,
         &mut semaphores,
@@ -103,11 +154,7 @@ pub fn call(t: Tables, number: u32, a: u32, b: u32, c: u32, d: u32) -> Step
         &mut clocks,
         &mut heap,
         &mut state,
-        number,
-        a,
-        b,
-        c,
-        d,
+        Call { number, a, b, c, d },
     );
     let tables = Tables {
         tasks,

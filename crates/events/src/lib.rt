@@ -30,8 +30,8 @@ pub fn event_call(
     match number {
         0x30 => calls::create(events, x, a, b, c, d),
         0x31 => calls::delete(lines, events, x, a, b, c, d),
-        0x32 => calls::pend(tasks, lines, events, state, x, a, b, c, d),
-        0x33 => calls::post(tasks, lines, events, a, b, c, d),
+        0x32 => matching::pend(tasks, lines, events, state, x, a, b, c, d),
+        0x33 => matching::post(tasks, lines, events, a, b, c, d),
         _ => rows::answers::refused(1),
     }
 }

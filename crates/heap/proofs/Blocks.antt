@@ -15,7 +15,7 @@ use Rattle.fold.proofs.Runs.{sets-snoc}
 use Rattle.rules.specs.Heap.{unit, withUnits, unitsOf, lowestRun, blockSize, isBlock, takeEffect, giveEffect}
 use Rattle.rules.specs.Answer.{answer, after}
 use Rattle.rules.specs.declared.Answer.{Answer}
-use Rattle.heap.specs.Free.{adjacent}
+use Rattle.free_units.specs.Free.{adjacent}
 
 -- ---- the block whose first unit is u
 module _ (h : List ℕ) (u : ℕ) where

@@ -2,14 +2,14 @@
 use Prim.Native.Nat.{ℕ, _+_}
 use mathlib.Core.Path.{_≡_, sym, ap, _∙_}
 use mathlib.Core.Logic.{_≢_}
-use mathlib.Core.Bool.{Bool, true, false, not, _&&_, _||_}
+use mathlib.Core.Bool.{Bool, true, false, not, _||_}
 use mathlib.Core.List.{List, [], _∷_, _++_}
 use borrow.Author.Tests.{eq-eqb, ne-eqb, lt-ltb, le-ltb, le-leb, lt-leb}
 use lib.Dec.{eqb, ltb, leb}
 use lib.ListN.{drop, getD}
 use Rattle.rules.specs.Answer.{After, after, answer, unknown}
 use Rattle.rules.specs.Tables.{task, current, mailbox, messages, withMessages}
-use Rattle.rules.specs.Lines.{anyone, first, queued, moved, atBack}
+use Rattle.rules.specs.Lines.{first, queued, moved, atBack}
 use Rattle.rules.specs.Waits.{Served, served, waiting, woken}
 use Rattle.rules.specs.Mailboxes.{waitsFirst, isFull, postEffect, oldestTaken, pendEffect, mailboxCall}
 use Rattle.rules.specs.declared.Answer.{Answer}
@@ -25,12 +25,6 @@ above a n = by-range n a (λ h. rw (lt-ltb n a h, lt-leb a n h)) (λ h. rw (le-l
 -- a capacity not from 1 to 8, or what is not named not 0
 pub bad-is : (a : ℕ) {p u t : Bool} → p ≡ u → (eqb a 0 || ltb 8 a || p) ≡ t → (eqb a 0 || not (leb a 8) || u) ≡ t
 bad-is a e f = rw (← e, ← above a 8) f
-
-module _ (ts ls : List ℕ) (a mode : ℕ) where
-  pub waits-first-is : {i : ℕ} {k : Task} {t : Bool} → i ≡ first ls (16 + a) → k ≡ task ts i → t ≡ anyone ls (16 + a)
-      → (t && eqb (k .mode) mode) ≡ waitsFirst ts ls a mode
-  unfolding waitsFirst
-  waits-first-is e f g = rw (g, f, e)
 
 -- ---- 42 and 43
 module _ (ts ls st : List ℕ) (mode a limit word : ℕ) {r : Answer} where

@@ -1,7 +1,5 @@
 // The mailbox calls, 40 to 43.
 pub mod calls;
-pub mod messages;
-pub mod tests;
 
 use rules::Answer;
 use rules::Lines;

@@ -1,4 +1,5 @@
 // Makes the calls of the log on standard input with `step`, again and again, and prints a sum over all answers: for measuring.
+use kernel::calls::Call;
 use pacing::Calls;
 use rules::Clocks;
 use rules::Events;
@@ -11,11 +12,30 @@ use rules::Swis;
 use rules::Tasks;
 use text::Text;
 ghost use Rattle.rules.specs.Tables.{tables};
-ghost use Rattle.kernel.specs.Known.{Known};
+ghost use Rattle.kernel.specs.Safe.{Safe};
 
-// The first n calls, on tables that were tested.
+// Call k of the log: number 0xffffffff, which no call has, past its end.
+fn call_at(calls: &Calls, k: usize) -> Call {
+    if 3276 <= k {
+        return Call {
+            number: u32::MAX,
+            a: 0,
+            b: 0,
+            c: 0,
+            d: 0,
+        };
+    }
+    Call {
+        number: calls[k * 5],
+        a: calls[k * 5 + 1],
+        b: calls[k * 5 + 2],
+        c: calls[k * 5 + 3],
+        d: calls[k * 5 + 4],
+    }
+}
+
+// The first n calls.
 fn make_calls(
-    known: bool,
     tasks: &mut Tasks,
     lines: &mut Lines,
     semaphores: &mut Semaphores,
@@ -29,16 +49,12 @@ fn make_calls(
     n: usize,
     from: u32,
 ) -> u32
-    requires { ⌜ Known known (tables (now tasks) (now lines) (now semaphores) (now events) (now mailboxes) (now swis) (now clocks) (now heap) (now state)) ⌝ }
+    requires { ⌜ Safe (tables (now tasks) (now lines) (now semaphores) (now events) (now mailboxes) (now swis) (now clocks) (now heap) (now state)) ⌝ }
 {
     let mut sum = from;
     let mut k = 0;
-    while k < 3276 {
-        if n <= k {
-            return sum;
-        }
-        let said = kernel::known::known_call(
-            known,
+    while k < n {
+        let said = kernel::calls::step(
             tasks,
             lines,
             semaphores,
@@ -48,11 +64,7 @@ fn make_calls(
             clocks,
             heap,
             state,
-            calls[k * 5],
-            calls[k * 5 + 1],
-            calls[k * 5 + 2],
-            calls[k * 5 + 3],
-            calls[k * 5 + 4],
+            call_at(calls, k),
         );
         let answer = said.answer;
         let thread = said.thread;
@@ -74,19 +86,7 @@ fn one_round(calls: &Calls, n: usize, from: u32) -> u32 {
     let mut clocks = fresh.clocks;
     let mut heap = fresh.heap;
     let mut state = fresh.state;
-    let known = kernel::known::tested(
-        &tasks,
-        &lines,
-        &semaphores,
-        &events,
-        &mailboxes,
-        &swis,
-        &clocks,
-        &heap,
-        &state,
-    );
     make_calls(
-        known,
         &mut tasks,
         &mut lines,
         &mut semaphores,

@@ -14,7 +14,7 @@ use rules::Tasks;
 use text::Text;
 ghost use Rattle.rules.specs.Tables.{tables};
 ghost use Rattle.rules.specs.Sound.{Sound};
-ghost use Rattle.replaying.specs.Safe.{Bytes, Safe};
+ghost use Rattle.kernel.specs.Safe.{Safe};
 
 // What a read left in a part: how many bytes are there now, whether nothing follows, whether it failed.
 struct Came {
@@ -23,10 +23,8 @@ struct Came {
     failed: bool,
 }
 
-// Reads behind the bytes that wait. There is always room: fewer than 20 of them wait.
-fn read_behind(fd: i32, part: &mut [u8], held: usize) -> Came
-    ensures { λ _. ⌜ Bytes (now (part .exit)) ⌝ }
-{
+// Reads behind the bytes that wait; `name` is told where the read fails. There is always room: fewer than 20 of them wait.
+fn read_behind(fd: i32, name: &[u8], part: &mut [u8], held: usize) -> Came {
     if part.len() <= held {
         return Came {
             n: 0,
@@ -35,12 +33,19 @@ fn read_behind(fd: i32, part: &mut [u8], held: usize) -> Came
         };
     }
     let got = libc::read(fd, &mut part[held..]);
+    if got < 0 {
+        os::fail(name);
+    }
     let more = io::count(got, &part[held..]);
     Came {
         n: held + more,
         last: got == 0,
         failed: got < 0,
     }
+}
+
+fn read_part(fd: i32, name: &[u8], part: &mut Part, held: usize) -> Came {
+    read_behind(fd, name, part, held)
 }
 
 // Writes the text, and says so. Who reads it may have gone, which is no fault.
@@ -61,7 +66,15 @@ fn stopped(p: Progress) -> Progress {
     over
 }
 
-// One turn: what was read is replayed, and its text is written.
+// Writes the text of a turn; the replay has ended where it cannot be written.
+fn written(out: &[u8], p: Progress) -> Progress {
+    if write_text(out, p.len) {
+        return p;
+    }
+    stopped(p)
+}
+
+// One turn: what came is replayed, and its text is written.
 fn turn(
     tasks: &mut Tasks,
     lines: &mut Lines,
@@ -73,17 +86,14 @@ fn turn(
     heap: &mut Heap,
     state: &mut State,
     part: &mut Part,
-    out: &mut Text,
+    came: Came,
     p: Progress,
-    fd: i32,
-    name: &[u8],
+    out: &mut Text,
 ) -> Progress
     requires { ⌜ Safe (tables (now tasks) (now lines) (now semaphores) (now events) (now mailboxes) (now swis) (now clocks) (now heap) (now state)) ⌝ }
     ensures { λ _. ⌜ Safe (tables (now (tasks .exit)) (now (lines .exit)) (now (semaphores .exit)) (now (events .exit)) (now (mailboxes .exit)) (now (swis .exit)) (now (clocks .exit)) (now (heap .exit)) (now (state .exit))) ⌝ }
 {
-    let came = read_behind(fd, part, p.held);
     if came.failed {
-        os::fail(name);
         return stopped(p);
     }
     let next = desk::replay_part(
@@ -99,14 +109,10 @@ fn turn(
         part,
         came.n,
         came.last,
-        p.offset,
-        p.count,
+        p,
         out,
     );
-    if write_text(out, next.len) {
-        return next;
-    }
-    stopped(next)
+    written(out, next)
 }
 
 // Nothing is read yet.
@@ -142,10 +148,8 @@ fn all_turns(
     let mut out = [0u8; 16384];
     let mut p = begun();
     let mut turns = u64::MAX;
-    while 0 < turns {
-        if p.ended {
-            return;
-        }
+    while (0 < turns) & !p.ended {
+        let came = read_part(fd, name, &mut part, p.held);
         p = turn(
             tasks,
             lines,
@@ -157,10 +161,9 @@ fn all_turns(
             heap,
             state,
             &mut part,
-            &mut out,
+            came,
             p,
-            fd,
-            name,
+            &mut out,
         );
         turns -= 1;
     }

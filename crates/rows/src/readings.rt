@@ -4,6 +4,7 @@ use rules::Heap;
 use rules::Lines;
 use rules::Task;
 ghost use mathlib.Core.Path.{_≡_};
+ghost use Prim.Native.Nat.{_-_};
 ghost use Rattle.rules.specs.Lines.{homeOf};
 ghost use Rattle.rules.specs.Swis.{top};
 ghost use Rattle.rules.specs.Semaphores.{isBinary, most};
@@ -69,4 +70,14 @@ pub fn unit(heap: &Heap, u: usize) -> u8
         return heap[u];
     }
     0
+}
+
+// One less, and 0 stays 0.
+pub fn one_less(n: u32) -> u32
+    ensures { λ r. ⌜ r ≡ n - 1 ⌝ }
+{
+    if n == 0 {
+        return 0;
+    }
+    n - 1
 }

@@ -30,8 +30,8 @@ pub fn semaphore_call(
     match number {
         0x20 => calls::create(semaphores, x, a, b, c, d),
         0x21 => calls::delete(lines, semaphores, x, a, b, c, d),
-        0x22 => calls::pend(tasks, lines, semaphores, state, x, a, b, c, d),
-        0x23 => calls::post(tasks, lines, semaphores, a, b, c, d),
+        0x22 => counting::pend(tasks, lines, semaphores, state, x, a, b, c, d),
+        0x23 => counting::post(tasks, lines, semaphores, a, b, c, d),
         0x24 => calls::reset(lines, semaphores, x, a, b, c, d),
         _ => rows::answers::refused(1),
     }

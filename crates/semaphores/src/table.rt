@@ -1,11 +1,11 @@
-// A semaphore's row, the first row that is free, and how far a count goes.
+// A semaphore's row, and the first row that is free.
 use rows::words::USED;
 use rules::Semaphores;
 ghost use mathlib.Core.Path.{_≡_};
 ghost use mathlib.Core.List.{[], _∷_};
 ghost use Prim.Native.Nat.{_≤_};
 ghost use Rattle.rules.specs.Tables.{semaphoreRow};
-ghost use Rattle.rules.specs.Semaphores.{freeSemaphore, countUp};
+ghost use Rattle.rules.specs.Semaphores.{freeSemaphore};
 
 // The lowest free number; 16 where there is none.
 pub fn free_semaphore(semaphores: &Semaphores) -> usize
@@ -31,14 +31,4 @@ pub fn put_semaphore(semaphores: &mut Semaphores, i: usize, used: u32, kind: u32
         semaphores[at + 1] = kind;
         semaphores[at + 2] = count;
     }
-}
-
-// One up, and no more than the kind's most.
-pub fn count_up(kind: u32, n: u32) -> u32
-    ensures { λ r. ⌜ r ≡ countUp kind n ⌝ }
-{
-    if n < rows::readings::most(kind) {
-        return n + 1;
-    }
-    n
 }

@@ -1,7 +1,5 @@
 // Whether tables are sound, whatever stands in them: a function for each rule of 'Sound tables'.
-pub mod objects;
 pub mod records;
-pub mod standing;
 
 use rules::Clocks;
 use rules::Events;

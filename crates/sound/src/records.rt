@@ -7,10 +7,9 @@ use rules::Swis;
 use rules::Task;
 use rules::Tasks;
 ghost use mathlib.Core.Path.{_≡_};
-ghost use Prim.Native.Nat.{ℕ};
 ghost use Rattle.fold.specs.Rule.{holds, _is_, _isnt_, _under_, _and_, _gives_};
 ghost use Rattle.rules.specs.Tables.{levels, task};
-ghost use Rattle.rules.specs.Heap.{unit, free, laterIn};
+ghost use Rattle.rules.specs.Heap.{free, laterIn};
 ghost use Rattle.rules.specs.Sound.{stateRule, heapRule, clockRule, clocksRule};
 ghost use Rattle.rules.specs.Sound.{noWait, idleRule, waitRule, otherRule, taskRule, tasksRule};
 

@@ -1,5 +1,5 @@
 -- What the steps of a call, one after the other, leave of the Swis and their lines.
-use Prim.Native.Nat.{ℕ, suc, _+_, _*_, _-_, _≤_, _<_}
+use Prim.Native.Nat.{ℕ, suc, _+_, _*_, _≤_, _<_}
 use mathlib.Core.Path.{_≡_, sym, ap, _∙_}
 use mathlib.Core.Logic.{_≢_}
 use mathlib.Core.Bool.{Bool, true, false, not, _&&_}
@@ -14,24 +14,12 @@ use Rattle.fold.specs.Lists.{bit, count}
 use Rattle.fold.specs.Find.{allBelow}
 use Rattle.fold.proofs.Laws.{count-append, count-snoc}
 use Rattle.fold.proofs.Finds.{all-yes, all-no}
-use Rattle.rules.specs.Answer.{after, unknown}
-use Rattle.rules.specs.Tables.{swi, withSwi, swiRow, clock, PRIORITY, POSTED}
-use Rattle.rules.specs.Lines.{line, joined, activeLine}
-use Rattle.rules.specs.Swis.{Posts, posts, posted, isActive, isNamed, swiCall}
-use Rattle.rules.specs.declared.Answer.{Answer}
+use Rattle.rules.specs.Answer.{unknown}
+use Rattle.rules.specs.Tables.{swi, swiRow, clock}
+use Rattle.rules.specs.Lines.{line, activeLine}
+use Rattle.rules.specs.Swis.{Posts, isActive, isNamed, swiCall}
 use Rattle.rules.specs.declared.Clock.{Clock}
 use Rattle.laws.proofs.Rows.{withRow-in, withRow-out}
-
--- ---- what a call leaves: its answer and its tables
-pub leaves : {A : Type 0} {r s : Answer} {t u : A} → r ≡ s → t ≡ u → after r t ≡ after s u
-leaves p q = λ z. record { answer = p z; next = q z }
-
--- ---- a word that was read is 0, or is not
-pub zero-is : {r x : ℕ} → r ≡ x → r ≡ 0 → eqb x 0 ≡ true
-zero-is e f = eq-eqb _ _ (sym e ∙ f)
-
-pub zero-not : {r x : ℕ} → r ≡ x → r ≢ 0 → eqb x 0 ≡ false
-zero-not {x = x} e f = ne-eqb x 0 (λ (z : x ≡ 0). f (e ∙ z))
 
 -- ---- a row, stored word by word
 module _ (ws : List ℕ) (i u p n t q k : ℕ) where
@@ -96,22 +84,6 @@ module _ (cs : List ℕ) (i n : ℕ) {k : Clock} (e : k ≡ clock cs n) where
 
   pub named-not : (eqb (k .used) 1 && eqb (k .swi) i) ≡ false → allBelow n (notBy cs i) ≡ true → allBelow (n + 1) (notBy cs i) ≡ true
   named-not t a = all-yes (notBy cs i) n a notBy-is (ap not t)
-
--- ---- a post: q and p are the words posted and priority
-module _ (i : ℕ) (ws ls : List ℕ) where
-  module _ (h : i < 16) {q : ℕ} (a : q ≡ swi ws i POSTED) where
-    pub posted-now : q ≡ 0 → {p : ℕ} {ws₁ ls₁ : List ℕ}
-        → p ≡ swi ws i PRIORITY → ws₁ ≡ withSwi ws i POSTED 1 → ls₁ ≡ joined (32 + p) i ls → posts ws₁ ls₁ ≡ posted i (posts ws ls)
-    unfolding posted
-    posted-now z b c d = rw (d, c, b, lt-ltb i 16 h, zero-is a z)
-
-    pub posted-already : q ≢ 0 → posts ws ls ≡ posted i (posts ws ls)
-    unfolding posted
-    posted-already z = rw (lt-ltb i 16 h, zero-not a z)
-
-  pub posted-none : 16 ≤ i → posts ws ls ≡ posted i (posts ws ls)
-  unfolding posted
-  posted-none h = rw (le-ltb i 16 h)
 
 -- ---- a number that no call on Swis has
 pub no-call : (p : Posts) (cs st : List ℕ) (x n a b c d : ℕ)

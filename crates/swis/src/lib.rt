@@ -1,6 +1,5 @@
 // The calls on Swis, 10 to 18.
 pub mod calls;
-pub mod posts;
 pub mod table;
 
 use rules::Answer;
@@ -33,11 +32,11 @@ pub fn swi_call(
     match number {
         0x10 => calls::create(swis, x, a, b, c, d),
         0x11 => calls::delete(swis, lines, clocks, x, a, b, c, d),
-        0x12 => posts::post(swis, lines, a, b, c, d),
-        0x13 => posts::add(swis, lines, a, b, c, d),
-        0x14 => posts::take(swis, lines, a, b, c, d),
-        0x15 => posts::set_bits(swis, lines, a, b, c, d),
-        0x16 => posts::clear_bits(swis, lines, a, b, c, d),
+        0x12 => posting::post(swis, lines, a, b, c, d),
+        0x13 => posting::add(swis, lines, a, b, c, d),
+        0x14 => posting::take(swis, lines, a, b, c, d),
+        0x15 => posting::set_bits(swis, lines, a, b, c, d),
+        0x16 => posting::clear_bits(swis, lines, a, b, c, d),
         0x17 => calls::end(swis, lines, state, x, a, b, c, d),
         0x18 => calls::taken(swis, lines, x, a, b, c, d),
         _ => rows::answers::refused(1),

@@ -11,7 +11,6 @@ ghost use Rattle.rules.specs.Switches.{interruptCases};
 ghost use Rattle.rules.specs.Tick.{tickedOf, ticked, switchCall};
 
 pub mod state;
-pub mod tick;
 
 // 76 tick.
 pub fn tick_call(
@@ -32,7 +31,7 @@ pub fn tick_call(
     if code != 0 {
         return rows::answers::refused(code);
     }
-    tick::tick(tasks, lines, swis, clocks, state);
+    ticking::tick(tasks, lines, swis, clocks, state);
     rows::answers::accepted(0, 0)
 }
 

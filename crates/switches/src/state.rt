@@ -2,8 +2,7 @@
 use rules::Answer;
 use rules::State;
 ghost use mathlib.Core.Path.{_≡_};
-ghost use Prim.Native.Nat.{_-_};
-ghost use Rattle.rules.specs.Answer.{after, answered, called, codeOf, notT, notTS, notI};
+ghost use Rattle.rules.specs.Answer.{after, answered, called, codeOf, notT, notTS};
 ghost use Rattle.rules.specs.Tables.{SWIS, TASKS};
 ghost use Rattle.rules.specs.Switches.{wasOn, offCases, offEffect, restoreCases, restoreEffect, inCases, inEffect, interruptCases, outEffect};
 
@@ -143,16 +142,6 @@ pub fn interrupt_code(x: u32, a: u32, b: u32, c: u32, d: u32) -> u32
     0
 }
 
-// One less, and 0 stays 0.
-pub fn one_less(n: u32) -> u32
-    ensures { λ r. ⌜ r ≡ n - 1 ⌝ }
-{
-    if n == 0 {
-        return 0;
-    }
-    n - 1
-}
-
 // 75 interrupt out.
 pub fn interrupt_out(state: &mut State, x: u32, a: u32, b: u32, c: u32, d: u32) -> Answer
     ensures { λ r. ⌜ after r (now (state .exit)) ≡ answered (now (state .entry)) (called (interruptCases x a b c d) (outEffect (now (state .entry)))) ⌝ }
@@ -161,6 +150,6 @@ pub fn interrupt_out(state: &mut State, x: u32, a: u32, b: u32, c: u32, d: u32) 
     if code != 0 {
         return rows::answers::refused(code);
     }
-    state[0] = one_less(state[0]);
+    state[0] = rows::readings::one_less(state[0]);
     rows::answers::accepted(0, 0)
 }

@@ -6,9 +6,9 @@ use mathlib.Core.Bool.{Bool, true, false}
 use mathlib.Core.List.{List}
 use borrow.Author.Tests.{eq-eqb, ne-eqb}
 use Rattle.laws.proofs.Calls.{unknown-is}
-use Rattle.rules.specs.Answer.{After, after, answer, answered, accepted}
+use Rattle.rules.specs.Answer.{After, after, answer, answered}
 use Rattle.rules.specs.Rows.{field}
-use Rattle.rules.specs.Tables.{task, withTask, noTask, current}
+use Rattle.rules.specs.Tables.{task, withTask, noTask}
 use Rattle.rules.specs.Lines.{Queued, queued, moved, atBack}
 use Rattle.rules.specs.Tasks.{freeTask, blocked, placedAt, withPriority, reprioritized}
 use Rattle.rules.specs.Tasks.{createEffect, deleteEffect, setPriorityEffect, lastResultEffect, taskCall}
@@ -30,12 +30,6 @@ module _ (ts ls : List ℕ) {r : Answer} where
       → after r q ≡ setPriorityEffect (queued ts ls) i p
   unfolding setPriorityEffect task
   priority-set i p a b c = rw (c, b, a)
-
-  -- the current task gets a row worked out from its own: it yields, ends or sleeps
-  pub current-moved : (st : List ℕ) (f : Task → Task) (o : ℕ) {i : ℕ} {old new : Task} {q : Queued} → i ≡ current st → old ≡ task ts i → new ≡ f old
-      → q ≡ moved atBack i new (queued ts ls) → r ≡ answer 0 o 0
-      → after r q ≡ accepted o 0 (moved atBack (current st) (f (task ts (current st))) (queued ts ls))
-  current-moved st f o a b c d e = rw (e, d, c, b, a)
 
   pub result-read : (i : ℕ) {k : Task} → k ≡ task ts i → r ≡ answer 0 (k .outcome) (k .value)
       → after r (queued ts ls) ≡ lastResultEffect (queued ts ls) i

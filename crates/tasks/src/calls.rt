@@ -1,22 +1,22 @@
 // The calls that name a task: 00 create, 01 delete, 02 set priority and 06 last result. Of each: its code, 0 where it is accepted; its
 // effect where it is; and the call. x is who calls: 0 T, 1 S, 2 I; a, b, c, d are the arguments.
-use super::table::INACTIVE;
-use super::table::MINUS_ONE;
-use super::table::MODE;
-use super::table::NOT_IN_USE;
-use super::table::PRIORITY;
-use super::table::TERMINATED;
-use super::table::blocked;
-use super::table::current;
-use super::table::free_task;
-use super::table::is_priority;
-use super::table::no_task;
-use super::table::placed_at;
-use super::table::with_priority;
 use rules::Answer;
 use rules::Lines;
 use rules::State;
 use rules::Tasks;
+use task_rows::INACTIVE;
+use task_rows::MINUS_ONE;
+use task_rows::MODE;
+use task_rows::NOT_IN_USE;
+use task_rows::PRIORITY;
+use task_rows::TERMINATED;
+use task_rows::blocked;
+use task_rows::current;
+use task_rows::free_task;
+use task_rows::is_priority;
+use task_rows::no_task;
+use task_rows::placed_at;
+use task_rows::with_priority;
 ghost use mathlib.Core.Path.{_≡_};
 ghost use mathlib.Core.List.{List};
 ghost use Prim.Native.Nat.{ℕ};

@@ -1,7 +1,5 @@
 // The calls of tasks, 00 to 06.
 pub mod calls;
-pub mod running;
-pub mod table;
 
 use rules::Answer;
 use rules::Lines;
@@ -33,9 +31,9 @@ pub fn task_call(
         0x00 => calls::create(tasks, lines, x, a, b, c, d),
         0x01 => calls::delete(tasks, x, a, b, c, d),
         0x02 => calls::set_priority(tasks, lines, state, x, a, b, c, d),
-        0x03 => running::yield_task(tasks, lines, state, x, a, b, c, d),
-        0x04 => running::end(tasks, lines, state, x, a, b, c, d),
-        0x05 => running::sleep(tasks, lines, state, x, a, b, c, d),
+        0x03 => running_task::yield_task(tasks, lines, state, x, a, b, c, d),
+        0x04 => running_task::end(tasks, lines, state, x, a, b, c, d),
+        0x05 => running_task::sleep(tasks, lines, state, x, a, b, c, d),
         0x06 => calls::last_result(tasks, a, b, c, d),
         _ => rows::answers::refused(1),
     }

@@ -12,4 +12,4 @@ replay-part-spec =
     (λ c κs. search needs)
     (λ c κs. search needs)
     (λ c κs. search needs)
-    (λ c. let a = c .before .before .before .before .before .before .before .before .before .before .before .before .before .before .before .before .before .args in turned (a .last) (a .n) (a .offset) (a .count) (tables (a .tasks .now) (a .lines .now) (a .semaphores .now) (a .events .now) (a .mailboxes .now) (a .swis .now) (a .clocks .now) (a .heap .now) (a .state .now)) (a .part .now) (a .out .now) (c .before .before .before .before .before .before .before .before .before .before .before .before .before .before .before .front-arg2 .given .0) (c .before .before .before .before .before .before .before .before .before .before .before .before .before .before .front .ensures) (c .before .before .before .records .result) (c .before .before .before .records .ensures) (c .before .to-front .ensures) (c .wrapping-add-u64 .ensures)))
+    (λ c. let a = c .before .before .before .before .before .before .before .before .before .before .before .before .before .before .before .before .before .args in (turned (a .last) (a .n) (a .p .offset) (a .p .count) (tables (a .tasks .now) (a .lines .now) (a .semaphores .now) (a .events .now) (a .mailboxes .now) (a .swis .now) (a .clocks .now) (a .heap .now) (a .state .now)) (a .part .now) (a .out .now) (c .before .before .before .before .before .before .before .before .before .before .before .before .before .before .before .front-arg2 .given .0) (c .before .before .before .before .before .before .before .before .before .before .before .before .before .before .front .ensures) (c .before .before .before .records .result) (c .before .before .before .records .ensures .0) (c .before .to-front .ensures) (c .come-to .ensures), c .before .before .before .records .ensures .1)))

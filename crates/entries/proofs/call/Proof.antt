@@ -9,4 +9,4 @@ call-spec =
     (tie.spec
     (λ c κs. search needs)
     (λ c κs. search needs)
-    (λ c. c .stepped .ensures ∙ c .before .call-in-place .ensures))
+    (λ c. c .stepped .ensures ∙ c .before .tested-call .ensures))

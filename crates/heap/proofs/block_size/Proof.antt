@@ -1,6 +1,6 @@
 use native.Mathlib.Omega.{arith}
 use borrow.Author.Needs.{needs}
-use Rattle.heap.proofs.Runs.{counted-most}
+use Rattle.free_units.proofs.Runs.{counted-most}
 use Rattle.heap.proofs.Blocks.{alone, followed}
 use Rattle.heap.proofs.block_size.Statement.{statement}
 use Rattle.heap.proofs.block_size.Tie as tie

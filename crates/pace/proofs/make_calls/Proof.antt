@@ -1,17 +1,18 @@
-use Prim.Native.Nat.{_-_, _≤_}
+use Prim.Native.Nat.{_-_}
 use native.Mathlib.Omega.{arith}
-use borrow.Author.Needs.{needs}
 use Rattle.rules.specs.Tables.{tables}
-use Rattle.kernel.specs.Known.{Known}
+use Rattle.kernel.specs.Safe.{Safe}
+use Rattle.kernel.proofs.Keeping.{safe-sound}
 use Rattle.pace.proofs.make_calls.Statement.{statement}
 use Rattle.pace.proofs.make_calls.Tie as tie
 
 abbrev Inv-loop : tie.InvT-loop
-Inv-loop known tasks₀ lines₀ semaphores₀ events₀ mailboxes₀ swis₀ clocks₀ heap₀ state₀ calls n from sum₀ k₀ tasks lines semaphores events mailboxes swis clocks heap state sum k =
-    Known known (tables tasks lines semaphores events mailboxes swis clocks heap state) × (k ≤ 3276)
+Inv-loop tasks₀ lines₀ semaphores₀ events₀ mailboxes₀ swis₀ clocks₀ heap₀ state₀ calls n from sum₀ k₀ tasks lines semaphores events mailboxes swis clocks heap state sum k =
+    Safe (tables tasks lines semaphores events mailboxes swis clocks heap state)
 
 abbrev μ-loop : tie.MeasureT-loop
-μ-loop known tasks₀ lines₀ semaphores₀ events₀ mailboxes₀ swis₀ clocks₀ heap₀ state₀ calls n from sum₀ k₀ tasks lines semaphores events mailboxes swis clocks heap state sum k = 3276 - k
+μ-loop tasks₀ lines₀ semaphores₀ events₀ mailboxes₀ swis₀ clocks₀ heap₀ state₀ calls n from sum₀ k₀ tasks lines semaphores events mailboxes swis clocks heap state sum k =
+    n - k
 
 pub make-calls-spec : {M : Type 1} → statement M
 make-calls-spec =
@@ -19,30 +20,11 @@ make-calls-spec =
     (tie.spec
     Inv-loop
     μ-loop
-    (λ c. search needs)
-    (λ c. search needs)
-    (λ c. search needs)
-    (λ c. search needs)
-    (λ c. search needs)
-    (λ c. search needs)
-    (λ c. search needs)
-    (λ c. search needs)
-    (λ c. search needs)
-    (λ c. search needs)
-    (λ c. search needs)
-    (λ c. search needs)
-    (λ c. search needs)
-    (λ c. search needs)
-    (λ c. search needs)
-    (λ c. search needs)
-    (λ c. search needs)
-    (λ c. search needs)
-    (λ c. search needs)
-    (λ c. search needs)
-    (λ c. search needs)
-    (λ c κs. search needs)
-    (λ c κs. search needs)
-    (λ c. search needs)
-    (λ c. search needs)
-    (λ c. (c .before .before .known-call .ensures .1, omega (arith, c .before .before .before .before .before .before .before .before .before .before .before .before .before .before .before .before .before .before .loop-test .taken)))
-    (λ c. search needs))
+    (λ c. c .pre)
+    (λ c κs. tt)
+    (λ c κs. safe-sound (c .before .before .before .before .before .before .before .before .before .before .before .loop .inv))
+    (λ c κs. tt)
+    (λ c. omega (arith, c .before .before .before .before .before .before .before .before .before .before .before .before .before .loop-test .taken, c .before .before .before .before .before .before .before .before .before .before .before .before .before .before .before .fits .n .fits))
+    (λ c. omega (arith, c .before .before .before .before .before .before .before .before .before .before .before .before .before .loop-test .taken))
+    (λ c. c .before .before .step .ensures .1 (c .before .before .before .before .before .before .before .before .before .before .before .before .before .before .loop .inv .typed))
+    (λ c. tt))

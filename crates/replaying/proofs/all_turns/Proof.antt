@@ -1,6 +1,8 @@
+use mathlib.Core.Bool.{not}
 use native.Mathlib.Omega.{arith}
 use Rattle.rules.specs.Tables.{tables}
-use Rattle.replaying.specs.Safe.{Safe}
+use Rattle.kernel.specs.Safe.{Safe}
+use Rattle.replaying.proofs.Turns.{one-left}
 use Rattle.replaying.proofs.all_turns.Statement.{statement}
 use Rattle.replaying.proofs.all_turns.Tie as tie
 
@@ -20,9 +22,9 @@ all-turns-spec =
     μ-loop
     (λ c κs. tt)
     (λ c. c .before .before .pre)
-    (λ c. c .before .before .loop .inv)
-    (λ c κs. c .before .before .before .before .before .before .before .before .before .before .before .before .before .loop .inv)
-    (λ c. omega (arith, c .before .before .before .before .before .before .before .before .before .before .before .before .before .loop-test .taken))
-    (λ c. omega (arith, c .before .before .before .before .before .before .before .before .before .before .before .before .before .loop-test .taken))
+    (λ c κs. tt)
+    (λ c κs. c .before .before .before .before .before .before .before .before .before .before .before .before .before .before .before .loop .inv)
+    (λ c. let l = c .before .before .before .before .before .before .before .before .before .before .before .before .before .before .before .before .loop in omega (arith, one-left (l .turns) (not (l .p .ended)) (c .before .before .before .before .before .before .before .before .before .before .before .before .before .before .if1 .taken)))
+    (λ c. let l = c .before .before .before .before .before .before .before .before .before .before .before .before .before .before .before .before .loop in omega (arith, one-left (l .turns) (not (l .p .ended)) (c .before .before .before .before .before .before .before .before .before .before .before .before .before .before .if1 .taken)))
     (λ c. c .turn .ensures)
-    (λ c. c .before .loop .inv))
+    (λ c. c .before .before .loop .inv))

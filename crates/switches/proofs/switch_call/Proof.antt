@@ -1,4 +1,4 @@
-use Rattle.switches.proofs.Ticks.{on-state, no-switch}
+use Rattle.switches.proofs.Numbers.{on-state, no-switch}
 use Rattle.laws.proofs.Calls.{unknown-is}
 use Rattle.rules.specs.Answer.{notT, notTS}
 use Rattle.rules.specs.Switches.{offCases, offEffect, restoreCases, restoreEffect, inCases, inEffect, interruptCases, outEffect}

@@ -1,5 +1,5 @@
 use Rattle.laws.proofs.Calls.{refusal, effected}
-use Rattle.switches.proofs.Ticks.{tick-done}
+use Rattle.switches.proofs.Numbers.{tick-done}
 use Rattle.rules.specs.Answer.{codeOf, accepted, done}
 use Rattle.rules.specs.Switches.{interruptCases}
 use Rattle.rules.specs.Tick.{tickedOf, ticked}

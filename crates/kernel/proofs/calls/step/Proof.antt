@@ -1,4 +1,5 @@
 use borrow.Author.Needs.{needs}
+use Rattle.kernel.proofs.Keeping.{step-safe}
 use Rattle.kernel.proofs.Steps.{step-is}
 use Rattle.kernel.proofs.calls.step.Statement.{statement}
 use Rattle.kernel.proofs.calls.step.Tie as tie
@@ -10,4 +11,9 @@ step-spec =
     (λ c κs. search needs)
     (λ c κs. search needs)
     (λ c κs. search needs)
-    (λ c. step-is _ (c .before .before .before .before .before .before .before .before .before .before .before .before .before .before .before .before .before .pre) _ _ _ _ _ (c .before .before .before .before .before .before .before .any-call .ensures) (c .before .before .before .settle .ensures) (c .running .ensures)))
+    (λ c κs. search needs)
+    (λ c.
+    let s = c .before .before .before .before .before .before .before .before .before .before .before .before .before .before .before .before .before .before in
+    let q = s .args .asked in
+    let e = step-is _ (s .pre) (q .number) (q .a) (q .b) (q .c) (q .d) (c .before .before .before .before .before .before .before .any-call .ensures) (c .before .before .before .settle .ensures) (c .running .ensures) in
+    (e, step-safe _ (s .pre) (q .number) (q .a) (q .b) (q .c) (q .d) (c .before .before .before .before .before .before .before .before .before .before .before .before .before .before .before .before .before .words .ensures) e)))

@@ -1,4 +1,4 @@
-use Rattle.swis.proofs.Steps.{zero-is, zero-not}
+use Rattle.posting.proofs.Steps.{zero-is, zero-not}
 use Rattle.rules.specs.Swis.{deleteCases}
 use Rattle.rules.specs.Answer.{firstGiven}
 use borrow.Author.Tests.{eq-eqb, ne-eqb}

@@ -1,4 +1,4 @@
-use Rattle.swis.proofs.Steps.{zero-is, zero-not}
+use Rattle.posting.proofs.Steps.{zero-is, zero-not}
 use Rattle.fold.proofs.Finds.{Passed, first-starts, first-goes, first-here, first-none}
 use Rattle.rules.specs.Swis.{freeSwi}
 use Rattle.rules.specs.Tables.{swi, USED}

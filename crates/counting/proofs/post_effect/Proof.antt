@@ -1,0 +1,21 @@
+use Rattle.counting.proofs.Steps.{post-wakes, post-counts}
+use borrow.Author.Needs.{needs}
+use Rattle.counting.proofs.post_effect.Statement.{statement}
+use Rattle.counting.proofs.post_effect.Tie as tie
+
+pub post-effect-spec : {M : Type 1} → statement M
+post-effect-spec =
+    tie.close
+    (tie.spec
+    (λ c κs. search needs)
+    (λ c κs. search needs)
+    (λ c. search needs)
+    (λ c κs. search needs)
+    (λ c κs. search needs)
+    (λ c. let b = c .before .before .before .before .before .before .before .before .before in post-wakes (b .args .tasks .now) (b .args .lines .now) (b .args .semaphores .now) (b .args .a) (c .before .before .before .before .before .before .before .len .ensures) (c .before .before .before .before .before .before .if1 .taken) (c .before .before .before .before .first .ensures) (c .before .wake .ensures) (c .accepted .ensures))
+    (λ c κs. search needs)
+    (λ c κs. search needs)
+    (λ c κs. search needs)
+    (λ c κs. search needs)
+    (λ c κs. search needs)
+    (λ c. let b = c .before .before .before .before .before .before .before .before .before .before .before in post-counts (b .args .tasks .now) (b .args .lines .now) (b .args .semaphores .now) (b .args .a) (c .before .before .before .before .before .before .before .before .before .len .ensures) (c .before .before .before .before .before .before .before .before .if1 .left) (c .before .before .before .before .before .before .semaphore .ensures) (c .before .before .before .before .semaphore2 .ensures) (c .before .before .count-up .ensures) (c .before .set-semaphore .ensures) (c .accepted2 .ensures)))

@@ -1,0 +1,20 @@
+use Rattle.matching.proofs.Steps.{posted-only, posted-serves}
+use borrow.Author.Needs.{needs}
+use Rattle.matching.proofs.post_bits.Statement.{statement}
+use Rattle.matching.proofs.post_bits.Tie as tie
+
+pub post-bits-spec : {M : Type 1} → statement M
+post-bits-spec =
+    tie.close
+    (tie.spec
+    (λ c κs. search needs)
+    (λ c κs. search needs)
+    (λ c κs. search needs)
+    (λ c. let b = c .before .before .before .before .before .before .before in posted-only (b .args .tasks .now) (b .args .lines .now) (b .args .events .now) (b .args .a) (b .args .bits) (c .before .before .before .before .waiter-match .ensures) (c .before .before .before .if1 .taken) (c .before .set-event .ensures) (c .accepted .ensures))
+    (λ c κs. search needs)
+    (λ c. search needs)
+    (λ c κs. search needs)
+    (λ c. search needs)
+    (λ c κs. search needs)
+    (λ c κs. search needs)
+    (λ c. let b = c .before .before .before .before .before .before .before .before .before .before .before .before in posted-serves (b .args .tasks .now) (b .args .lines .now) (b .args .events .now) (b .args .a) (b .args .bits) (c .before .before .before .before .before .before .before .before .before .waiter-match .ensures) (c .before .before .before .before .before .before .before .before .if1 .left) (c .before .before .before .before .before .before .set-event2 .ensures) (c .before .before .before .before .first .ensures) (c .before .wake .ensures) (c .accepted2 .ensures)))

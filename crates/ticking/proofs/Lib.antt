@@ -1,0 +1,2 @@
+pub mod Still
+pub mod Ticks
