@@ -1,4 +1,5 @@
-// Clocks: calls 50 to 53, and a clock's own step at a tick. `x` is who calls: 0 T, 1 S, 2 I.
+// Clocks: calls 50 to 53. `x` is who calls: 0 T, 1 S, 2 I.
+use ageing::with_left;
 use rows::answers::accepted;
 use rows::answers::refused;
 use rows::answers::unused;
@@ -6,7 +7,6 @@ use rows::words::USED;
 use rows::words::clock;
 use rows::words::set_clock;
 use rows::words::swi;
-use rules::AgedClock;
 use rules::Answer;
 use rules::Clock;
 use rules::Clocks;
@@ -14,10 +14,9 @@ use rules::Swis;
 ghost use mathlib.Core.Path.{_≡_};
 ghost use Prim.Native.Nat.{_≤_};
 ghost use Rattle.rules.specs.Answer.{after, answered, called, codeOf};
-ghost use Rattle.rules.specs.Clocks.{freeClock, withLeft, clockCall};
+ghost use Rattle.rules.specs.Clocks.{freeClock, clockCall};
 ghost use Rattle.rules.specs.Clocks.{createCases, createEffect, deleteCases, deleteEffect};
 ghost use Rattle.rules.specs.Clocks.{startStopCases, startEffect, stopEffect};
-ghost use Rattle.rules.specs.Tick.{aged};
 
 // The lowest free number; 16 where there is none.
 pub fn free_clock(clocks: &Clocks) -> usize
@@ -32,19 +31,6 @@ pub fn free_clock(clocks: &Clocks) -> usize
         i += 1;
     }
     16
-}
-
-// The clock with n ticks left; with none it is stopped.
-pub fn with_left(k: Clock, n: u32) -> Clock
-    ensures { λ r. ⌜ r ≡ withLeft k n ⌝ }
-{
-    Clock {
-        used: k.used,
-        swi: k.swi,
-        first: k.first,
-        period: k.period,
-        left: n,
-    }
 }
 
 // ---- 50 create (Swi, first ticks, period)
@@ -223,48 +209,3 @@ pub fn clock_call(
 }
 
 // ---- a clock's step at a tick
-
-// One tick less; at 0 its Swi is posted, and it has its period again or stops if that is 0.
-pub fn aged(k: Clock) -> AgedClock
-    ensures { λ r. ⌜ r ≡ aged k ⌝ }
-{
-    if k.left == 0 {
-        return AgedClock {
-            clock: k,
-            fired: false,
-        };
-    }
-    if k.left == 1 {
-        let again = with_left(k, k.period);
-        return AgedClock {
-            clock: again,
-            fired: true,
-        };
-    }
-    let later = with_left(k, k.left - 1);
-    AgedClock {
-        clock: later,
-        fired: false,
-    }
-}
-
-// The same on a record that is lent: it is aged in place. True: its Swi is posted.
-pub fn age(k: &mut Clock) -> bool
-    ensures { λ r. ⌜ (now (k .exit) ≡ aged (now (k .entry)) .clock) × (r ≡ aged (now (k .entry)) .fired) ⌝ }
-{
-    let older = aged(*k);
-    *k = older.clock;
-    older.fired
-}
-
-// A caller that has the record by value lends it here, so that no other function makes a reference to a record.
-pub fn age_one(k: Clock) -> AgedClock
-    ensures { λ r. ⌜ r ≡ aged k ⌝ }
-{
-    let mut one = k;
-    let fired = age(&mut one);
-    AgedClock {
-        clock: one,
-        fired: fired,
-    }
-}

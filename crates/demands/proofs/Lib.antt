@@ -2,8 +2,4 @@ pub mod One
 pub mod Two
 pub mod Log
 pub mod Three
-pub mod BySteps
-pub mod Story
-pub mod Example
-pub mod ByPriority
 pub mod OneAnswer

@@ -2,89 +2,37 @@
 use Prim.Native.Nat.{ℕ, _+_, _-_, _≤_, _<_}
 use mathlib.Core.Path.{_≡_, refl, sym, ap, _∙_}
 use mathlib.Core.Bool.{Bool, true, false, not, _&&_, cond as if, true≢false}
-use mathlib.Core.List.{List, [], _∷_, _++_, append-nil, append-assoc}
+use mathlib.Core.List.{List, [], _++_, append-nil, append-assoc}
 use native.Mathlib.Nat.{zero-add}
 use native.Mathlib.Omega.{arith}
-use types.Run.{OneOf, miss}
-use denote.Enum.Declared.{tagOf}
 use lib.ListN.{length, take, drop, length-take}
 use lib.Seq.{sets, drop-length}
 use Rattle.fold.specs.Lists.{bit}
-use Rattle.rules.specs.Log.{readAt, argumentBytes, argument, moveTo}
-use Rattle.rules.specs.Text.{lineText, lineFeed}
-use Rattle.rules.specs.Step.{step, stepOf}
-use Rattle.rules.specs.Replay.{recordCall}
-use Rattle.rules.specs.declared.Answer.{Answer}
+use Rattle.rules.specs.Log.{readAt}
 use Rattle.rules.specs.declared.Read.{Read}
 use Rattle.rules.specs.declared.Read.the-variants.{Record, End, Cut, Length, Version}
 use Rattle.rules.specs.declared.Tables.{Tables}
-use Rattle.rules.specs.declared.Thread.{Thread}
 use Rattle.rules.proofs.Read as R
 use Rattle.text.specs.Put.{Put}
 use Rattle.text.proofs.Puts.{fits, put-none, put-more}
 use Rattle.calllog.proofs.Records.{record-fits}
-use Rattle.parts.specs.Part.{kept, Left, textBefore, waiting, lastText, readable, partOf}
-use Rattle.kernel.specs.Safe.{Safe}
-use Rattle.kernel.specs.declared.calls.Call.{Call}
-use Rattle.kernel.proofs.Keeping.{safe-call}
-use Rattle.desk.specs.declared.Ran.{Ran}
+use Rattle.parts.specs.Part.{kept, Left, textBefore, waiting, readable, partOf}
+use Rattle.reads.specs.declared.Ran.{Ran}
 use Rattle.desk.specs.declared.Progress.{Progress}
-use Rattle.desk.specs.Done.{callIn, ranTo, comeTo, oneFor, oneLast, Went, Gone, Turned}
+use Rattle.reads.specs.Done.{ranTo, oneFor, Went}
+use Rattle.desk.specs.Done.{comeTo, Gone, Turned}
 use Rattle.parts.proofs.Steps.{partAt, part-whole, part-step}
 use Rattle.parts.proofs.Bounds.{part-bounded}
+
+-- ---- what a turn comes to
+pub come-is : (o : ℕ) (r : Ran) (held : ℕ) {offset : ℕ} → offset ≡ kept (o + r .at)
+    → record { held = held; offset = offset; count = r .count; len = r .len; ended = r .ended } ≡ comeTo o r held
+come-is o r held e = rw e
 
 -- ---- a part goes on where it has not ended and can be read
 goes-on : (a b : Bool) → (not a && b) ≡ true → (a ≡ false) × (b ≡ true)
 goes-on true b h = absurd (true≢false (sym h))
 goes-on false b h = (refl, h)
-
--- ---- a record's call, the end, and what a turn comes to: the parts of each struct
-pub asked-is : (s : List ℕ) (place number : ℕ) {bytes : List ℕ} {a b c d : ℕ} → bytes ≡ argumentBytes s (place + 4)
-    → a ≡ argument bytes 0 → b ≡ argument bytes 1 → c ≡ argument bytes 2 → d ≡ argument bytes 3
-    → record { number = number; a = a; b = b; c = c; d = d } ≡ callIn (argumentBytes s (place + 4)) number
-asked-is s place number e p q r u = rw (← e, p, q, r, u)
-
-pub ended-is : (s : List ℕ) (f : Read) (o : ℕ) (p : Ran) {xs ys : List ℕ} {len : ℕ} {r : Ran}
-    → Put xs (p .len) (lastText f o (p .count)) ys len → r ≡ ranTo (length s) (p .count) len true
-    → Put xs (p .len) (lastText f o (p .count)) ys (r .len) × (r ≡ ranTo (length s) (p .count) (r .len) true)
-ended-is s f o p q e = rw e (q, refl)
-
-pub come-is : (o : ℕ) (r : Ran) (held : ℕ) {offset : ℕ} → offset ≡ kept (o + r .at)
-    → record { held = held; offset = offset; count = r .count; len = r .len; ended = r .ended } ≡ comeTo o r held
-come-is o r held e = rw e
-
--- ---- one read
-one-last : (f : Read) (s : List ℕ) (o n : ℕ) (t : Tables) → OneOf (1 ∷ 2 ∷ 3 ∷ 4 ∷ []) (tagOf R.the-type f) → oneFor f s o n t ≡ oneLast f s o n t
-unfolding oneFor
-one-last (Record number start) s o n t h = absurd (miss (1 ∷ 2 ∷ 3 ∷ 4 ∷ []) 0 tt h)
-one-last End s o n t h = refl
-one-last (Cut k) s o n t h = refl
-one-last (Length k) s o n t h = refl
-one-last (Version k) s o n t h = refl
-
-module _ (s : List ℕ) (o : ℕ) (t : Tables) (p : Ran) {f : Read} (found : f ≡ readAt s (p .at)) {xs ys : List ℕ} where
-  -- the end or a fault
-  pub went-last : OneOf (1 ∷ 2 ∷ 3 ∷ 4 ∷ []) (tagOf R.the-type f) → {r : Ran}
-      → Put xs (p .len) (lastText f o (p .count)) ys (r .len) × (r ≡ ranTo (length s) (p .count) (r .len) true)
-      → Went (oneFor (readAt s (p .at)) s o (p .count) t) t xs (p .len) ys r
-  went-last h e =
-      rw (← found, one-last f s o (p .count) t h)
-      (record { line = e .0; tables = refl; at = ap (λ (r : Ran). r .at) (e .1); count = ap (λ (r : Ran). r .count) (e .1); ended = ap (λ (r : Ran). r .ended) (e .1) })
-
-  -- a record: its call on safe tables is `step`
-  pub went-record : Safe t → (number begin : ℕ) → f ≡ Record number begin → {q : Call} → q ≡ callIn (argumentBytes s (p .at + 4)) number
-      → {u : Tables} {a : Answer} {x : Thread} → stepOf u a x ≡ step t (q .number) (q .a) (q .b) (q .c) (q .d)
-      → {n len next : ℕ} → n ≡ kept (p .count + 1) → Put xs (p .len) (lineText n a x ++ lineFeed) ys len → next ≡ moveTo f (p .at)
-      → {r : Ran} → r ≡ ranTo next n len false
-      → Went (oneFor (readAt s (p .at)) s o (p .count) t) u xs (p .len) ys r
-  unfolding oneFor moveTo
-  went-record safe number begin e {q} asked {u} {a} {x} said {n} {len} {next} up line moved r-is =
-      let start = record-fits s (p .at) number begin (sym found ∙ e) .1 in
-      let gave : stepOf u a x ≡ recordCall t number (argumentBytes s begin) =
-      said ∙ safe-call t safe (q .number) (q .a) (q .b) (q .c) (q .d) ∙ rw (asked, start) in
-      let next-is : next ≡ begin + 16 = rw e at moved in
-      rw (← found, e, ← gave, r-is)
-      (record { line = rw (← up) line; tables = refl; at = next-is; count = up; ended = refl })
 
 -- ---- part s from offset o on, after n₀ records, with tables t₀ and buffer xs
 -- where nothing follows

@@ -1,128 +1,29 @@
 // The replay of a log that comes part by part, as text. The calls are made on lent tables, and of the log only the bytes of a record
 // that is not whole yet are kept.
-pub mod last;
-
-use kernel::calls::Call;
-use kernel::calls::Said;
+use reads::Ran;
+use reads::next_line;
+use reads::ran_to;
 use rules::Clocks;
 use rules::Events;
 use rules::Heap;
 use rules::Lines;
 use rules::Mailboxes;
-use rules::Read;
 use rules::Semaphores;
 use rules::State;
 use rules::Swis;
 use rules::Tasks;
 use text::Text;
 ghost use mathlib.Core.Path.{_≡_};
-ghost use mathlib.Core.Bool.{true};
-ghost use mathlib.Core.List.{_++_};
-ghost use Prim.Native.Nat.{_+_, _<_, _≤_};
+ghost use Prim.Native.Nat.{_<_, _≤_};
 ghost use lib.ListN.{length, take, drop};
 ghost use lib.Seq.{sets};
-ghost use Rattle.rules.specs.Log.{readAt, argumentBytes};
 ghost use Rattle.rules.specs.Tables.{tables};
-ghost use Rattle.rules.specs.Text.{lineText, lineFeed};
-ghost use Rattle.text.specs.Put.{Put};
-ghost use Rattle.parts.specs.Part.{lastText, partOf};
+ghost use Rattle.parts.specs.Part.{partOf};
 ghost use Rattle.kernel.specs.Safe.{Safe};
-ghost use Rattle.desk.specs.Done.{callIn, ranTo, comeTo, oneFor, Went, Gone, Turned};
+ghost use Rattle.desk.specs.Done.{comeTo, Gone, Turned};
 
 // A part of a log: the bytes that waited, and those that came.
 pub type Part = [u8; 2560];
-
-// The call of the record that stands at a place of the log.
-fn record_call(log: &[u8], place: usize, number: u8) -> Call
-    ensures { λ r. ⌜ r ≡ callIn (argumentBytes (now (log .entry)) (place + 4)) number ⌝ }
-{
-    let bytes = calllog::reader::read_arguments(log, place);
-    Call {
-        number: number as u32,
-        a: calllog::argument(bytes, 0),
-        b: calllog::argument(bytes, 1),
-        c: calllog::argument(bytes, 2),
-        d: calllog::argument(bytes, 3),
-    }
-}
-
-// The line of record n, by what its call said.
-fn put_said(out: &mut Text, at: usize, n: u64, said: Said) -> usize
-    ensures { λ r. ⌜ Put (now (out .entry)) at (lineText n (said .answer) (said .thread) ++ lineFeed) (now (out .exit)) r ⌝ }
-{
-    let answer = said.answer;
-    let thread = said.thread;
-    text::put_line(out, at, n, answer, thread)
-}
-
-// Where the records of a part stopped.
-pub struct Ran {
-    pub at: usize,
-    pub count: u64,
-    pub len: usize,
-    pub ended: bool,
-}
-
-fn ran_to(at: usize, count: u64, len: usize, ended: bool) -> Ran
-    ensures { λ r. ⌜ r ≡ ranTo at count len ended ⌝ }
-{
-    Ran {
-        at,
-        count,
-        len,
-        ended,
-    }
-}
-
-// The replay ends at what was found, which is no record.
-fn ended_at(log: &[u8], found: Read, offset: u64, ran: Ran, out: &mut Text) -> Ran
-    ensures { λ r. ⌜ Put (now (out .entry)) (ran .len) (lastText found offset (ran .count)) (now (out .exit)) (r .len) × (r ≡ ranTo (length (now (log .entry))) (ran .count) (r .len) true) ⌝ }
-{
-    let len = last::put_last(out, ran.len, found, offset, ran.count);
-    ran_to(log.len(), ran.count, len, true)
-}
-
-// One read of a part that starts at an offset of the log: a record's call and its line, or the last line.
-fn next_line(
-    tasks: &mut Tasks,
-    lines: &mut Lines,
-    semaphores: &mut Semaphores,
-    events: &mut Events,
-    mailboxes: &mut Mailboxes,
-    swis: &mut Swis,
-    clocks: &mut Clocks,
-    heap: &mut Heap,
-    state: &mut State,
-    log: &[u8],
-    offset: u64,
-    ran: Ran,
-    out: &mut Text,
-) -> Ran
-    requires { ⌜ Safe (tables (now tasks) (now lines) (now semaphores) (now events) (now mailboxes) (now swis) (now clocks) (now heap) (now state)) ⌝ }
-    ensures { λ r. ⌜ Went (oneFor (readAt (now (log .entry)) (ran .at)) (now (log .entry)) offset (ran .count) (tables (now (tasks .entry)) (now (lines .entry)) (now (semaphores .entry)) (now (events .entry)) (now (mailboxes .entry)) (now (swis .entry)) (now (clocks .entry)) (now (heap .entry)) (now (state .entry)))) (tables (now (tasks .exit)) (now (lines .exit)) (now (semaphores .exit)) (now (events .exit)) (now (mailboxes .exit)) (now (swis .exit)) (now (clocks .exit)) (now (heap .exit)) (now (state .exit))) (now (out .entry)) (ran .len) (now (out .exit)) r ⌝ }
-    ensures { λ _. ⌜ Safe (tables (now (tasks .exit)) (now (lines .exit)) (now (semaphores .exit)) (now (events .exit)) (now (mailboxes .exit)) (now (swis .exit)) (now (clocks .exit)) (now (heap .exit)) (now (state .exit))) ⌝ }
-{
-    let step = calllog::reader::read_next(log, ran.at);
-    let found = step.found;
-    let Read::Record { number, start: _ } = found else {
-        return ended_at(log, found, offset, ran, out);
-    };
-    let said = kernel::calls::step(
-        tasks,
-        lines,
-        semaphores,
-        events,
-        mailboxes,
-        swis,
-        clocks,
-        heap,
-        state,
-        record_call(log, ran.at, number),
-    );
-    let n = std::num::wrapping_add_u64(ran.count, 1);
-    let len = put_said(out, ran.len, n, said);
-    ran_to(step.at, n, len, false)
-}
 
 // The records of a part that starts at an offset of the log, after `count` others.
 fn records(

@@ -1,2 +1,2 @@
 pub mod Starts
-pub mod Tested
+pub mod Threads

@@ -32,58 +32,6 @@ pub fn fresh() -> Tables
     rows::fresh()
 }
 
-// What is said of tables that are not sound: code 10, and T0.
-fn unsound() -> Said
-    ensures { λ r. ⌜ (r .answer ≡ answer 10 0 0) × (r .thread ≡ Task 0) ⌝ }
-{
-    Said {
-        answer: rows::answers::refused(10),
-        thread: Thread::Task(0),
-    }
-}
-
-// One call on lent tables: they are tested first, and nothing changes where they are not sound.
-fn tested_call(
-    tasks: &mut Tasks,
-    lines: &mut Lines,
-    semaphores: &mut Semaphores,
-    events: &mut Events,
-    mailboxes: &mut Mailboxes,
-    swis: &mut Swis,
-    clocks: &mut Clocks,
-    heap: &mut Heap,
-    state: &mut State,
-    asked: Call,
-) -> Said
-    ensures { λ r. ⌜ stepOf (tables (now (tasks .exit)) (now (lines .exit)) (now (semaphores .exit)) (now (events .exit)) (now (mailboxes .exit)) (now (swis .exit)) (now (clocks .exit)) (now (heap .exit)) (now (state .exit))) (r .answer) (r .thread) ≡ call (tables (now (tasks .entry)) (now (lines .entry)) (now (semaphores .entry)) (now (events .entry)) (now (mailboxes .entry)) (now (swis .entry)) (now (clocks .entry)) (now (heap .entry)) (now (state .entry))) (asked .number) (asked .a) (asked .b) (asked .c) (asked .d) ⌝ }
-{
-    if !sound::is_sound(
-        tasks,
-        lines,
-        semaphores,
-        events,
-        mailboxes,
-        swis,
-        clocks,
-        heap,
-        state,
-    ) {
-        return unsound();
-    }
-    kernel::calls::step(
-        tasks,
-        lines,
-        semaphores,
-        events,
-        mailboxes,
-        swis,
-        clocks,
-        heap,
-        state,
-        asked,
-    )
-}
-
 // One call on lent tables: code 10 and no change where they are not sound.
 pub fn call_in_place(
     tasks: &mut Tasks,
@@ -104,7 +52,7 @@ pub fn call_in_place(
     ensures { λ r. ⌜ stepOf (tables (now (tasks .exit)) (now (lines .exit)) (now (semaphores .exit)) (now (events .exit)) (now (mailboxes .exit)) (now (swis .exit)) (now (clocks .exit)) (now (heap .exit)) (now (state .exit))) (r .answer) (r .thread)
         ≡ call (tables (now (tasks .entry)) (now (lines .entry)) (now (semaphores .entry)) (now (events .entry)) (now (mailboxes .entry)) (now (swis .entry)) (now (clocks .entry)) (now (heap .entry)) (now (state .entry))) number a b c d ⌝ }
 {
-    tested_call(
+    tested::tested_call(
         tasks,
         lines,
         semaphores,
@@ -144,7 +92,7 @@ pub fn call(t: Tables, number: u32, a: u32, b: u32, c: u32, d: u32) -> Step
     let mut clocks = t.clocks;
     let mut heap = t.heap;
     let mut state = t.state;
-    let said = tested_call(
+    let said = tested::tested_call(
         &mut tasks,
         &mut lines,
         &mut semaphores,

@@ -29,8 +29,8 @@ pub fn mailbox_call(
     match number {
         0x40 => calls::create(mailboxes, x, a, b, c, d),
         0x41 => calls::delete(lines, mailboxes, x, a, b, c, d),
-        0x42 => calls::post(tasks, lines, mailboxes, state, x, a, b, c, d),
-        0x43 => calls::pend(tasks, lines, mailboxes, state, x, a, b, c, d),
+        0x42 => passing::post(tasks, lines, mailboxes, state, x, a, b, c, d),
+        0x43 => passing::pend(tasks, lines, mailboxes, state, x, a, b, c, d),
         _ => rows::answers::refused(1),
     }
 }

@@ -5,28 +5,13 @@ use rules::Lines;
 use rules::Mailboxes;
 use rules::Tasks;
 ghost use mathlib.Core.Path.{_≡_};
-ghost use Prim.Native.Nat.{_≤_};
 ghost use Rattle.rules.specs.Lines.{mailboxLine, anyone, first};
-ghost use Rattle.rules.specs.Mailboxes.{freeMailbox, waitsFirst, isFull, postWaits, pendWaits};
+ghost use Rattle.rules.specs.Mailboxes.{waitsFirst, isFull, postWaits, pendWaits};
 
 // The modes of those who wait at a mailbox.
 pub const READING: u32 = 5;
 
 pub const WRITING: u32 = 6;
-
-// The lowest number of a mailbox not in use; 8 where all are in use.
-pub fn free_mailbox(mailboxes: &Mailboxes) -> usize
-    ensures { λ r. ⌜ (r ≡ freeMailbox (now (mailboxes .entry))) × (r ≤ 8) ⌝ }
-{
-    let mut i = 0;
-    while i < 8 {
-        if rows::words::mailbox(mailboxes, i, CAPACITY) == 0 {
-            return i;
-        }
-        i += 1;
-    }
-    8
-}
 
 // Someone waits at mailbox a.
 pub fn anyone(lines: &Lines, a: u32) -> bool

@@ -28,7 +28,7 @@ pub fn clock_tick(clocks: &mut Clocks, swis: &mut Swis, lines: &mut Lines, n: us
     if k.left == 0 {
         return;
     }
-    let older = clocks::age_one(k);
+    let older = ageing::age_one(k);
     rows::words::set_clock(clocks, n, older.clock);
     post_if(older.fired, swis, lines, k.swi);
 }

@@ -2,6 +2,7 @@
 use super::print::print_call;
 use super::print::print_heading;
 use super::print::print_word;
+use kernel::calls::Call;
 use rules::Clocks;
 use rules::Events;
 use rules::Heap;
@@ -13,7 +14,6 @@ use rules::State;
 use rules::Swis;
 use rules::Tables;
 use rules::Tasks;
-use trying::trial::Call;
 use trying::trial::try_call;
 
 // The call of a record.

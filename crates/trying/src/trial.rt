@@ -1,7 +1,8 @@
 // One call by both entries: by value, and in place on lent tables.
-use super::same::same_answer;
-use super::same::same_tables;
-use super::same::same_thread;
+use comparing::same_answer;
+use comparing::same_tables;
+use comparing::same_thread;
+use kernel::calls::Call;
 use kernel::calls::Said;
 use rules::Clocks;
 use rules::Events;
@@ -17,15 +18,6 @@ use rules::Tasks;
 use rules::Thread;
 ghost use mathlib.Core.Path.{_≡_};
 ghost use Rattle.rules.specs.Step.{call};
-
-// A call's number and its arguments.
-pub struct Call {
-    pub number: u32,
-    pub a: u32,
-    pub b: u32,
-    pub c: u32,
-    pub d: u32,
-}
 
 // What the call by value left, and whether the call in place says the same in everything.
 pub struct Tried {

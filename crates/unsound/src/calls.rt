@@ -7,9 +7,9 @@ use super::print::print_call;
 use super::print::print_heading;
 use super::tables::busy;
 use super::tables::held;
+use comparing::same_tables;
+use kernel::calls::Call;
 use rules::Tables;
-use trying::same::same_tables;
-use trying::trial::Call;
 use trying::trial::Tried;
 use trying::trial::try_call;
 

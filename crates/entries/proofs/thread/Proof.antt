@@ -1,5 +1,5 @@
 use borrow.Author.Needs.{needs}
-use Rattle.entries.proofs.Tested.{thread-sound, thread-unsound}
+use Rattle.entries.proofs.Threads.{thread-sound, thread-unsound}
 use Rattle.entries.proofs.thread.Statement.{statement}
 use Rattle.entries.proofs.thread.Tie as tie
 

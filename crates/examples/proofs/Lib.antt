@@ -1,0 +1,4 @@
+pub mod BySteps
+pub mod Story
+pub mod Example
+pub mod ByPriority

@@ -1,0 +1,20 @@
+use Rattle.passing.proofs.Steps.{post-reader, post-full, post-room}
+use borrow.Author.Needs.{needs}
+use Rattle.passing.proofs.post_effect.Statement.{statement}
+use Rattle.passing.proofs.post_effect.Tie as tie
+
+pub post-effect-spec : {M : Type 1} → statement M
+post-effect-spec =
+    tie.close
+    (tie.spec
+    (λ c κs. search needs)
+    (λ c κs. search needs)
+    (λ c κs. search needs)
+    (λ c κs. search needs)
+    (λ c. let b = c .before .before .before .before .before .before .before .before .before .before in post-reader (b .args .tasks .now) (b .args .lines .now) (b .args .mailboxes .now) (b .args .state .now) (b .args .a) (b .args .word) (b .args .limit) (c .before .before .before .before .before .before .before .waits-first .ensures) (c .before .before .before .before .before .before .if1 .taken) (c .before .before .before .before .first .ensures) (c .before .wake .ensures) (c .accepted .ensures))
+    (λ c κs. search needs)
+    (λ c κs. search needs)
+    (λ c. let b = c .before .before .before .before .before .before .before .before .before .before in post-full (b .args .tasks .now) (b .args .lines .now) (b .args .mailboxes .now) (b .args .state .now) (b .args .a) (b .args .word) (b .args .limit) (c .before .before .before .before .before .before .before .waits-first .ensures) (c .before .before .before .before .before .before .if1 .left) (c .before .before .before .before .is-full .ensures) (c .before .before .before .if2 .taken) (c .not-done .ensures (b .args .mailboxes .now)))
+    (λ c κs. search needs)
+    (λ c κs. search needs)
+    (λ c. let b = c .before .before .before .before .before .before .before .before .before .before in post-room (b .args .tasks .now) (b .args .lines .now) (b .args .mailboxes .now) (b .args .state .now) (b .args .a) (b .args .word) (b .args .limit) (c .before .before .before .before .before .before .before .waits-first .ensures) (c .before .before .before .before .before .before .if1 .left) (c .before .before .before .before .is-full .ensures) (c .before .before .before .if2 .left) (c .before .put-word .ensures) (c .accepted2 .ensures)))

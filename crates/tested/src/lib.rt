@@ -1,0 +1,70 @@
+// One call on any lent tables: they are tested first.
+use kernel::calls::Call;
+use kernel::calls::Said;
+use rules::Clocks;
+use rules::Events;
+use rules::Heap;
+use rules::Lines;
+use rules::Mailboxes;
+use rules::Semaphores;
+use rules::State;
+use rules::Swis;
+use rules::Tasks;
+use rules::Thread;
+ghost use mathlib.Core.Path.{_≡_};
+ghost use Rattle.rules.specs.Answer.{answer};
+ghost use Rattle.rules.specs.Tables.{tables};
+ghost use Rattle.rules.specs.Step.{stepOf, call};
+ghost use Rattle.rules.specs.declared.Thread.the-variants.{Task};
+
+// What is said of tables that are not sound: code 10, and T0.
+fn unsound() -> Said
+    ensures { λ r. ⌜ (r .answer ≡ answer 10 0 0) × (r .thread ≡ Task 0) ⌝ }
+{
+    Said {
+        answer: rows::answers::refused(10),
+        thread: Thread::Task(0),
+    }
+}
+
+// One call on lent tables: they are tested first, and nothing changes where they are not sound.
+pub fn tested_call(
+    tasks: &mut Tasks,
+    lines: &mut Lines,
+    semaphores: &mut Semaphores,
+    events: &mut Events,
+    mailboxes: &mut Mailboxes,
+    swis: &mut Swis,
+    clocks: &mut Clocks,
+    heap: &mut Heap,
+    state: &mut State,
+    asked: Call,
+) -> Said
+    ensures { λ r. ⌜ stepOf (tables (now (tasks .exit)) (now (lines .exit)) (now (semaphores .exit)) (now (events .exit)) (now (mailboxes .exit)) (now (swis .exit)) (now (clocks .exit)) (now (heap .exit)) (now (state .exit))) (r .answer) (r .thread) ≡ call (tables (now (tasks .entry)) (now (lines .entry)) (now (semaphores .entry)) (now (events .entry)) (now (mailboxes .entry)) (now (swis .entry)) (now (clocks .entry)) (now (heap .entry)) (now (state .entry))) (asked .number) (asked .a) (asked .b) (asked .c) (asked .d) ⌝ }
+{
+    if !sound::is_sound(
+        tasks,
+        lines,
+        semaphores,
+        events,
+        mailboxes,
+        swis,
+        clocks,
+        heap,
+        state,
+    ) {
+        return unsound();
+    }
+    kernel::calls::step(
+        tasks,
+        lines,
+        semaphores,
+        events,
+        mailboxes,
+        swis,
+        clocks,
+        heap,
+        state,
+        asked,
+    )
+}

@@ -1,9 +1,0 @@
-use Rattle.trying.proofs.Compared.{same-answers}
-use Rattle.trying.proofs.same.same_answer.Statement.{statement}
-use Rattle.trying.proofs.same.same_answer.Tie as tie
-
-pub same-answer-spec : {M : Type 1} → statement M
-same-answer-spec =
-    tie.close
-    (tie.spec
-    (λ c. same-answers _ _))
