@@ -1,12 +1,12 @@
 // A semaphore's count: 22 pend and 23 post. Of each: its code, 0 where it is accepted; its effect where it is; and the call.
-use rows::words::COUNT;
-use rows::words::KIND;
-use rows::words::USED;
 use rules::Answer;
 use rules::Lines;
 use rules::Semaphores;
 use rules::State;
 use rules::Tasks;
+use words::COUNT;
+use words::KIND;
+use words::USED;
 ghost use mathlib.Core.Path.{_≡_};
 ghost use mathlib.Core.Bool.{not, _&&_};
 ghost use lib.Dec.{leb};
@@ -32,7 +32,7 @@ pub fn count_up(kind: u32, n: u32) -> u32
 pub fn waits(semaphores: &Semaphores, a: u32, limit: u32) -> bool
     ensures { λ r. ⌜ r ≡ waits (now (semaphores .entry)) a limit ⌝ }
 {
-    (rows::words::semaphore(semaphores, a as usize, COUNT) == 0) & (limit != 0)
+    (words::semaphore(semaphores, a as usize, COUNT) == 0) & (limit != 0)
 }
 
 pub fn pend_code(
@@ -49,7 +49,7 @@ pub fn pend_code(
     if waits::tests::outside(x, b) {
         return 2;
     }
-    if rows::words::semaphore(semaphores, a as usize, USED) == 0 {
+    if words::semaphore(semaphores, a as usize, USED) == 0 {
         return 3;
     }
     if rows::answers::unused(0, 0, c, d) {
@@ -69,7 +69,7 @@ pub fn pend_code(
 pub fn begin(tasks: &mut Tasks, lines: &mut Lines, kind: u32, i: u32, a: u32, limit: u32)
     ensures { λ _. ⌜ queued (now (tasks .exit)) (now (lines .exit)) ≡ moved (placeIn kind (now (tasks .entry)) (task (now (tasks .entry)) i .priority)) i (waiting (task (now (tasks .entry)) i) atSemaphore a limit 0 0) (queued (now (tasks .entry)) (now (lines .entry))) ⌝ }
 {
-    let old = rows::words::task(tasks, i as usize);
+    let old = words::task(tasks, i as usize);
     let k = waits::moves::waiting(old, 3, a, limit, 0, 0);
     if kind < 2 {
         waits::moves::move_back(tasks, lines, i, k);
@@ -89,15 +89,15 @@ pub fn pend_effect(
 ) -> Answer
     ensures { λ r. ⌜ after r (served (now (tasks .exit)) (now (lines .exit)) (now (semaphores .exit))) ≡ pendEffect (served (now (tasks .entry)) (now (lines .entry)) (now (semaphores .entry))) (now (state .entry)) a limit ⌝ }
 {
-    let n = rows::words::semaphore(semaphores, a as usize, COUNT);
+    let n = words::semaphore(semaphores, a as usize, COUNT);
     if 0 < n {
-        rows::words::set_semaphore(semaphores, a as usize, COUNT, n - 1);
+        words::set_semaphore(semaphores, a as usize, COUNT, n - 1);
         return rows::answers::accepted(0, 0);
     }
     if limit == 0 {
         return rows::answers::accepted(1, 0);
     }
-    let kind = rows::words::semaphore(semaphores, a as usize, KIND);
+    let kind = words::semaphore(semaphores, a as usize, KIND);
     begin(
         tasks,
         lines,
@@ -136,14 +136,14 @@ pub fn at_end(semaphores: &Semaphores, a: u32) -> bool
     ensures { λ r. ⌜ r ≡ (not (isBinary (semaphore (now (semaphores .entry)) a KIND)) && leb 65535 (semaphore (now (semaphores .entry)) a COUNT)) ⌝ }
 {
     let i = a as usize;
-    let counting = !rows::readings::is_binary(rows::words::semaphore(semaphores, i, KIND));
-    counting & (65535 <= rows::words::semaphore(semaphores, i, COUNT))
+    let counting = !rows::readings::is_binary(words::semaphore(semaphores, i, KIND));
+    counting & (65535 <= words::semaphore(semaphores, i, COUNT))
 }
 
 pub fn post_code(semaphores: &Semaphores, a: u32, b: u32, c: u32, d: u32) -> u32
     ensures { λ r. ⌜ r ≡ codeOf (postCases (now (semaphores .entry)) a b c d) ⌝ }
 {
-    if rows::words::semaphore(semaphores, a as usize, USED) == 0 {
+    if words::semaphore(semaphores, a as usize, USED) == 0 {
         return 3;
     }
     if rows::answers::unused(0, b, c, d) {
@@ -170,9 +170,9 @@ pub fn post_effect(
         waits::moves::wake(tasks, lines, first as u32, 0, 0);
         return rows::answers::accepted(0, 1);
     }
-    let kind = rows::words::semaphore(semaphores, i, KIND);
-    let n = rows::words::semaphore(semaphores, i, COUNT);
-    rows::words::set_semaphore(semaphores, i, COUNT, count_up(kind, n));
+    let kind = words::semaphore(semaphores, i, KIND);
+    let n = words::semaphore(semaphores, i, COUNT);
+    words::set_semaphore(semaphores, i, COUNT, count_up(kind, n));
     rows::answers::accepted(0, 0)
 }
 

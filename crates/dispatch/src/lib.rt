@@ -49,11 +49,11 @@ pub fn start(swis: &mut Swis, lines: &mut Lines, i: u8, j: usize)
         ≡ started i p (posts (now (swis .entry)) (now (lines .entry)))) ⌝ }
 {
     let n = fold::wide(i);
-    let trigger = rows::words::swi(swis, n, 3);
-    let initial = rows::words::swi(swis, n, 2);
-    rows::words::set_swi(swis, n, 5, trigger);
-    rows::words::set_swi(swis, n, 3, initial);
-    rows::words::set_swi(swis, n, 4, 0);
+    let trigger = words::swi(swis, n, 3);
+    let initial = words::swi(swis, n, 2);
+    words::set_swi(swis, n, 5, trigger);
+    words::set_swi(swis, n, 3, initial);
+    words::set_swi(swis, n, 4, 0);
     rows::lines::leave(lines, j, i);
     rows::lines::join(lines, 48, i);
 }
@@ -64,10 +64,10 @@ pub fn dispatch_swis(swis: &mut Swis, lines: &mut Lines, state: &State)
     ensures { λ _. ⌜ posts (now (swis .exit)) (now (lines .exit))
         ≡ swiDispatched (now (state .entry)) (posts (now (swis .entry)) (now (lines .entry))) ⌝ }
 {
-    if state[rows::words::DEPTH] != 0 {
+    if state[words::DEPTH] != 0 {
         return;
     }
-    if state[rows::words::SWIS] == 0 {
+    if state[words::SWIS] == 0 {
         return;
     }
     let level = due::highest_posted(lines);

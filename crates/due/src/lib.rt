@@ -55,7 +55,7 @@ pub fn active_level(swis: &Swis, lines: &Lines) -> usize
 {
     if anyone(lines, 48) {
         let i = fold::wide(rows::readings::top(lines));
-        return rows::words::swi(swis, i, rows::words::PRIORITY) as usize + 1;
+        return words::swi(swis, i, words::PRIORITY) as usize + 1;
     }
     0
 }
@@ -64,10 +64,10 @@ pub fn active_level(swis: &Swis, lines: &Lines) -> usize
 pub fn swi_due(swis: &Swis, lines: &Lines, state: &State) -> bool
     ensures { λ r. ⌜ r ≡ swiDue (now (swis .entry)) (now (lines .entry)) (now (state .entry)) ⌝ }
 {
-    if state[rows::words::DEPTH] != 0 {
+    if state[words::DEPTH] != 0 {
         return false;
     }
-    if state[rows::words::SWIS] == 0 {
+    if state[words::SWIS] == 0 {
         return false;
     }
     active_level(swis, lines) < highest_posted(lines)
@@ -77,13 +77,13 @@ pub fn swi_due(swis: &Swis, lines: &Lines, state: &State) -> bool
 pub fn task_due(lines: &Lines, state: &State) -> bool
     ensures { λ r. ⌜ r ≡ taskDue (now (lines .entry)) (now (state .entry)) ⌝ }
 {
-    if state[rows::words::DEPTH] != 0 {
+    if state[words::DEPTH] != 0 {
         return false;
     }
     if anyone(lines, 48) {
         return false;
     }
-    (state[rows::words::SWIS] != 0) & (state[rows::words::TASKS] != 0)
+    (state[words::SWIS] != 0) & (state[words::TASKS] != 0)
 }
 
 // The front of the highest non-empty ready queue; 0 where all are empty.

@@ -1,6 +1,6 @@
 // The entries: any tables, any number, any arguments.
-use kernel::calls::Call;
-use kernel::calls::Said;
+use kernel::Call;
+use kernel::Said;
 use rules::Clocks;
 use rules::Events;
 use rules::Heap;

@@ -1,10 +1,10 @@
 // Calls 30 and 31. Of each: its code, 0 where it is accepted; its effect where it is; and the call.
 use super::table::free_event;
 use super::table::put_event;
-use rows::words::USED;
 use rules::Answer;
 use rules::Events;
 use rules::Lines;
+use words::USED;
 ghost use mathlib.Core.Path.{_≡_};
 ghost use mathlib.Core.List.{List};
 ghost use Prim.Native.Nat.{ℕ};
@@ -57,7 +57,7 @@ pub fn delete_code(lines: &Lines, events: &Events, x: u32, a: u32, b: u32, c: u3
         return 2;
     }
     let i = a as usize;
-    if rows::words::event(events, i, USED) == 0 {
+    if words::event(events, i, USED) == 0 {
         return 3;
     }
     if rows::answers::unused(0, b, c, d) {

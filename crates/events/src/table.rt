@@ -1,6 +1,6 @@
 // An event's row, and the first row that is free.
-use rows::words::USED;
 use rules::Events;
+use words::USED;
 ghost use mathlib.Core.Path.{_≡_};
 ghost use mathlib.Core.List.{[], _∷_};
 ghost use Prim.Native.Nat.{_≤_};
@@ -13,7 +13,7 @@ pub fn free_event(events: &Events) -> usize
 {
     let mut i: usize = 0;
     while i < 8 {
-        if rows::words::event(events, i, USED) == 0 {
+        if words::event(events, i, USED) == 0 {
             return i;
         }
         i += 1;

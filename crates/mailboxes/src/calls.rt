@@ -1,11 +1,11 @@
 // Calls 40 and 41. Of each: its code, 0 where it is accepted; its effect where it is; and the call.
 use messages::put_mailbox;
 use messages::tests::anyone;
-use rows::words::CAPACITY;
-use rows::words::MESSAGES;
 use rules::Answer;
 use rules::Lines;
 use rules::Mailboxes;
+use words::CAPACITY;
+use words::MESSAGES;
 ghost use mathlib.Core.Path.{_≡_};
 ghost use mathlib.Core.List.{List};
 ghost use Prim.Native.Nat.{ℕ, _≤_};
@@ -19,7 +19,7 @@ pub fn free_mailbox(mailboxes: &Mailboxes) -> usize
 {
     let mut i = 0;
     while i < 8 {
-        if rows::words::mailbox(mailboxes, i, CAPACITY) == 0 {
+        if words::mailbox(mailboxes, i, CAPACITY) == 0 {
             return i;
         }
         i += 1;
@@ -82,13 +82,13 @@ pub fn delete_code(
     if x != 0 {
         return 2;
     }
-    if rows::words::mailbox(mailboxes, a as usize, CAPACITY) == 0 {
+    if words::mailbox(mailboxes, a as usize, CAPACITY) == 0 {
         return 3;
     }
     if rows::answers::unused(0, b, c, d) {
         return 4;
     }
-    let n = rows::words::mailbox(mailboxes, a as usize, MESSAGES);
+    let n = words::mailbox(mailboxes, a as usize, MESSAGES);
     if anyone(lines, a) | (n != 0) {
         return 5;
     }

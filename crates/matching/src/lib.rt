@@ -1,11 +1,11 @@
 // An event's bits and who waits for them: 32 pend and 33 post. Of each: its code, 0 where it is accepted; its effect where it is; and the call.
-use rows::words::BITS;
-use rows::words::USED;
 use rules::Answer;
 use rules::Events;
 use rules::Lines;
 use rules::State;
 use rules::Tasks;
+use words::BITS;
+use words::USED;
 ghost use mathlib.Core.Path.{_≡_};
 ghost use Rattle.rules.specs.Answer.{after, answered, called, codeOf};
 ghost use Rattle.rules.specs.Waits.{served};
@@ -16,11 +16,7 @@ ghost use Rattle.rules.specs.Events.{matched, waiterMatch, waits, postedBits, p
 pub fn event_match(events: &Events, a: u32, and_mask: u32, or_mask: u32) -> u32
     ensures { λ r. ⌜ r ≡ matched (event (now (events .entry)) a BITS) «and_mask» «or_mask» ⌝ }
 {
-    rows::readings::matched(
-        rows::words::event(events, a as usize, BITS),
-        and_mask,
-        or_mask,
-    )
+    rows::readings::matched(words::event(events, a as usize, BITS), and_mask, or_mask)
 }
 
 // What of these bits the waiter at event a matches; 0 where nobody waits.
@@ -29,7 +25,7 @@ pub fn waiter_match(tasks: &Tasks, lines: &Lines, a: u32, bits: u32) -> u32
 {
     let j = 24 + a as usize;
     if 0 < rows::lines::len(lines, j) {
-        let k = rows::words::task(tasks, fold::wide(rows::lines::first(lines, j)));
+        let k = words::task(tasks, fold::wide(rows::lines::first(lines, j)));
         return rows::readings::matched(bits, k.first, k.second);
     }
     0
@@ -60,7 +56,7 @@ pub fn pend_code(
         return 2;
     }
     let i = a as usize;
-    if rows::words::event(events, i, USED) == 0 {
+    if words::event(events, i, USED) == 0 {
         return 3;
     }
     if (b == 0) & (c == 0) {
@@ -91,8 +87,8 @@ pub fn pend_effect(
 {
     let m = event_match(events, a, b, c);
     if m != 0 {
-        let bits = rows::words::event(events, a as usize, BITS);
-        rows::words::set_event(events, a as usize, BITS, bits & !m);
+        let bits = words::event(events, a as usize, BITS);
+        words::set_event(events, a as usize, BITS, bits & !m);
         return rows::answers::accepted(0, m);
     }
     if limit == 0 {
@@ -128,7 +124,7 @@ pub fn pend(
 pub fn post_code(events: &Events, a: u32, c: u32, d: u32) -> u32
     ensures { λ r. ⌜ r ≡ codeOf (postCases (now (events .entry)) a c d) ⌝ }
 {
-    if rows::words::event(events, a as usize, USED) == 0 {
+    if words::event(events, a as usize, USED) == 0 {
         return 3;
     }
     if rows::answers::unused(0, 0, c, d) {
@@ -150,10 +146,10 @@ pub fn post_bits(
     let i = a as usize;
     let m = waiter_match(tasks, lines, a, bits);
     if m == 0 {
-        rows::words::set_event(events, i, BITS, bits);
+        words::set_event(events, i, BITS, bits);
         return rows::answers::accepted(0, 0);
     }
-    rows::words::set_event(events, i, BITS, bits & !m);
+    words::set_event(events, i, BITS, bits & !m);
     let first = rows::lines::first(lines, 24 + i);
     waits::moves::wake(tasks, lines, first as u32, 0, m);
     rows::answers::accepted(0, 1)
@@ -168,7 +164,7 @@ pub fn post_effect(
 ) -> Answer
     ensures { λ r. ⌜ after r (served (now (tasks .exit)) (now (lines .exit)) (now (events .exit))) ≡ postEffect (served (now (tasks .entry)) (now (lines .entry)) (now (events .entry))) a mask ⌝ }
 {
-    let bits = rows::words::event(events, a as usize, BITS);
+    let bits = words::event(events, a as usize, BITS);
     post_bits(tasks, lines, events, a, bits | mask)
 }
 

@@ -1,8 +1,8 @@
 // A mailbox's row, and its messages in place: the oldest first, at most eight.
 pub mod tests;
 
-use rows::words::MESSAGES;
 use rules::Mailboxes;
+use words::MESSAGES;
 ghost use mathlib.Core.Path.{_≡_};
 ghost use mathlib.Core.List.{[], _∷_, _++_};
 ghost use lib.ListN.{length, getD, drop};
@@ -28,7 +28,7 @@ pub fn put_mailbox(mailboxes: &mut Mailboxes, i: usize, capacity: u32)
 pub fn count(mailboxes: &Mailboxes, i: usize) -> usize
     ensures { λ r. ⌜ r ≡ length (messages (now (mailboxes .entry)) i) ⌝ }
 {
-    let n = rows::words::mailbox(mailboxes, i, MESSAGES);
+    let n = words::mailbox(mailboxes, i, MESSAGES);
     if n < 8 {
         return n as usize;
     }
@@ -51,7 +51,7 @@ pub fn oldest(mailboxes: &Mailboxes, i: usize) -> u32
     ensures { λ r. ⌜ r ≡ getD (messages (now (mailboxes .entry)) i) 0 0 ⌝ }
 {
     if 0 < count(mailboxes, i) {
-        return rows::words::mailbox(mailboxes, i, 2);
+        return words::mailbox(mailboxes, i, 2);
     }
     0
 }
@@ -94,6 +94,6 @@ pub fn take_word(mailboxes: &mut Mailboxes, i: usize)
     let n = count(mailboxes, i);
     if 0 < n {
         shift(mailboxes, i, 0);
-        rows::words::set_mailbox(mailboxes, i, MESSAGES, n as u32 - 1);
+        words::set_mailbox(mailboxes, i, MESSAGES, n as u32 - 1);
     }
 }

@@ -1,9 +1,9 @@
 // What the calls look at.
-use rows::words::CAPACITY;
-use rows::words::MESSAGES;
 use rules::Lines;
 use rules::Mailboxes;
 use rules::Tasks;
+use words::CAPACITY;
+use words::MESSAGES;
 ghost use mathlib.Core.Path.{_≡_};
 ghost use Rattle.rules.specs.Lines.{mailboxLine, anyone, first};
 ghost use Rattle.rules.specs.Mailboxes.{waitsFirst, isFull, postWaits, pendWaits};
@@ -31,7 +31,7 @@ pub fn first(lines: &Lines, a: u32) -> u32
 pub fn waits_first(tasks: &Tasks, lines: &Lines, a: u32, mode: u32) -> bool
     ensures { λ r. ⌜ r ≡ waitsFirst (now (tasks .entry)) (now (lines .entry)) a mode ⌝ }
 {
-    let k = rows::words::task(tasks, first(lines, a) as usize);
+    let k = words::task(tasks, first(lines, a) as usize);
     anyone(lines, a) & (k.mode == mode)
 }
 
@@ -39,8 +39,8 @@ pub fn waits_first(tasks: &Tasks, lines: &Lines, a: u32, mode: u32) -> bool
 pub fn is_full(mailboxes: &Mailboxes, a: u32) -> bool
     ensures { λ r. ⌜ r ≡ isFull (now (mailboxes .entry)) a ⌝ }
 {
-    let most = rows::words::mailbox(mailboxes, a as usize, CAPACITY);
-    let n = rows::words::mailbox(mailboxes, a as usize, MESSAGES);
+    let most = words::mailbox(mailboxes, a as usize, CAPACITY);
+    let n = words::mailbox(mailboxes, a as usize, MESSAGES);
     most <= n
 }
 
@@ -56,6 +56,6 @@ pub fn post_waits(tasks: &Tasks, lines: &Lines, mailboxes: &Mailboxes, a: u32, l
 pub fn pend_waits(mailboxes: &Mailboxes, a: u32, limit: u32) -> bool
     ensures { λ r. ⌜ r ≡ pendWaits (now (mailboxes .entry)) a limit ⌝ }
 {
-    let n = rows::words::mailbox(mailboxes, a as usize, MESSAGES);
+    let n = words::mailbox(mailboxes, a as usize, MESSAGES);
     (n == 0) & (limit != 0)
 }

@@ -26,9 +26,9 @@ fn semaphore_sound(semaphores: &Semaphores, lines: &Lines, s: usize) -> bool
     ensures { λ r. ⌜ r ≡ holds (
         semaphoreRule (now (semaphores .entry)) (now (lines .entry)) s) ⌝ }
 {
-    let used = rows::words::semaphore(semaphores, s, rows::words::USED);
-    let kind = rows::words::semaphore(semaphores, s, rows::words::KIND);
-    let count = rows::words::semaphore(semaphores, s, rows::words::COUNT);
+    let used = words::semaphore(semaphores, s, words::USED);
+    let kind = words::semaphore(semaphores, s, words::KIND);
+    let count = words::semaphore(semaphores, s, words::COUNT);
     let waiters = rows::lines::len(lines, s);
     (used < 2)
         & ((used != 0) | ((kind == 0) & (count == 0) & (waiters == 0)))
@@ -59,10 +59,10 @@ fn event_sound(tasks: &Tasks, events: &Events, lines: &Lines, e: usize) -> bool
         eventRule (now (tasks .entry)) (now (events .entry)) (now (lines .entry)) e)) ⌝ }
 {
     if e < 8 {
-        let used = rows::words::event(events, e, rows::words::USED);
-        let bits = rows::words::event(events, e, rows::words::BITS);
+        let used = words::event(events, e, words::USED);
+        let bits = words::event(events, e, words::BITS);
         let waiters = rows::lines::len(lines, 24 + e);
-        let waiter = rows::words::task(tasks, fold::wide(rows::lines::first(lines, 24 + e)));
+        let waiter = words::task(tasks, fold::wide(rows::lines::first(lines, 24 + e)));
         let met = rows::readings::matched(bits, waiter.first, waiter.second);
         return (used < 2)
             & ((used != 0) | ((bits == 0) & (waiters == 0)))
@@ -126,7 +126,7 @@ fn waiters_sound(tasks: &Tasks, lines: &Lines, j: usize, messages: u32, capacity
     let mut ok = true;
     let mut k = 0;
     while k < n {
-        let waiter = rows::words::task(tasks, fold::wide(rows::lines::member(lines, j, k)));
+        let waiter = words::task(tasks, fold::wide(rows::lines::member(lines, j, k)));
         ok = ok & waiter_sound(waiter.mode, messages, capacity);
         k += 1;
     }
@@ -140,8 +140,8 @@ fn mailbox_sound(tasks: &Tasks, mailboxes: &Mailboxes, lines: &Lines, m: usize) 
         mailboxRule (now (tasks .entry)) (now (mailboxes .entry)) (now (lines .entry)) m)) ⌝ }
 {
     if m < 8 {
-        let capacity = rows::words::mailbox(mailboxes, m, rows::words::CAPACITY);
-        let messages = rows::words::mailbox(mailboxes, m, rows::words::MESSAGES);
+        let capacity = words::mailbox(mailboxes, m, words::CAPACITY);
+        let messages = words::mailbox(mailboxes, m, words::MESSAGES);
         let waiters = rows::lines::len(lines, 16 + m);
         return (capacity < 9)
             & (messages <= capacity)
@@ -172,12 +172,12 @@ pub fn mailboxes_sound(tasks: &Tasks, mailboxes: &Mailboxes, lines: &Lines) -> b
 fn swi_sound(swis: &Swis, lines: &Lines, i: usize) -> bool
     ensures { λ r. ⌜ r ≡ holds (swiRule (now (swis .entry)) (now (lines .entry)) i) ⌝ }
 {
-    let used = rows::words::swi(swis, i, rows::words::USED);
-    let priority = rows::words::swi(swis, i, rows::words::PRIORITY);
-    let initial = rows::words::swi(swis, i, rows::words::INITIAL);
-    let trigger = rows::words::swi(swis, i, rows::words::TRIGGER);
-    let posted = rows::words::swi(swis, i, rows::words::POSTED);
-    let taken = rows::words::swi(swis, i, rows::words::TAKEN);
+    let used = words::swi(swis, i, words::USED);
+    let priority = words::swi(swis, i, words::PRIORITY);
+    let initial = words::swi(swis, i, words::INITIAL);
+    let trigger = words::swi(swis, i, words::TRIGGER);
+    let posted = words::swi(swis, i, words::POSTED);
+    let taken = words::swi(swis, i, words::TAKEN);
     let active = standing::times(lines, 48, i);
     (used < 2)
         & ((used != 0) | ((priority == 0) & (initial == 0) & (trigger == 0) & (posted == 0)))
@@ -211,7 +211,7 @@ fn active_used(swis: &Swis, lines: &Lines) -> bool
     let mut k = 0;
     while k < n {
         let x = fold::wide(rows::lines::member(lines, 48, k));
-        ok = ok & (rows::words::swi(swis, x, rows::words::USED) == 1);
+        ok = ok & (words::swi(swis, x, words::USED) == 1);
         k += 1;
     }
     ok
@@ -223,7 +223,7 @@ fn active_priority(swis: &Swis, lines: &Lines, k: usize) -> u32
         ≡ swi (now (swis .entry)) (getD (line (now (lines .entry)) activeLine) k 0) PRIORITY ⌝ }
 {
     let x = fold::wide(rows::lines::member(lines, 48, k));
-    rows::words::swi(swis, x, rows::words::PRIORITY)
+    words::swi(swis, x, words::PRIORITY)
 }
 
 // Each has a lower priority than the next.

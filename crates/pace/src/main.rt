@@ -1,5 +1,5 @@
 // Makes the calls of the log on standard input with `step`, again and again, and prints a sum over all answers: for measuring.
-use kernel::calls::Call;
+use kernel::Call;
 use pacing::Calls;
 use rules::Clocks;
 use rules::Events;
@@ -54,7 +54,7 @@ fn make_calls(
     let mut sum = from;
     let mut k = 0;
     while k < n {
-        let said = kernel::calls::step(
+        let said = kernel::step(
             tasks,
             lines,
             semaphores,

@@ -10,13 +10,13 @@ use messages::tests::is_full;
 use messages::tests::pend_waits;
 use messages::tests::post_waits;
 use messages::tests::waits_first;
-use rows::words::CAPACITY;
-use rows::words::MESSAGES;
 use rules::Answer;
 use rules::Lines;
 use rules::Mailboxes;
 use rules::State;
 use rules::Tasks;
+use words::CAPACITY;
+use words::MESSAGES;
 ghost use mathlib.Core.Path.{_≡_};
 ghost use mathlib.Core.List.{List};
 ghost use Prim.Native.Nat.{ℕ};
@@ -65,7 +65,7 @@ pub fn post_code(
     if waits::tests::outside(x, c) {
         return 2;
     }
-    if rows::words::mailbox(mailboxes, a as usize, CAPACITY) == 0 {
+    if words::mailbox(mailboxes, a as usize, CAPACITY) == 0 {
         return 3;
     }
     if rows::answers::unused(0, 0, 0, d) {
@@ -143,7 +143,7 @@ pub fn pend_code(
     if waits::tests::outside(x, b) {
         return 2;
     }
-    if rows::words::mailbox(mailboxes, a as usize, CAPACITY) == 0 {
+    if words::mailbox(mailboxes, a as usize, CAPACITY) == 0 {
         return 3;
     }
     if rows::answers::unused(0, 0, c, d) {
@@ -165,7 +165,7 @@ pub fn take(tasks: &mut Tasks, lines: &mut Lines, mailboxes: &mut Mailboxes, a: 
 {
     if waits_first(tasks, lines, a, WRITING) {
         let i = first(lines, a);
-        let writer = rows::words::task(tasks, i as usize);
+        let writer = words::task(tasks, i as usize);
         shift(mailboxes, a as usize, writer.first);
         waits::moves::wake(tasks, lines, i, 0, 0);
     } else {
@@ -184,7 +184,7 @@ pub fn pend_effect(
 ) -> Answer
     ensures { λ r. ⌜ after r (served (now (tasks .exit)) (now (lines .exit)) (now (mailboxes .exit))) ≡ pendEffect (served (now (tasks .entry)) (now (lines .entry)) (now (mailboxes .entry))) (now (state .entry)) a limit ⌝ }
 {
-    if rows::words::mailbox(mailboxes, a as usize, MESSAGES) == 0 {
+    if words::mailbox(mailboxes, a as usize, MESSAGES) == 0 {
         return not_done(tasks, lines, state, READING, a, limit, 0);
     }
     let value = oldest(mailboxes, a as usize);

@@ -1,11 +1,11 @@
 // Posting a Swi, and the calls 12 to 16.
-use rows::words::POSTED;
-use rows::words::PRIORITY;
-use rows::words::TRIGGER;
-use rows::words::USED;
 use rules::Answer;
 use rules::Lines;
 use rules::Swis;
+use words::POSTED;
+use words::PRIORITY;
+use words::TRIGGER;
+use words::USED;
 ghost use mathlib.Core.Path.{_≡_};
 ghost use lib.Bits.{bitOr};
 ghost use Rattle.rules.specs.Answer.{after, answered, called, codeOf};
@@ -20,9 +20,9 @@ pub fn post_swi(swis: &mut Swis, lines: &mut Lines, i: u32)
 {
     if i < 16 {
         let n = i as usize;
-        if rows::words::swi(swis, n, POSTED) == 0 {
-            let priority = rows::words::swi(swis, n, PRIORITY) as usize;
-            rows::words::set_swi(swis, n, POSTED, 1);
+        if words::swi(swis, n, POSTED) == 0 {
+            let priority = words::swi(swis, n, PRIORITY) as usize;
+            words::set_swi(swis, n, POSTED, 1);
             rows::lines::join(lines, 32 + priority, i as u8);
         }
     }
@@ -44,7 +44,7 @@ pub fn one_down(v: u32) -> u32
 pub fn post_code(swis: &Swis, a: u32, b: u32, c: u32, d: u32) -> u32
     ensures { λ r. ⌜ r ≡ codeOf (postCases (now (swis .entry)) a b c d) ⌝ }
 {
-    if rows::words::swi(swis, a as usize, USED) == 0 {
+    if words::swi(swis, a as usize, USED) == 0 {
         return 3;
     }
     if rows::answers::unused(0, b, c, d) {
@@ -75,7 +75,7 @@ pub fn change_effect(swis: &mut Swis, lines: &mut Lines, a: u32, v: u32) -> Answ
     ensures { λ r. ⌜ after r (posts (now (swis .exit)) (now (lines .exit)))
         ≡ changeEffect (posts (now (swis .entry)) (now (lines .entry))) a v ⌝ }
 {
-    rows::words::set_swi(swis, a as usize, TRIGGER, v);
+    words::set_swi(swis, a as usize, TRIGGER, v);
     post_swi(swis, lines, a);
     rows::answers::accepted(0, 0)
 }
@@ -88,7 +88,7 @@ pub fn zero_effect(swis: &mut Swis, lines: &mut Lines, a: u32, v: u32) -> Answer
     if v == 0 {
         return change_effect(swis, lines, a, v);
     }
-    rows::words::set_swi(swis, a as usize, TRIGGER, v);
+    words::set_swi(swis, a as usize, TRIGGER, v);
     rows::answers::accepted(0, 0)
 }
 
@@ -120,7 +120,7 @@ pub fn add(swis: &mut Swis, lines: &mut Lines, a: u32, b: u32, c: u32, d: u32) -
     if code != 0 {
         return rows::answers::refused(code);
     }
-    let v = rows::words::swi(swis, a as usize, TRIGGER);
+    let v = words::swi(swis, a as usize, TRIGGER);
     change_effect(swis, lines, a, std::num::wrapping_add_u32(v, 1))
 }
 
@@ -136,7 +136,7 @@ pub fn take(swis: &mut Swis, lines: &mut Lines, a: u32, b: u32, c: u32, d: u32) 
     if code != 0 {
         return rows::answers::refused(code);
     }
-    let v = rows::words::swi(swis, a as usize, TRIGGER);
+    let v = words::swi(swis, a as usize, TRIGGER);
     zero_effect(swis, lines, a, one_down(v))
 }
 
@@ -152,7 +152,7 @@ pub fn set_bits(swis: &mut Swis, lines: &mut Lines, a: u32, b: u32, c: u32, d: u
     if code != 0 {
         return rows::answers::refused(code);
     }
-    let v = rows::words::swi(swis, a as usize, TRIGGER);
+    let v = words::swi(swis, a as usize, TRIGGER);
     change_effect(swis, lines, a, v | b)
 }
 
@@ -168,6 +168,6 @@ pub fn clear_bits(swis: &mut Swis, lines: &mut Lines, a: u32, b: u32, c: u32, d:
     if code != 0 {
         return rows::answers::refused(code);
     }
-    let v = rows::words::swi(swis, a as usize, TRIGGER);
+    let v = words::swi(swis, a as usize, TRIGGER);
     zero_effect(swis, lines, a, v & !b)
 }

@@ -20,7 +20,7 @@ use Rattle.text.specs.Put.{Put}
 use Rattle.calllog.proofs.Records.{record-fits}
 use Rattle.parts.specs.Part.{kept, lastText}
 use Rattle.kernel.specs.Safe.{Safe}
-use Rattle.kernel.specs.declared.calls.Call.{Call}
+use Rattle.kernel.specs.declared.Call.{Call}
 use Rattle.kernel.proofs.Keeping.{safe-call}
 use Rattle.reads.specs.declared.Ran.{Ran}
 use Rattle.reads.specs.Done.{callIn, ranTo, oneFor, oneLast, Went}

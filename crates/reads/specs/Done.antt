@@ -13,7 +13,7 @@ use Rattle.rules.specs.declared.Step.{Step}
 use Rattle.rules.specs.declared.Tables.{Tables}
 use Rattle.text.specs.Put.{Put}
 use Rattle.parts.specs.Part.{kept, lastText}
-use Rattle.kernel.specs.declared.calls.Call.{Call}
+use Rattle.kernel.specs.declared.Call.{Call}
 use Rattle.reads.specs.declared.Ran.{Ran}
 
 -- where records stopped

@@ -1,8 +1,8 @@
 // One read of a log that comes part by part: a record's call on lent tables and its line, or the last line.
 pub mod last;
 
-use kernel::calls::Call;
-use kernel::calls::Said;
+use kernel::Call;
+use kernel::Said;
 use rules::Clocks;
 use rules::Events;
 use rules::Heap;
@@ -102,7 +102,7 @@ pub fn next_line(
     let Read::Record { number, start: _ } = found else {
         return ended_at(log, found, offset, ran, out);
     };
-    let said = kernel::calls::step(
+    let said = kernel::step(
         tasks,
         lines,
         semaphores,

@@ -44,6 +44,7 @@ fn read_behind(fd: i32, name: &[u8], part: &mut [u8], held: usize) -> Came {
     }
 }
 
+// The same on the whole part, which becomes a slice where it is passed on.
 fn read_part(fd: i32, name: &[u8], part: &mut Part, held: usize) -> Came {
     read_behind(fd, name, part, held)
 }

@@ -1,9 +1,8 @@
-// Rows, fields and lines of lent tables, read and changed in place. Every function is total: what is not there reads 0, and writing it
+// Lines of lent tables, read and changed in place, what the words of a row say, and answers. Every function is total: what is not there reads 0, and writing it
 // changes nothing.
 pub mod answers;
 pub mod lines;
 pub mod readings;
-pub mod words;
 
 use rules::Clocks;
 use rules::Events;

@@ -38,7 +38,7 @@ pub fn yield_effect(tasks: &mut Tasks, lines: &mut Lines, state: &State) -> Answ
         ≡ yieldEffect (queued (now (tasks .entry)) (now (lines .entry))) (now (state .entry)) ⌝ }
 {
     let i = current(state);
-    let k = rows::words::task(tasks, i as usize);
+    let k = words::task(tasks, i as usize);
     waits::moves::move_back(tasks, lines, i, k);
     rows::answers::accepted(0, 0)
 }
@@ -93,7 +93,7 @@ pub fn end_effect(tasks: &mut Tasks, lines: &mut Lines, state: &State) -> Answer
         ≡ endEffect (queued (now (tasks .entry)) (now (lines .entry))) (now (state .entry)) ⌝ }
 {
     let i = current(state);
-    let k = rows::words::task(tasks, i as usize);
+    let k = words::task(tasks, i as usize);
     waits::moves::move_back(tasks, lines, i, ended(k));
     rows::answers::accepted(0, 0)
 }

@@ -1,12 +1,12 @@
 // Calls 20, 21 and 24. Of each: its code, 0 where it is accepted; its effect where it is; and the call.
 use super::table::free_semaphore;
 use super::table::put_semaphore;
-use rows::words::COUNT;
-use rows::words::KIND;
-use rows::words::USED;
 use rules::Answer;
 use rules::Lines;
 use rules::Semaphores;
+use words::COUNT;
+use words::KIND;
+use words::USED;
 ghost use mathlib.Core.Path.{_≡_};
 ghost use mathlib.Core.Bool.{not, _||_};
 ghost use mathlib.Core.List.{List};
@@ -77,7 +77,7 @@ pub fn delete_code(
         return 2;
     }
     let i = a as usize;
-    if rows::words::semaphore(semaphores, i, USED) == 0 {
+    if words::semaphore(semaphores, i, USED) == 0 {
         return 3;
     }
     if rows::answers::unused(0, b, c, d) {
@@ -139,10 +139,10 @@ pub fn reset_code(
         return 2;
     }
     let i = a as usize;
-    if rows::words::semaphore(semaphores, i, USED) == 0 {
+    if words::semaphore(semaphores, i, USED) == 0 {
         return 3;
     }
-    if bad_reset(rows::words::semaphore(semaphores, i, KIND), b, c, d) {
+    if bad_reset(words::semaphore(semaphores, i, KIND), b, c, d) {
         return 4;
     }
     if 0 < rows::lines::len(lines, i) {
@@ -154,7 +154,7 @@ pub fn reset_code(
 pub fn reset_effect(semaphores: &mut Semaphores, a: u32, b: u32) -> Answer
     ensures { λ r. ⌜ ((ts ls : List ℕ) → after r (served ts ls (now (semaphores .exit))) ≡ resetEffect (served ts ls (now (semaphores .entry))) a b) ⌝ }
 {
-    rows::words::set_semaphore(semaphores, a as usize, COUNT, b);
+    words::set_semaphore(semaphores, a as usize, COUNT, b);
     rows::answers::accepted(0, 0)
 }
 

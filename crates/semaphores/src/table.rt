@@ -1,6 +1,6 @@
 // A semaphore's row, and the first row that is free.
-use rows::words::USED;
 use rules::Semaphores;
+use words::USED;
 ghost use mathlib.Core.Path.{_≡_};
 ghost use mathlib.Core.List.{[], _∷_};
 ghost use Prim.Native.Nat.{_≤_};
@@ -13,7 +13,7 @@ pub fn free_semaphore(semaphores: &Semaphores) -> usize
 {
     let mut i: usize = 0;
     while i < 16 {
-        if rows::words::semaphore(semaphores, i, USED) == 0 {
+        if words::semaphore(semaphores, i, USED) == 0 {
             return i;
         }
         i += 1;

@@ -59,7 +59,7 @@ fn settle_swis(some: bool, swis: &mut Swis, lines: &mut Lines, state: &State)
         (swiDispatched (now (state .entry)) (posts (now (swis .entry)) (now (lines .entry))))
         (posts (now (swis .entry)) (now (lines .entry))) ⌝ }
 {
-    if some & (state[rows::words::DEPTH] == 0) {
+    if some & (state[words::DEPTH] == 0) {
         dispatch::dispatch_swis(swis, lines, state);
     }
 }

@@ -20,7 +20,7 @@ pub fn dispatch_sound(swis: &Swis, lines: &Lines, state: &State) -> bool
     ensures { λ r. ⌜ r ≡ holds (
         dispatchRule (now (swis .entry)) (now (lines .entry)) (now (state .entry))) ⌝ }
 {
-    let current = fold::index(state[rows::words::CURRENT]);
+    let current = fold::index(state[words::CURRENT]);
     let front = fold::wide(due::front(lines));
     !due::swi_due(swis, lines, state) & (!due::task_due(lines, state) | (current == front))
 }

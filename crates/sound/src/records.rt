@@ -19,11 +19,11 @@ ghost use Rattle.rules.specs.Sound.{noWait, idleRule, waitRule, otherRule, task
 pub fn state_sound(tasks: &Tasks, state: &State) -> bool
     ensures { λ r. ⌜ r ≡ holds (stateRule (now (tasks .entry)) (now (state .entry))) ⌝ }
 {
-    let current = state[rows::words::CURRENT];
-    let k = rows::words::task(tasks, fold::index(current));
-    (state[rows::words::DEPTH] < 9)
-        & (state[rows::words::SWIS] < 2)
-        & (state[rows::words::TASKS] < 2)
+    let current = state[words::CURRENT];
+    let k = words::task(tasks, fold::index(current));
+    (state[words::DEPTH] < 9)
+        & (state[words::SWIS] < 2)
+        & (state[words::TASKS] < 2)
         & (current < 32)
         & (k.mode == 1)
 }
@@ -60,7 +60,7 @@ pub fn heap_sound(heap: &Heap) -> bool
 fn clock_sound(swis: &Swis, k: Clock) -> bool
     ensures { λ r. ⌜ r ≡ holds (clockRule (now (swis .entry)) k) ⌝ }
 {
-    let named = rows::words::swi(swis, k.swi as usize, rows::words::USED);
+    let named = words::swi(swis, k.swi as usize, words::USED);
     (k.used < 2)
         & ((k.used != 0) | ((k.swi == 0) & (k.first == 0) & (k.period == 0) & (k.left == 0)))
         & ((k.used != 1) | ((named == 1) & (k.first != 0)))
@@ -73,7 +73,7 @@ pub fn clocks_sound(clocks: &Clocks, swis: &Swis) -> bool
     let mut ok = true;
     let mut n = 0;
     while n < 16 {
-        ok = ok & clock_sound(swis, rows::words::clock(clocks, n));
+        ok = ok & clock_sound(swis, words::clock(clocks, n));
         n += 1;
     }
     ok
@@ -152,7 +152,7 @@ fn other_sound(k: Task) -> bool
 fn task_sound(tasks: &Tasks, i: usize) -> bool
     ensures { λ r. ⌜ r ≡ holds (taskRule i (task (now (tasks .entry)) i)) ⌝ }
 {
-    let k = rows::words::task(tasks, i);
+    let k = words::task(tasks, i);
     if i == 0 {
         return idle_sound(k);
     }

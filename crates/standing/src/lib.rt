@@ -69,15 +69,15 @@ pub fn lines_sound(lines: &Lines) -> bool
 pub fn task_home(tasks: &Tasks, i: usize) -> usize
     ensures { λ r. ⌜ r ≡ taskHome (now (tasks .entry)) i ⌝ }
 {
-    rows::readings::home_of(rows::words::task(tasks, i))
+    rows::readings::home_of(words::task(tasks, i))
 }
 
 // The line in which Swi i stands as a posted one; 255 for none.
 pub fn swi_home(swis: &Swis, i: usize) -> usize
     ensures { λ r. ⌜ r ≡ swiHome (now (swis .entry)) i ⌝ }
 {
-    if rows::words::swi(swis, i, rows::words::POSTED) == 1 {
-        return 32 + rows::words::swi(swis, i, rows::words::PRIORITY) as usize;
+    if words::swi(swis, i, words::POSTED) == 1 {
+        return 32 + words::swi(swis, i, words::PRIORITY) as usize;
     }
     255
 }

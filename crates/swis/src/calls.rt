@@ -2,14 +2,14 @@
 use super::table::free_swi;
 use super::table::is_held;
 use super::table::put_swi;
-use rows::words::SWIS;
-use rows::words::TAKEN;
-use rows::words::USED;
 use rules::Answer;
 use rules::Clocks;
 use rules::Lines;
 use rules::State;
 use rules::Swis;
+use words::SWIS;
+use words::TAKEN;
+use words::USED;
 ghost use mathlib.Core.Path.{_≡_};
 ghost use mathlib.Core.List.{List};
 ghost use Prim.Native.Nat.{ℕ};
@@ -80,7 +80,7 @@ pub fn delete_code(
     if x != 0 {
         return 2;
     }
-    if rows::words::swi(swis, a as usize, USED) == 0 {
+    if words::swi(swis, a as usize, USED) == 0 {
         return 3;
     }
     if rows::answers::unused(0, b, c, d) {
@@ -146,7 +146,7 @@ pub fn end_effect(swis: &mut Swis, lines: &mut Lines) -> Answer
         ≡ endEffect (posts (now (swis .entry)) (now (lines .entry))) ⌝ }
 {
     let i = rows::readings::top(lines);
-    rows::words::set_swi(swis, fold::wide(i), TAKEN, 0);
+    words::set_swi(swis, fold::wide(i), TAKEN, 0);
     rows::lines::leave(lines, 48, i);
     rows::answers::accepted(0, 0)
 }
@@ -192,7 +192,7 @@ pub fn taken_effect(swis: &Swis, lines: &Lines) -> Answer
         ≡ takenEffect (posts (now (swis .entry)) (now (lines .entry))) ⌝ }
 {
     let i = rows::readings::top(lines);
-    rows::answers::accepted(0, rows::words::swi(swis, fold::wide(i), TAKEN))
+    rows::answers::accepted(0, words::swi(swis, fold::wide(i), TAKEN))
 }
 
 pub fn taken(swis: &Swis, lines: &Lines, x: u32, a: u32, b: u32, c: u32, d: u32) -> Answer

@@ -1,9 +1,9 @@
 // A Swi's row, and what the calls ask of Swis.
-use rows::words::POSTED;
-use rows::words::USED;
 use rules::Clocks;
 use rules::Lines;
 use rules::Swis;
+use words::POSTED;
+use words::USED;
 ghost use mathlib.Core.Path.{_≡_};
 ghost use mathlib.Core.Bool.{not, _||_};
 ghost use mathlib.Core.List.{[], _∷_};
@@ -44,7 +44,7 @@ pub fn free_swi(swis: &Swis) -> usize
 {
     let mut i = 0;
     while i < 16 {
-        if rows::words::swi(swis, i, USED) == 0 {
+        if words::swi(swis, i, USED) == 0 {
             return i;
         }
         i += 1;
@@ -74,7 +74,7 @@ pub fn is_named(clocks: &Clocks, i: u32) -> bool
 {
     let mut n = 0;
     while n < 16 {
-        let k = rows::words::clock(clocks, n);
+        let k = words::clock(clocks, n);
         if (k.used == 1) & (k.swi == i) {
             return true;
         }
@@ -89,6 +89,6 @@ pub fn is_held(swis: &Swis, lines: &Lines, clocks: &Clocks, i: u32) -> bool
         ≡ (not (eqb (swi (now (swis .entry)) i POSTED) 0)
         || isActive (now (lines .entry)) i || isNamed (now (clocks .entry)) i) ⌝ }
 {
-    let posted = rows::words::swi(swis, i as usize, POSTED) != 0;
+    let posted = words::swi(swis, i as usize, POSTED) != 0;
     posted | is_active(lines, i) | is_named(clocks, i)
 }

@@ -50,7 +50,7 @@ pub fn free_task(tasks: &Tasks) -> usize
 {
     let mut i = 0;
     while i < 32 {
-        if rows::words::task_word(tasks, i, MODE) == NOT_IN_USE {
+        if words::task_word(tasks, i, MODE) == NOT_IN_USE {
             return i;
         }
         i += 1;

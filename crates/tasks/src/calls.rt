@@ -86,7 +86,7 @@ pub fn delete_code(tasks: &Tasks, x: u32, a: u32, b: u32, c: u32, d: u32) -> u32
     if x != 0 {
         return 2;
     }
-    let mode = rows::words::task_word(tasks, a as usize, MODE);
+    let mode = words::task_word(tasks, a as usize, MODE);
     if mode == NOT_IN_USE {
         return 3;
     }
@@ -104,7 +104,7 @@ pub fn delete_effect(tasks: &mut Tasks, a: u32) -> Answer
     ensures { λ r. ⌜ ((ls : List ℕ) → after r (queued (now (tasks .exit)) ls)
         ≡ deleteEffect (queued (now (tasks .entry)) ls) a) ⌝ }
 {
-    rows::words::set_task(tasks, a as usize, no_task());
+    words::set_task(tasks, a as usize, no_task());
     rows::answers::accepted(0, 0)
 }
 
@@ -140,7 +140,7 @@ pub fn set_priority_code(
     if x == 2 {
         return 2;
     }
-    let mode = rows::words::task_word(tasks, a as usize, MODE);
+    let mode = words::task_word(tasks, a as usize, MODE);
     if mode == NOT_IN_USE {
         return 3;
     }
@@ -162,10 +162,10 @@ pub fn reprioritize(tasks: &mut Tasks, lines: &mut Lines, a: u32, p: u32)
     ensures { λ _. ⌜ queued (now (tasks .exit)) (now (lines .exit))
         ≡ reprioritized (queued (now (tasks .entry)) (now (lines .entry))) a p ⌝ }
 {
-    let old = rows::words::task(tasks, a as usize);
+    let old = words::task(tasks, a as usize);
     if p != old.priority {
         if blocked(old.mode) {
-            rows::words::set_task(tasks, a as usize, with_priority(old, p));
+            words::set_task(tasks, a as usize, with_priority(old, p));
         } else {
             waits::moves::move_back(tasks, lines, a, placed_at(old, p));
         }
@@ -177,7 +177,7 @@ pub fn set_priority_effect(tasks: &mut Tasks, lines: &mut Lines, a: u32, b: u32)
     ensures { λ r. ⌜ after r (queued (now (tasks .exit)) (now (lines .exit)))
         ≡ setPriorityEffect (queued (now (tasks .entry)) (now (lines .entry))) a b ⌝ }
 {
-    let old = rows::words::task_word(tasks, a as usize, PRIORITY);
+    let old = words::task_word(tasks, a as usize, PRIORITY);
     reprioritize(tasks, lines, a, b);
     rows::answers::accepted(0, old)
 }
@@ -211,7 +211,7 @@ pub fn set_priority(
 pub fn last_result_code(tasks: &Tasks, a: u32, b: u32, c: u32, d: u32) -> u32
     ensures { λ r. ⌜ r ≡ codeOf (lastResultCases (now (tasks .entry)) a b c d) ⌝ }
 {
-    if rows::words::task_word(tasks, a as usize, MODE) == NOT_IN_USE {
+    if words::task_word(tasks, a as usize, MODE) == NOT_IN_USE {
         return 3;
     }
     if rows::answers::unused(0, b, c, d) {
@@ -231,6 +231,6 @@ pub fn last_result(tasks: &Tasks, a: u32, b: u32, c: u32, d: u32) -> Answer
     if code != 0 {
         return rows::answers::refused(code);
     }
-    let k = rows::words::task(tasks, a as usize);
+    let k = words::task(tasks, a as usize);
     rows::answers::accepted(k.outcome, k.value)
 }

@@ -1,6 +1,6 @@
 // One call on any lent tables: they are tested first.
-use kernel::calls::Call;
-use kernel::calls::Said;
+use kernel::Call;
+use kernel::Said;
 use rules::Clocks;
 use rules::Events;
 use rules::Heap;
@@ -55,7 +55,7 @@ pub fn tested_call(
     ) {
         return unsound();
     }
-    kernel::calls::step(
+    kernel::step(
         tasks,
         lines,
         semaphores,

@@ -16,7 +16,7 @@ use Rattle.fold.proofs.Finds.{all-none, all-step, all-end, all-at}
 use Rattle.fold.proofs.Laws.{same?}
 use Rattle.laws.proofs.Rows.{by-range, field-in}
 use Rattle.rules.specs.Rows.{field}
-use Rattle.rows.proofs.Records.{put-clock, no-clock}
+use Rattle.words.proofs.Records.{put-clock, no-clock}
 use Rattle.rules.specs.Tables.{clock, withClock}
 use Rattle.rules.specs.Tick.{aged, clockedOf, clockTick}
 use Rattle.rules.specs.declared.Clock.{Clock}

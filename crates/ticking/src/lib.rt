@@ -24,12 +24,12 @@ pub fn post_if(fired: bool, swis: &mut Swis, lines: &mut Lines, i: u32)
 pub fn clock_tick(clocks: &mut Clocks, swis: &mut Swis, lines: &mut Lines, n: usize)
     ensures { λ _. ⌜ clockedOf (now (clocks .exit)) (now (swis .exit)) (now (lines .exit)) ≡ clockTick (clockedOf (now (clocks .entry)) (now (swis .entry)) (now (lines .entry))) n ⌝ }
 {
-    let k = rows::words::clock(clocks, n);
+    let k = words::clock(clocks, n);
     if k.left == 0 {
         return;
     }
     let older = ageing::age_one(k);
-    rows::words::set_clock(clocks, n, older.clock);
+    words::set_clock(clocks, n, older.clock);
     post_if(older.fired, swis, lines, k.swi);
 }
 
@@ -40,7 +40,7 @@ pub fn clocks_still(clocks: &Clocks) -> bool
     let mut left: u32 = 0;
     let mut n: usize = 0;
     while n < 16 {
-        left = left | rows::words::clock_word(clocks, n, 4);
+        left = left | words::clock_word(clocks, n, 4);
         n += 1;
     }
     left == 0
@@ -90,16 +90,16 @@ pub fn ended_with(mode: u32) -> u32
 pub fn task_tick(tasks: &mut Tasks, lines: &mut Lines, i: u32)
     ensures { λ _. ⌜ queued (now (tasks .exit)) (now (lines .exit)) ≡ taskTick (queued (now (tasks .entry)) (now (lines .entry))) i ⌝ }
 {
-    let left = rows::words::task_word(tasks, i as usize, 3);
+    let left = words::task_word(tasks, i as usize, 3);
     if left == 0 {
         return;
     }
-    let k = rows::words::task(tasks, i as usize);
+    let k = words::task(tasks, i as usize);
     if left == 1 {
         waits::moves::wake(tasks, lines, i, ended_with(k.mode), 0);
         return;
     }
-    rows::words::set_task(tasks, i as usize, one_less(k));
+    words::set_task(tasks, i as usize, one_less(k));
 }
 
 // None of the eight tasks from 8 g on has ticks left: one test for them all.
@@ -110,7 +110,7 @@ pub fn eight_still(tasks: &Tasks, g: u8) -> bool
     let mut left: u32 = 0;
     let mut k: usize = 0;
     while k < 8 {
-        left = left | rows::words::task_word(tasks, at + k, 3);
+        left = left | words::task_word(tasks, at + k, 3);
         k += 1;
     }
     left == 0

@@ -57,7 +57,7 @@ fn put_state(out: &mut Text, start: usize, state: &State) -> usize {
 
 // A task in use: its number, mode, priority, object and ticks left.
 fn put_task(out: &mut Text, start: usize, tasks: &Tasks, i: usize) -> usize {
-    let k = rows::words::task(tasks, i);
+    let k = words::task(tasks, i);
     if k.mode == 0 {
         return start;
     }

@@ -2,7 +2,7 @@
 use super::print::print_call;
 use super::print::print_heading;
 use super::print::print_word;
-use kernel::calls::Call;
+use kernel::Call;
 use rules::Clocks;
 use rules::Events;
 use rules::Heap;

@@ -2,8 +2,8 @@
 use comparing::same_answer;
 use comparing::same_tables;
 use comparing::same_thread;
-use kernel::calls::Call;
-use kernel::calls::Said;
+use kernel::Call;
+use kernel::Said;
 use rules::Clocks;
 use rules::Events;
 use rules::Heap;

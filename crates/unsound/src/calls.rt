@@ -8,7 +8,7 @@ use super::print::print_heading;
 use super::tables::busy;
 use super::tables::held;
 use comparing::same_tables;
-use kernel::calls::Call;
+use kernel::Call;
 use rules::Tables;
 use trying::trial::Tried;
 use trying::trial::try_call;

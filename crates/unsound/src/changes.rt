@@ -1,14 +1,14 @@
 // Changes of tables: a word, a byte, or who stands in a line.
-use rows::words::set_event;
-use rows::words::set_mailbox;
-use rows::words::set_semaphore;
-use rows::words::set_swi;
-use rows::words::set_task_word;
 use rules::Clocks;
 use rules::Heap;
 use rules::Lines;
 use rules::State;
 use rules::Tables;
+use words::set_event;
+use words::set_mailbox;
+use words::set_semaphore;
+use words::set_swi;
+use words::set_task_word;
 
 // One change of tables.
 pub(crate) enum Change {

@@ -10,17 +10,17 @@ use super::places::OUTCOME;
 use super::places::POSTED_LINES;
 use super::places::READY_LINES;
 use super::places::SEMAPHORE_LINES;
-use rows::words::CAPACITY;
-use rows::words::COUNT;
-use rows::words::CURRENT;
-use rows::words::DEPTH;
-use rows::words::KIND;
-use rows::words::MESSAGES;
-use rows::words::POSTED;
-use rows::words::PRIORITY;
-use rows::words::SWIS;
-use rows::words::TASKS;
-use rows::words::USED;
+use words::CAPACITY;
+use words::COUNT;
+use words::CURRENT;
+use words::DEPTH;
+use words::KIND;
+use words::MESSAGES;
+use words::POSTED;
+use words::PRIORITY;
+use words::SWIS;
+use words::TASKS;
+use words::USED;
 
 // The last number that a word holds.
 const LAST: u32 = 4294967295;

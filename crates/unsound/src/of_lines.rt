@@ -7,10 +7,10 @@ use super::places::OBJECT;
 use super::places::POSTED_LINES;
 use super::places::READY_LINES;
 use super::places::SEMAPHORE_LINES;
-use rows::words::POSTED;
-use rows::words::PRIORITY;
-use rows::words::TASKS;
-use rows::words::USED;
+use words::POSTED;
+use words::PRIORITY;
+use words::TASKS;
+use words::USED;
 
 // Lines: room for 32, and zeros behind those who stand there
 pub(crate) fn lines(n: u32) -> Change {

@@ -8,17 +8,17 @@ use super::places::PERIOD;
 use super::places::SECOND;
 use super::places::SEMAPHORE_LINES;
 use super::places::TICKS_LEFT;
-use rows::words::BITS;
-use rows::words::CAPACITY;
-use rows::words::COUNT;
-use rows::words::INITIAL;
-use rows::words::KIND;
-use rows::words::MESSAGES;
-use rows::words::POSTED;
-use rows::words::PRIORITY;
-use rows::words::TAKEN;
-use rows::words::TRIGGER;
-use rows::words::USED;
+use words::BITS;
+use words::CAPACITY;
+use words::COUNT;
+use words::INITIAL;
+use words::KIND;
+use words::MESSAGES;
+use words::POSTED;
+use words::PRIORITY;
+use words::TAKEN;
+use words::TRIGGER;
+use words::USED;
 
 // "priority 0 to 15"; "fields without meaning at the time (.., the taken trigger of a Swi not active)"
 pub(crate) fn swis(n: u32) -> Change {

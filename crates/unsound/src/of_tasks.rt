@@ -9,11 +9,11 @@ use super::places::SECOND;
 use super::places::VALUE;
 use super::tables::MINUS_ONE;
 use super::tables::SLEEPING;
-use rows::words::CURRENT;
-use rows::words::DEPTH;
-use rows::words::PRIORITY;
-use rows::words::SWIS;
-use rows::words::TASKS;
+use words::CURRENT;
+use words::DEPTH;
+use words::PRIORITY;
+use words::SWIS;
+use words::TASKS;
 
 const FOREVER: u32 = 4294967295;
 

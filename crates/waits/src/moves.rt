@@ -16,7 +16,7 @@ pub fn place(tasks: &Tasks, lines: &Lines, j: usize, p: u32) -> usize
     let mut k = 0;
     while k < n {
         let m = rows::lines::member(lines, j, k);
-        if rows::words::task_word(tasks, fold::wide(m), 1) < p {
+        if words::task_word(tasks, fold::wide(m), 1) < p {
             return k;
         }
         k += 1;
@@ -37,10 +37,10 @@ pub fn move_back(tasks: &mut Tasks, lines: &mut Lines, i: u32, k: Task)
     ensures { λ _. ⌜ queued (now (tasks .exit)) (now (lines .exit)) ≡ moved atBack i k (queued (now (tasks .entry)) (now (lines .entry))) ⌝ }
 {
     if i < 32 {
-        let old = rows::words::task(tasks, i as usize);
+        let old = words::task(tasks, i as usize);
         rows::lines::leave(lines, rows::readings::home_of(old), i as u8);
         rows::lines::join(lines, rows::readings::home_of(k), i as u8);
-        rows::words::set_task(tasks, i as usize, k);
+        words::set_task(tasks, i as usize, k);
     }
 }
 
@@ -49,10 +49,10 @@ pub fn move_by_priority(tasks: &mut Tasks, lines: &mut Lines, i: u32, k: Task, p
     ensures { λ _. ⌜ queued (now (tasks .exit)) (now (lines .exit)) ≡ moved (byPriority (now (tasks .entry)) p) i k (queued (now (tasks .entry)) (now (lines .entry))) ⌝ }
 {
     if i < 32 {
-        let old = rows::words::task(tasks, i as usize);
+        let old = words::task(tasks, i as usize);
         rows::lines::leave(lines, rows::readings::home_of(old), i as u8);
         enter_by_priority(tasks, lines, rows::readings::home_of(k), i as u8, p);
-        rows::words::set_task(tasks, i as usize, k);
+        words::set_task(tasks, i as usize, k);
     }
 }
 
@@ -60,7 +60,7 @@ pub fn move_by_priority(tasks: &mut Tasks, lines: &mut Lines, i: u32, k: Task, p
 pub fn wake(tasks: &mut Tasks, lines: &mut Lines, i: u32, outcome: u32, value: u32)
     ensures { λ _. ⌜ queued (now (tasks .exit)) (now (lines .exit)) ≡ woken i outcome value (queued (now (tasks .entry)) (now (lines .entry))) ⌝ }
 {
-    let old = rows::words::task(tasks, i as usize);
+    let old = words::task(tasks, i as usize);
     let k = Task {
         mode: 1,
         priority: old.priority,
@@ -103,7 +103,7 @@ pub fn wait(
 )
     ensures { λ _. ⌜ queued (now (tasks .exit)) (now (lines .exit)) ≡ moved atBack i (waiting (task (now (tasks .entry)) i) mode object limit first second) (queued (now (tasks .entry)) (now (lines .entry))) ⌝ }
 {
-    let old = rows::words::task(tasks, i as usize);
+    let old = words::task(tasks, i as usize);
     move_back(
         tasks,
         lines,

@@ -14,7 +14,7 @@ use Rattle.waits.proofs.moves.place.Lts as lts
 use Rattle.fold.proofs.wide.Reads as wide-reads
 use Rattle.rows.proofs.lines.len.Reads as len-reads
 use Rattle.rows.proofs.lines.member.Reads as member-reads
-use Rattle.rows.proofs.words.task_word.Reads as task-word-reads
+use Rattle.words.proofs.task_word.Reads as task-word-reads
 
 abbrev Inv-loop : tie.InvT-loop
 Inv-loop tasks lines j p n k₀ k =

@@ -1,0 +1,321 @@
+/* Calls with arguments that the tables make likely to be accepted. */
+#include "chance.h"
+#include "likely.h"
+#include "sight.h"
+
+struct call call_of(uint32_t number, uint32_t a, uint32_t b, uint32_t c, uint32_t d)
+{
+    return (struct call){ number, { a, b, c, d } };
+}
+
+/* Arguments */
+
+static uint32_t object(struct maker *m, uint32_t set, uint32_t size)
+{
+    if (set != 0 && chance(m, 94))
+        return member(m, set);
+    return chance(m, 70) ? below(m, size) : wild(m);
+}
+
+uint32_t task_priority(struct maker *m)
+{
+    return chance(m, 4) ? MINUS_ONE : 1 + below(m, chance(m, 85) ? m->levels : 15);
+}
+
+uint32_t some_limit(struct maker *m)
+{
+    if (!in_task(m))
+        return chance(m, 92) ? 0 : 1 + below(m, 3);
+    if (chance(m, 12))
+        return 0;
+    if (chance(m, m->endless))
+        return WITHOUT_END;
+    switch (below(m, 12)) {
+    case 0:
+        return WITHOUT_END - 1;
+    case 1:
+    case 2:
+        return 1 + below(m, 30);
+    default:
+        return 1 + below(m, 5);
+    }
+}
+
+uint32_t waiting_limit(struct maker *m)
+{
+    uint32_t limit = some_limit(m);
+
+    return limit == 0 ? 1 + below(m, 4) : limit;
+}
+
+uint32_t some_word(struct maker *m)
+{
+    return chance(m, 5) ? 0 : (uint32_t)random_word(m);
+}
+
+uint32_t mask(struct maker *m)
+{
+    switch (below(m, 8)) {
+    case 0:
+        return 0;
+    case 1:
+        return (uint32_t)random_word(m);
+    case 2:
+        return FULL;
+    case 3:
+        return bit(below(m, 32));
+    default:
+        return below(m, 16);
+    }
+}
+
+uint32_t trigger(struct maker *m)
+{
+    switch (below(m, 8)) {
+    case 0:
+        return FULL;
+    case 1:
+        return (uint32_t)random_word(m);
+    case 2:
+        return FULL - 1;
+    default:
+        return below(m, 5);
+    }
+}
+
+uint32_t ticks(struct maker *m)
+{
+    uint32_t kind = below(m, 40);
+
+    if (kind == 0)
+        return FULL;
+    if (kind == 1)
+        return FULL - 1;
+    return kind < 8 ? 1 + below(m, 20) : 1 + below(m, 4);
+}
+
+static uint32_t semaphore_count(struct maker *m, uint32_t kind)
+{
+    if (kind % 2 == 1)
+        return below(m, chance(m, 95) ? 2 : 4);
+    switch (below(m, 12)) {
+    case 0:
+        return 65535;
+    case 1:
+        return 65534;
+    case 2:
+        return 65536;
+    case 3:
+    case 4:
+    case 5:
+        return below(m, 5);
+    default:
+        return 0;
+    }
+}
+
+static uint32_t bytes(struct maker *m)
+{
+    switch (below(m, 10)) {
+    case 0:
+        return 1 + below(m, 2048);
+    case 1:
+        return 2048 - below(m, 20);
+    case 2:
+    case 3:
+    case 4:
+        return 1 + below(m, 256);
+    default:
+        return 1 + below(m, 40);
+    }
+}
+
+static uint32_t key(struct maker *m)
+{
+    return chance(m, 75) ? 1 : chance(m, 85) ? 0 : 2 + below(m, 3);
+}
+
+/* Calls */
+
+struct call give_back(struct maker *m)
+{
+    uint32_t units = 0, unit = some_block(m, &units), offset, size;
+
+    if (unit == UNITS) {
+        offset = below(m, 256) * 8;
+        size = bytes(m);
+        return call_of(HEAP_GIVE_BACK, offset, size, 0, 0);
+    }
+    offset = unit * UNIT_BYTES;
+    size = units * UNIT_BYTES - below(m, UNIT_BYTES);
+    if (chance(m, 8)) {
+        switch (below(m, 6)) {
+        case 0:
+            offset += 1 + below(m, 7);
+            break;
+        case 1:
+            offset += 8 * (1 + below(m, 3));
+            break;
+        case 2:
+            size = units * UNIT_BYTES + 1;
+            break;
+        case 3:
+            size = (units - 1) * UNIT_BYTES;
+            break;
+        case 4:
+            size += 0xFFFFF800u; /* the right size again if rounding up went round */
+            break;
+        default:
+            offset += 2048;
+            break;
+        }
+    }
+    return call_of(HEAP_GIVE_BACK, offset, size, 0, 0);
+}
+
+/*
+ * Every call, with arguments that the tables make likely to be accepted. The random numbers are drawn one statement after the other, so that every
+ * compiler makes the same log.
+ */
+struct call likely(struct maker *m, uint32_t number)
+{
+    const struct tables *t = &m->tables;
+    struct call call = call_of(number, 0, 0, 0, 0);
+    uint32_t *argument = call.argument, set;
+
+    switch (number) {
+    case TASK_CREATE:
+        argument[0] = task_priority(m);
+        break;
+    case TASK_DELETE:
+        set = tasks_in_mode(m, TERMINATED) | tasks_in_mode(m, INACTIVE);
+        argument[0] = object(m, set != 0 && chance(m, 70) ? set : t->tasks_in_use, TASKS);
+        break;
+    case TASK_SET_PRIORITY:
+        argument[0] = object(m, t->tasks_in_use, TASKS);
+        argument[1] = task_priority(m);
+        break;
+    case TASK_SLEEP:
+        argument[0] = chance(m, 6) ? 0 : chance(m, 96) ? 1 + below(m, 6) : ticks(m);
+        break;
+    case TASK_LAST_RESULT:
+        argument[0] = object(m, t->tasks_in_use, TASKS);
+        break;
+    case SWI_CREATE:
+        argument[0] = below(m, 16);
+        argument[1] = trigger(m);
+        break;
+    case SWI_DELETE:
+    case SWI_POST:
+    case SWI_ADD_ONE:
+    case SWI_TAKE_ONE:
+        argument[0] = object(m, t->swis_in_use, SWIS);
+        break;
+    case SWI_SET_BITS:
+    case SWI_CLEAR_BITS:
+        argument[0] = object(m, t->swis_in_use, SWIS);
+        argument[1] = mask(m);
+        break;
+    case SEMAPHORE_CREATE:
+        argument[0] = below(m, 4);
+        argument[1] = semaphore_count(m, argument[0]);
+        break;
+    case SEMAPHORE_POST:
+        set = semaphores_near_most(m);
+        argument[0] = object(m, set != 0 && chance(m, 20) ? set : t->semaphores_in_use, SEMAPHORES);
+        break;
+    case SEMAPHORE_DELETE:
+        argument[0] = object(m, t->semaphores_in_use, SEMAPHORES);
+        break;
+    case SEMAPHORE_PEND:
+        argument[0] = object(m, t->semaphores_in_use, SEMAPHORES);
+        argument[1] = some_limit(m);
+        break;
+    case SEMAPHORE_RESET:
+        argument[0] = object(m, t->semaphores_in_use, SEMAPHORES);
+        argument[1] = semaphore_count(m, argument[0] < SEMAPHORES ? t->semaphore[argument[0]].kind : 0);
+        break;
+    case EVENT_DELETE:
+        argument[0] = object(m, t->events_in_use, EVENTS);
+        break;
+    case EVENT_PEND:
+        argument[0] = object(m, t->events_in_use, EVENTS);
+        argument[1] = mask(m);
+        argument[2] = mask(m);
+        argument[3] = some_limit(m);
+        break;
+    case EVENT_POST:
+        argument[0] = object(m, t->events_in_use, EVENTS);
+        argument[1] = mask(m);
+        break;
+    case MAILBOX_CREATE:
+        argument[0] = 1 + below(m, chance(m, 60) ? 3 : 8);
+        break;
+    case MAILBOX_DELETE:
+        argument[0] = object(m, t->mailboxes_in_use, MAILBOXES);
+        break;
+    case MAILBOX_POST:
+        argument[0] = object(m, t->mailboxes_in_use, MAILBOXES);
+        argument[1] = some_word(m);
+        argument[2] = some_limit(m);
+        break;
+    case MAILBOX_PEND:
+        argument[0] = object(m, t->mailboxes_in_use, MAILBOXES);
+        argument[1] = some_limit(m);
+        break;
+    case CLOCK_CREATE:
+        argument[0] = object(m, t->swis_in_use, SWIS);
+        argument[1] = ticks(m);
+        argument[2] = chance(m, 40) ? 0 : ticks(m);
+        break;
+    case CLOCK_DELETE:
+    case CLOCK_START:
+    case CLOCK_STOP:
+        argument[0] = object(m, t->clocks_in_use, CLOCKS);
+        break;
+    case HEAP_TAKE:
+        argument[0] = bytes(m);
+        break;
+    case HEAP_GIVE_BACK:
+        return give_back(m);
+    case SWIS_RESTORE:
+    case TASKS_RESTORE:
+        argument[0] = key(m);
+        break;
+    default:
+        break;
+    }
+    return call;
+}
+
+struct call any(struct maker *m)
+{
+    static const uint8_t from_interrupt[] = { TASK_LAST_RESULT, SWI_POST, SWI_ADD_ONE, SWI_TAKE_ONE, SWI_SET_BITS, SWI_CLEAR_BITS, SEMAPHORE_POST,
+                                              SEMAPHORE_POST, EVENT_POST, EVENT_POST, MAILBOX_POST, MAILBOX_PEND, SEMAPHORE_PEND, EVENT_PEND,
+                                              CLOCK_START, CLOCK_STOP, INTERRUPT_IN, INTERRUPT_OUT, INTERRUPT_OUT, INTERRUPT_OUT, TICK, TICK,
+                                              TICK, TICK };
+    static const uint8_t from_swi[] = { TASK_LAST_RESULT, SWI_POST, SWI_ADD_ONE, SWI_TAKE_ONE, SWI_SET_BITS, SWI_CLEAR_BITS, SEMAPHORE_POST,
+                                        EVENT_POST, MAILBOX_POST, MAILBOX_PEND, SEMAPHORE_PEND, EVENT_PEND, CLOCK_START, CLOCK_STOP,
+                                        INTERRUPT_IN, SWI_END, SWI_END, SWI_END, SWI_END, SWI_TAKEN_TRIGGER, SWI_TAKEN_TRIGGER, TASK_SET_PRIORITY,
+                                        TASK_SET_PRIORITY, SWIS_OFF, SWIS_RESTORE, SWIS_RESTORE };
+
+    if (!in_task(m) && chance(m, 75)) {
+        if (in_swi(m))
+            return likely(m, from_swi[below(m, sizeof from_swi)]);
+        return likely(m, from_interrupt[below(m, sizeof from_interrupt)]);
+    }
+    if (in_task(m) && (!m->tables.swis_on || !m->tables.tasks_on) && chance(m, 20))
+        return likely(m, chance(m, 50) ? SWIS_RESTORE : TASKS_RESTORE);
+    return likely(m, call_forms[below(m, CALLS)].number);
+}
+
+struct call wild_call(struct maker *m)
+{
+    uint32_t number = chance(m, 80) ? call_forms[below(m, CALLS)].number : below(m, 256);
+    struct call call = likely(m, number);
+
+    for (unsigned i = 0; i < 4; i++)
+        if (chance(m, 35))
+            call.argument[i] = wild(m);
+    return call;
+}

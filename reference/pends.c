@@ -1,0 +1,338 @@
+/* The rows of the kinds that have a pend: semaphores, events and mailboxes. */
+#include "kinds.h"
+
+static const struct row semaphores[] = {
+    { 0x25, 0, 0, 0, 0, 1, 0, 0, "T0", 0 },
+    { SEMAPHORE_CREATE, 4, 0, 0, 0, 4, 0, 0, "T0", 0 },
+    { SEMAPHORE_CREATE, 0, 65536, 0, 0, 4, 0, 0, "T0", 0 },
+    { SEMAPHORE_CREATE, 1, 2, 0, 0, 4, 0, 0, "T0", 0 },
+    { SEMAPHORE_CREATE, 2, 65536, 0, 0, 4, 0, 0, "T0", 0 },
+    { SEMAPHORE_CREATE, 3, 2, 0, 0, 4, 0, 0, "T0", 0 },
+    { SEMAPHORE_CREATE, 0, 0, 1, 0, 4, 0, 0, "T0", 0 },
+    { SEMAPHORE_CREATE, 0, 65534, 0, 0, 0, 0, 0, "T0", 0 },
+    { SEMAPHORE_CREATE, 1, 1, 0, 0, 0, 0, 1, "T0", 0 },
+    { SEMAPHORE_CREATE, 2, 0, 0, 0, 0, 0, 2, "T0", 0 },
+    { SEMAPHORE_CREATE, 3, 0, 0, 0, 0, 0, 3, "T0", 0 },
+    { SEMAPHORE_POST, 0, 0, 0, 0, 0, 0, 0, "T0", 0 },       /* 65,535 */
+    { SEMAPHORE_POST, 0, 0, 0, 0, 7, 0, 0, "T0", 0 },
+    { SEMAPHORE_POST, 0, 1, 0, 0, 4, 0, 0, "T0", 0 },       /* 4 before 7 */
+    { SEMAPHORE_POST, 1, 0, 0, 0, 0, 0, 0, "T0", 0 },       /* stays 1 */
+    { SEMAPHORE_PEND, 1, 0, 0, 0, 0, 0, 0, "T0", 0 },
+    { SEMAPHORE_PEND, 1, 0, 0, 0, 0, 1, 0, "T0", 0 },       /* it was 1, not 2 */
+    { SEMAPHORE_POST, 16, 0, 0, 0, 3, 0, 0, "T0", 0 },
+    { SEMAPHORE_POST, 4, 1, 0, 0, 3, 0, 0, "T0", 0 },
+    { SEMAPHORE_PEND, 16, 0, 0, 0, 3, 0, 0, "T0", 0 },
+    { SEMAPHORE_PEND, 4, F, 0, 1, 3, 0, 0, "T0", 0 },
+    { SEMAPHORE_PEND, 1, 0, 1, 0, 4, 0, 0, "T0", 0 },
+    { SEMAPHORE_PEND, 1, F, 0, 1, 4, 0, 0, "T0", 0 },       /* 4 before 5 */
+    { SEMAPHORE_PEND, 1, F, 0, 0, 5, 0, 0, "T0", 0 },       /* task 0 would wait */
+    { SEMAPHORE_PEND, 1, 5, 0, 0, 5, 0, 0, "T0", 0 },
+    { SEMAPHORE_PEND, 0, 5, 0, 0, 0, 0, 0, "T0", 0 },       /* done at once */
+    { SEMAPHORE_RESET, 0, 65536, 0, 0, 4, 0, 0, "T0", 0 },
+    { SEMAPHORE_RESET, 1, 2, 0, 0, 4, 0, 0, "T0", 0 },
+    { SEMAPHORE_RESET, 16, 0, 0, 0, 3, 0, 0, "T0", 0 },
+    { SEMAPHORE_RESET, 4, 65536, 0, 0, 3, 0, 0, "T0", 0 },
+    { SEMAPHORE_RESET, 0, 0, 1, 0, 4, 0, 0, "T0", 0 },
+    { SEMAPHORE_RESET, 0, 0, 0, 0, 0, 0, 0, "T0", 0 },
+    { SEMAPHORE_PEND, 0, 0, 0, 0, 0, 1, 0, "T0", 0 },
+    { TASK_CREATE, 3, 0, 0, 0, 0, 0, 1, "T1", 0 },
+    { SEMAPHORE_PEND, 2, F, 0, 0, 0, 2, 0, "T0", 0 },       /* line of 2: 1 */
+    { TASK_CREATE, 5, 0, 0, 0, 0, 0, 2, "T2", 0 },
+    { SEMAPHORE_PEND, 2, F, 0, 0, 0, 2, 0, "T0", 0 },       /* 2 1 */
+    { TASK_CREATE, 3, 0, 0, 0, 0, 0, 3, "T3", 0 },
+    { SEMAPHORE_PEND, 2, F, 0, 0, 0, 2, 0, "T0", 0 },       /* 2 1 3: behind its equal */
+    { TASK_CREATE, 4, 0, 0, 0, 0, 0, 4, "T4", 0 },
+    { SEMAPHORE_PEND, 2, F, 0, 0, 0, 2, 0, "T0", 0 },       /* 2 4 1 3 */
+    { SEMAPHORE_DELETE, 2, 0, 0, 0, 5, 0, 0, "T0", 0 },
+    { SEMAPHORE_RESET, 2, 0, 0, 0, 5, 0, 0, "T0", 0 },
+    { SEMAPHORE_RESET, 2, 65536, 0, 0, 4, 0, 0, "T0", 0 },  /* 4 before 5 */
+    { SEMAPHORE_DELETE, 2, 0, 0, 1, 4, 0, 0, "T0", 0 },
+    { SEMAPHORE_PEND, 2, 0, 0, 0, 0, 1, 0, "T0", 0 },
+    { TASK_SET_PRIORITY, 3, 15, 0, 0, 0, 0, 3, "T0", 0 },   /* keeps its place */
+    { SEMAPHORE_POST, 2, 0, 0, 0, 0, 0, 1, "T2", 0 },       /* line 4 1 3 */
+    { SEMAPHORE_POST, 2, 0, 0, 0, 0, 0, 1, "T2", 0 },       /* line 1 3; task 4 is below task 2 */
+    { SEMAPHORE_PEND, 2, F, 0, 0, 0, 2, 0, "T4", 0 },       /* before task 1, the first lower one: 2 1 3 */
+    { SEMAPHORE_POST, 2, 0, 0, 0, 0, 0, 1, "T2", 0 },
+    { SEMAPHORE_POST, 2, 0, 0, 0, 0, 0, 1, "T2", 0 },       /* task 1 */
+    { SEMAPHORE_POST, 2, 0, 0, 0, 0, 0, 1, "T3", 0 },       /* task 3, now at 15 */
+    { SEMAPHORE_POST, 2, 0, 0, 0, 0, 0, 0, "T3", 0 },       /* nobody: count 1 */
+    { SEMAPHORE_PEND, 2, F, 0, 0, 0, 0, 0, "T3", 0 },
+    { TASK_LAST_RESULT, 3, 0, 0, 0, 0, 0, 0, "T3", 0 },
+    { SEMAPHORE_PEND, 3, 2, 0, 0, 0, 2, 0, "T2", 0 },       /* line of 3: 3, limit 2 */
+    { SEMAPHORE_PEND, 3, 1, 0, 0, 0, 2, 0, "T4", 0 },       /* 3 2, limit 1 */
+    { SEMAPHORE_PEND, 0, F, 0, 0, 0, 2, 0, "T1", 0 },       /* line of 0: 4 */
+    { SEMAPHORE_PEND, 0, F, 0, 0, 0, 2, 0, "T0", 0 },       /* 4 1 */
+    { TASK_CREATE, 15, 0, 0, 0, 0, 0, 5, "T5", 0 },
+    { SEMAPHORE_PEND, 0, F, 0, 0, 0, 2, 0, "T0", 0 },       /* 4 1 5: arrival order */
+    { INTERRUPT_IN, 0, 0, 0, 0, 0, 0, 0, "I", 0 },
+    { TICK, 0, 0, 0, 0, 0, 0, 0, "I", 0 },                  /* task 2 expires and leaves the line of 3 */
+    { SEMAPHORE_POST, 3, 0, 0, 0, 0, 0, 1, "I", 0 },        /* task 3 */
+    { SEMAPHORE_POST, 3, 0, 0, 0, 0, 0, 0, "I", 0 },        /* nobody: count 1 */
+    { SEMAPHORE_PEND, 3, 1, 0, 0, 2, 0, 0, "I", 0 },        /* a limit outside a task, though there is a count */
+    { SEMAPHORE_PEND, 16, F, 0, 0, 2, 0, 0, "I", 0 },       /* 2 before 3 */
+    { SEMAPHORE_PEND, 16, 0, 0, 0, 3, 0, 0, "I", 0 },
+    { SEMAPHORE_PEND, 3, 0, 0, 0, 0, 0, 0, "I", 0 },
+    { SEMAPHORE_PEND, 3, 0, 0, 0, 0, 1, 0, "I", 0 },
+    { SEMAPHORE_CREATE, 0, 0, 0, 0, 2, 0, 0, "I", 0 },
+    { SEMAPHORE_DELETE, 1, 0, 0, 0, 2, 0, 0, "I", 0 },
+    { SEMAPHORE_RESET, 1, 0, 0, 0, 2, 0, 0, "I", 0 },
+    { SEMAPHORE_POST, 0, 0, 0, 0, 0, 0, 1, "I", 0 },        /* task 4, line 1 5 */
+    { INTERRUPT_OUT, 0, 0, 0, 0, 0, 0, 0, "T3", 0 },        /* 15: 3, 5: 2, 4: 4 */
+    { TASK_LAST_RESULT, 2, 0, 0, 0, 0, 1, 0, "T3", 0 },
+    { TASK_LAST_RESULT, 3, 0, 0, 0, 0, 0, 0, "T3", 0 },
+    { TASKS_OFF, 0, 0, 0, 0, 0, 0, 1, "T3", 0 },
+    { SEMAPHORE_PEND, 1, F, 0, 0, 9, 0, 0, "T3", 0 },
+    { SEMAPHORE_PEND, 1, 0, 0, 0, 0, 1, 0, "T3", 0 },
+    { SEMAPHORE_POST, 1, 0, 0, 0, 0, 0, 0, "T3", 0 },
+    { SEMAPHORE_PEND, 1, F, 0, 0, 0, 0, 0, "T3", 0 },       /* no wait begins */
+    { TASKS_RESTORE, 1, 0, 0, 0, 0, 0, 0, "T3", 0 },
+    { SWIS_OFF, 0, 0, 0, 0, 0, 0, 1, "T3", 0 },
+    { SEMAPHORE_PEND, 1, 3, 0, 0, 9, 0, 0, "T3", 0 },
+    { SEMAPHORE_PEND, 1, 3, 1, 0, 4, 0, 0, "T3", 0 },       /* 4 before 9 */
+    { SWIS_RESTORE, 1, 0, 0, 0, 0, 0, 0, "T3", 0 },
+    { SEMAPHORE_DELETE, 16, 0, 0, 0, 3, 0, 0, "T3", 0 },
+    { SEMAPHORE_DELETE, 4, 0, 0, 0, 3, 0, 0, "T3", 0 },
+    { SEMAPHORE_DELETE, 1, 1, 0, 0, 4, 0, 0, "T3", 0 },
+    { SEMAPHORE_DELETE, 1, 0, 0, 0, 0, 0, 0, "T3", 0 },
+    { SEMAPHORE_DELETE, 1, 0, 0, 0, 3, 0, 0, "T3", 0 },
+    { SEMAPHORE_POST, 1, 0, 0, 0, 3, 0, 0, "T3", 0 },
+    { SEMAPHORE_PEND, 1, 0, 0, 0, 3, 0, 0, "T3", 0 },
+    { SEMAPHORE_RESET, 1, 0, 0, 0, 3, 0, 0, "T3", 0 },
+    { SEMAPHORE_CREATE, 1, 0, 0, 0, 0, 0, 1, "T3", 0 },
+    { SEMAPHORE_POST, 0, 0, 0, 0, 0, 0, 1, "T3", 0 },       /* task 1 at 3 */
+    { SEMAPHORE_POST, 0, 0, 0, 0, 0, 0, 1, "T3", 0 },       /* task 5: 15: 3 5 */
+    { TASK_YIELD, 0, 0, 0, 0, 0, 0, 0, "T5", 0 },
+    { TASK_YIELD, 0, 0, 0, 0, 0, 0, 0, "T3", 0 },
+    { SEMAPHORE_POST, 0, 0, 0, 0, 0, 0, 0, "T3", 0 },
+    { SEMAPHORE_DELETE, 0, 0, 0, 0, 0, 0, 0, "T3", 0 },     /* a count forbids no delete */
+    { SEMAPHORE_CREATE, 0, 0, 0, 0, 0, 0, 0, "T3", 0 },
+    { SEMAPHORE_PEND, 0, 0, 0, 0, 0, 1, 0, "T3", 0 },
+    { SWI_CREATE, 0, 0, 0, 0, 0, 0, 0, "T3", 0 },
+    { SWI_POST, 0, 0, 0, 0, 0, 0, 0, "S0", 0 },
+    { SEMAPHORE_PEND, 0, 1, 0, 0, 2, 0, 0, "S0", 0 },
+    { SEMAPHORE_PEND, 0, 0, 0, 0, 0, 1, 0, "S0", 0 },
+    { SEMAPHORE_POST, 0, 0, 0, 0, 0, 0, 0, "S0", 0 },
+    { SEMAPHORE_PEND, 0, 0, 0, 0, 0, 0, 0, "S0", 0 },
+    { SEMAPHORE_CREATE, 0, 0, 0, 0, 2, 0, 0, "S0", 0 },
+    { SEMAPHORE_DELETE, 0, 0, 0, 0, 2, 0, 0, "S0", 0 },
+    { SEMAPHORE_RESET, 0, 0, 0, 0, 2, 0, 0, "S0", 0 },
+    { SWI_END, 0, 0, 0, 0, 0, 0, 0, "T3", 0 },
+    { SEMAPHORE_CREATE, 3, 1, 0, 0, 0, 0, 4, "T3", RISING + 12 }, /* 4 to 15 */
+    { SEMAPHORE_CREATE, 3, 1, 0, 0, 6, 0, 0, "T3", 0 },
+    { SEMAPHORE_CREATE, 4, 0, 0, 0, 4, 0, 0, "T3", 0 },     /* 4 before 6 */
+};
+
+const struct named_table semaphores_table = TABLE(semaphores, 0x20);
+
+static const struct row events[] = {
+    { 0x34, 0, 0, 0, 0, 1, 0, 0, "T0", 0 },
+    { EVENT_CREATE, 1, 0, 0, 0, 4, 0, 0, "T0", 0 },
+    { EVENT_CREATE, 0, 0, 0, 0, 0, 0, 0, "T0", 0 },
+    { EVENT_CREATE, 0, 0, 0, 0, 0, 0, 1, "T0", 0 },
+    { EVENT_POST, 8, 1, 0, 0, 3, 0, 0, "T0", 0 },
+    { EVENT_POST, 2, 1, 1, 0, 3, 0, 0, "T0", 0 },
+    { EVENT_POST, 0, 1, 1, 0, 4, 0, 0, "T0", 0 },
+    { EVENT_POST, 0, 1, 0, 1, 4, 0, 0, "T0", 0 },
+    { EVENT_PEND, 8, 1, 0, 0, 3, 0, 0, "T0", 0 },
+    { EVENT_PEND, 2, 0, 0, 0, 3, 0, 0, "T0", 0 },           /* 3 before 4 */
+    { EVENT_PEND, 0, 0, 0, 0, 4, 0, 0, "T0", 0 },           /* both masks 0 */
+    { EVENT_PEND, 0, 0, 0, F, 4, 0, 0, "T0", 0 },
+    { EVENT_POST, 0, 5, 0, 0, 0, 0, 0, "T0", 0 },           /* bits 101 */
+    { EVENT_PEND, 0, 3, 0, 0, 0, 1, 0, "T0", 0 },           /* 011 is not all posted */
+    { EVENT_PEND, 0, 3, 4, 0, 0, 0, 4, "T0", 0 },           /* by the or-mask alone; 001 is left */
+    { EVENT_PEND, 0, 3, 0, 0, 0, 1, 0, "T0", 0 },
+    { EVENT_PEND, 0, 3, 1, 0, 0, 0, 1, "T0", 0 },
+    { EVENT_PEND, 0, 0, F, 0, 0, 1, 0, "T0", 0 },           /* none is left */
+    { EVENT_POST, 0, 7, 0, 0, 0, 0, 0, "T0", 0 },
+    { EVENT_PEND, 0, 3, 0, 0, 0, 0, 3, "T0", 0 },           /* 100 is left */
+    { EVENT_PEND, 0, 4, 4, 0, 0, 0, 4, "T0", 0 },
+    { EVENT_POST, 0, 0, 0, 0, 0, 0, 0, "T0", 0 },           /* mask 0 */
+    { EVENT_PEND, 0, 1, 0, F, 5, 0, 0, "T0", 0 },           /* task 0 would wait */
+    { EVENT_POST, 0, 1, 0, 0, 0, 0, 0, "T0", 0 },
+    { EVENT_PEND, 0, 1, 0, F, 0, 0, 1, "T0", 0 },           /* done at once */
+    { TASK_CREATE, 5, 0, 0, 0, 0, 0, 1, "T1", 0 },
+    { TASKS_OFF, 0, 0, 0, 0, 0, 0, 1, "T1", 0 },
+    { EVENT_PEND, 0, 1, 0, F, 9, 0, 0, "T1", 0 },
+    { EVENT_PEND, 0, 1, 0, 0, 0, 1, 0, "T1", 0 },
+    { EVENT_POST, 0, 1, 0, 0, 0, 0, 0, "T1", 0 },
+    { EVENT_PEND, 0, 1, 0, F, 0, 0, 1, "T1", 0 },
+    { TASKS_RESTORE, 1, 0, 0, 0, 0, 0, 0, "T1", 0 },
+    { SWIS_OFF, 0, 0, 0, 0, 0, 0, 1, "T1", 0 },
+    { EVENT_PEND, 0, 0, 1, 2, 9, 0, 0, "T1", 0 },
+    { EVENT_PEND, 0, 0, 0, 2, 4, 0, 0, "T1", 0 },           /* 4 before 9 */
+    { SWIS_RESTORE, 1, 0, 0, 0, 0, 0, 0, "T1", 0 },
+    { EVENT_PEND, 0, 3, 0, F, 0, 2, 0, "T0", 0 },           /* task 1 waits for 011 */
+    { TASK_CREATE, 4, 0, 0, 0, 0, 0, 2, "T2", 0 },
+    { EVENT_PEND, 0, 4, 4, F, 5, 0, 0, "T2", 0 },           /* a waiter there already */
+    { EVENT_PEND, 0, 4, 4, 0, 5, 0, 0, "T2", 0 },
+    { EVENT_PEND, 0, 0, 0, 0, 4, 0, 0, "T2", 0 },
+    { EVENT_DELETE, 0, 0, 0, 0, 5, 0, 0, "T2", 0 },
+    { EVENT_DELETE, 0, 1, 0, 0, 4, 0, 0, "T2", 0 },         /* 4 before 5 */
+    { EVENT_POST, 0, 5, 0, 0, 0, 0, 0, "T2", 0 },           /* 101 does not serve it */
+    { EVENT_PEND, 0, 4, 0, 0, 5, 0, 0, "T2", 0 },           /* 5 although bits would match */
+    { SWIS_OFF, 0, 0, 0, 0, 0, 0, 1, "T2", 0 },
+    { EVENT_PEND, 0, 8, 0, F, 5, 0, 0, "T2", 0 },           /* 5 before 9 */
+    { SWIS_RESTORE, 1, 0, 0, 0, 0, 0, 0, "T2", 0 },
+    { EVENT_POST, 0, 2, 0, 0, 0, 0, 1, "T1", 0 },           /* 111: matched 011, 100 is left */
+    { TASK_LAST_RESULT, 1, 0, 0, 0, 0, 0, 3, "T1", 0 },
+    { EVENT_PEND, 0, 4, 0, F, 0, 0, 4, "T1", 0 },
+    { TASK_LAST_RESULT, 1, 0, 0, 0, 0, 0, 3, "T1", 0 },     /* a call done at once stores nothing */
+    { EVENT_PEND, 1, 0, 2, 2, 0, 2, 0, "T2", 0 },           /* task 1 waits at event 1, limit 2 */
+    { EVENT_PEND, 0, 1, 8, 1, 0, 2, 0, "T0", 0 },           /* task 2 waits at event 0, limit 1 */
+    { INTERRUPT_IN, 0, 0, 0, 0, 0, 0, 0, "I", 0 },
+    { TICK, 0, 0, 0, 0, 0, 0, 0, "I", 0 },                  /* task 2 expires */
+    { EVENT_POST, 0, 9, 0, 0, 0, 0, 0, "I", 0 },            /* it is the waiter no more */
+    { EVENT_PEND, 0, 1, 8, 1, 2, 0, 0, "I", 0 },
+    { EVENT_PEND, 9, 0, 0, 1, 2, 0, 0, "I", 0 },            /* 2 before 3 and 4 */
+    { EVENT_PEND, 0, 1, 8, 0, 0, 0, 9, "I", 0 },            /* both masks */
+    { EVENT_PEND, 0, 1, 8, 0, 0, 1, 0, "I", 0 },
+    { EVENT_CREATE, 0, 0, 0, 0, 2, 0, 0, "I", 0 },
+    { EVENT_DELETE, 0, 0, 0, 0, 2, 0, 0, "I", 0 },
+    { EVENT_PEND, 1, 1, 0, 0, 5, 0, 0, "I", 0 },            /* task 1 waits there */
+    { EVENT_POST, 1, 6, 0, 0, 0, 0, 1, "I", 0 },            /* matched 010, 100 is left */
+    { INTERRUPT_OUT, 0, 0, 0, 0, 0, 0, 0, "T1", 0 },
+    { TASK_LAST_RESULT, 1, 0, 0, 0, 0, 0, 2, "T1", 0 },
+    { TASK_LAST_RESULT, 2, 0, 0, 0, 0, 1, 0, "T1", 0 },
+    { SWI_CREATE, 1, 0, 0, 0, 0, 0, 0, "T1", 0 },
+    { SWI_POST, 0, 0, 0, 0, 0, 0, 0, "S0", 0 },
+    { EVENT_PEND, 1, 4, 0, 5, 2, 0, 0, "S0", 0 },
+    { EVENT_PEND, 1, 4, 0, 0, 0, 0, 4, "S0", 0 },
+    { EVENT_PEND, 1, 4, 0, 0, 0, 1, 0, "S0", 0 },
+    { EVENT_POST, 1, 1, 0, 0, 0, 0, 0, "S0", 0 },
+    { EVENT_CREATE, 0, 0, 0, 0, 2, 0, 0, "S0", 0 },
+    { EVENT_DELETE, 1, 0, 0, 0, 2, 0, 0, "S0", 0 },
+    { SWI_END, 0, 0, 0, 0, 0, 0, 0, "T1", 0 },
+    { EVENT_DELETE, 8, 0, 0, 0, 3, 0, 0, "T1", 0 },
+    { EVENT_DELETE, 2, 0, 0, 0, 3, 0, 0, "T1", 0 },
+    { EVENT_DELETE, 1, 0, 0, 1, 4, 0, 0, "T1", 0 },
+    { EVENT_DELETE, 1, 0, 0, 0, 0, 0, 0, "T1", 0 },         /* posted bits forbid no delete */
+    { EVENT_DELETE, 1, 0, 0, 0, 3, 0, 0, "T1", 0 },
+    { EVENT_POST, 1, 1, 0, 0, 3, 0, 0, "T1", 0 },
+    { EVENT_PEND, 1, 1, 0, 0, 3, 0, 0, "T1", 0 },
+    { EVENT_CREATE, 0, 0, 0, 0, 0, 0, 1, "T1", 0 },
+    { EVENT_PEND, 1, 0, F, 0, 0, 1, 0, "T1", 0 },           /* without bits */
+    { EVENT_POST, 1, F, 0, 0, 0, 0, 0, "T1", 0 },
+    { EVENT_PEND, 1, F, 0, 0, 0, 0, F, "T1", 0 },
+    { EVENT_CREATE, 0, 0, 0, 0, 0, 0, 2, "T1", RISING + 6 }, /* 2 to 7 */
+    { EVENT_CREATE, 0, 0, 0, 0, 6, 0, 0, "T1", 0 },
+    { EVENT_CREATE, 0, 1, 0, 0, 4, 0, 0, "T1", 0 },
+};
+
+const struct named_table events_table = TABLE(events, 0x30);
+
+/* Mailbox 0 holds 2, mailbox 1 holds 8, mailbox 2 holds 1. */
+static const struct row mailboxes[] = {
+    { 0x44, 0, 0, 0, 0, 1, 0, 0, "T0", 0 },
+    { MAILBOX_CREATE, 0, 0, 0, 0, 4, 0, 0, "T0", 0 },
+    { MAILBOX_CREATE, 9, 0, 0, 0, 4, 0, 0, "T0", 0 },
+    { MAILBOX_CREATE, 1, 1, 0, 0, 4, 0, 0, "T0", 0 },
+    { MAILBOX_CREATE, 2, 0, 0, 0, 0, 0, 0, "T0", 0 },
+    { MAILBOX_CREATE, 8, 0, 0, 0, 0, 0, 1, "T0", 0 },
+    { MAILBOX_CREATE, 1, 0, 0, 0, 0, 0, 2, "T0", 0 },
+    { MAILBOX_POST, 8, 7, 0, 0, 3, 0, 0, "T0", 0 },
+    { MAILBOX_POST, 3, 7, 0, 1, 3, 0, 0, "T0", 0 },
+    { MAILBOX_POST, 0, 7, 0, 1, 4, 0, 0, "T0", 0 },
+    { MAILBOX_PEND, 8, 0, 0, 0, 3, 0, 0, "T0", 0 },
+    { MAILBOX_PEND, 3, 0, 1, 0, 3, 0, 0, "T0", 0 },
+    { MAILBOX_PEND, 0, 0, 1, 0, 4, 0, 0, "T0", 0 },
+    { MAILBOX_POST, 0, 100, 0, 0, 0, 0, 0, "T0", 0 },
+    { MAILBOX_POST, 0, 200, F, 0, 0, 0, 0, "T0", 0 },       /* room: done at once */
+    { MAILBOX_POST, 0, 300, 0, 0, 0, 1, 0, "T0", 0 },       /* full */
+    { MAILBOX_POST, 0, 300, 1, 0, 5, 0, 0, "T0", 0 },       /* task 0 would wait */
+    { MAILBOX_POST, 0, 300, 1, 1, 4, 0, 0, "T0", 0 },       /* 4 before 5 */
+    { MAILBOX_PEND, 2, F, 0, 0, 5, 0, 0, "T0", 0 },
+    { MAILBOX_PEND, 2, 0, 0, 0, 0, 1, 0, "T0", 0 },         /* empty */
+    { MAILBOX_DELETE, 0, 0, 0, 0, 5, 0, 0, "T0", 0 },       /* messages */
+    { MAILBOX_DELETE, 0, 1, 0, 0, 4, 0, 0, "T0", 0 },
+    { TASK_CREATE, 5, 0, 0, 0, 0, 0, 1, "T1", 0 },
+    { MAILBOX_POST, 0, 300, F, 0, 0, 2, 0, "T0", 0 },       /* writers 1 */
+    { TASK_CREATE, 6, 0, 0, 0, 0, 0, 2, "T2", 0 },
+    { MAILBOX_POST, 0, 400, 2, 0, 0, 2, 0, "T0", 0 },       /* 1 2 */
+    { TASK_CREATE, 7, 0, 0, 0, 0, 0, 3, "T3", 0 },
+    { MAILBOX_POST, 0, 500, 1, 0, 0, 2, 0, "T0", 0 },       /* 1 2 3: arrival order */
+    { MAILBOX_PEND, 0, 0, 0, 0, 0, 0, 100, "T1", 0 },       /* 300 joins: 200 300; writers 2 3 */
+    { TASK_LAST_RESULT, 1, 0, 0, 0, 0, 0, 0, "T1", 0 },
+    { INTERRUPT_IN, 0, 0, 0, 0, 0, 0, 0, "I", 0 },
+    { TICK, 0, 0, 0, 0, 0, 0, 0, "I", 0 },                  /* task 3 expires with its word */
+    { MAILBOX_PEND, 0, 0, 0, 0, 0, 0, 200, "I", 0 },        /* 300 400; no writers */
+    { MAILBOX_POST, 0, 9, 0, 0, 0, 1, 0, "I", 0 },
+    { MAILBOX_POST, 0, 9, 1, 0, 2, 0, 0, "I", 0 },
+    { MAILBOX_POST, 9, 9, 1, 0, 2, 0, 0, "I", 0 },          /* 2 before 3 */
+    { MAILBOX_PEND, 0, 1, 0, 0, 2, 0, 0, "I", 0 },
+    { MAILBOX_PEND, 9, F, 0, 0, 2, 0, 0, "I", 0 },
+    { MAILBOX_CREATE, 1, 0, 0, 0, 2, 0, 0, "I", 0 },
+    { MAILBOX_DELETE, 1, 0, 0, 0, 2, 0, 0, "I", 0 },
+    { INTERRUPT_OUT, 0, 0, 0, 0, 0, 0, 0, "T3", 0 },        /* 7: 3, 6: 2, 5: 1 */
+    { TASK_LAST_RESULT, 3, 0, 0, 0, 0, 1, 0, "T3", 0 },
+    { TASK_LAST_RESULT, 2, 0, 0, 0, 0, 0, 0, "T3", 0 },
+    { MAILBOX_PEND, 0, F, 0, 0, 0, 0, 300, "T3", 0 },
+    { MAILBOX_PEND, 0, 5, 0, 0, 0, 0, 400, "T3", 0 },
+    { MAILBOX_PEND, 0, F, 0, 0, 0, 2, 0, "T2", 0 },         /* readers 3 */
+    { MAILBOX_PEND, 0, 1, 0, 0, 0, 2, 0, "T1", 0 },         /* 3 2 */
+    { MAILBOX_PEND, 0, F, 0, 0, 0, 2, 0, "T0", 0 },         /* 3 2 1 */
+    { MAILBOX_DELETE, 0, 0, 0, 0, 5, 0, 0, "T0", 0 },       /* waiters */
+    { MAILBOX_PEND, 0, 0, 0, 0, 0, 1, 0, "T0", 0 },
+    { INTERRUPT_IN, 0, 0, 0, 0, 0, 0, 0, "I", 0 },
+    { TICK, 0, 0, 0, 0, 0, 0, 0, "I", 0 },                  /* task 2 expires: 3 1 */
+    { MAILBOX_POST, 0, 11, 0, 0, 0, 0, 0, "I", 0 },         /* to task 3 */
+    { MAILBOX_PEND, 0, 0, 0, 0, 0, 1, 0, "I", 0 },          /* not to the back as well */
+    { INTERRUPT_OUT, 0, 0, 0, 0, 0, 0, 0, "T3", 0 },
+    { TASK_LAST_RESULT, 3, 0, 0, 0, 0, 0, 11, "T3", 0 },
+    { TASK_LAST_RESULT, 2, 0, 0, 0, 0, 1, 0, "T3", 0 },
+    { MAILBOX_POST, 0, 22, 0, 0, 0, 0, 0, "T3", 0 },        /* to task 1 */
+    { TASK_LAST_RESULT, 1, 0, 0, 0, 0, 0, 22, "T3", 0 },
+    { MAILBOX_POST, 0, 33, 0, 0, 0, 0, 0, "T3", 0 },        /* to the back */
+    { MAILBOX_PEND, 0, 0, 0, 0, 0, 0, 33, "T3", 0 },
+    { TASKS_OFF, 0, 0, 0, 0, 0, 0, 1, "T3", 0 },
+    { MAILBOX_PEND, 0, F, 0, 0, 9, 0, 0, "T3", 0 },
+    { MAILBOX_PEND, 0, F, 1, 0, 4, 0, 0, "T3", 0 },         /* 4 before 9 */
+    { MAILBOX_PEND, 0, 0, 0, 0, 0, 1, 0, "T3", 0 },
+    { MAILBOX_POST, 2, 1, 3, 0, 0, 0, 0, "T3", 0 },
+    { MAILBOX_POST, 2, 2, 3, 0, 9, 0, 0, "T3", 0 },         /* full: capacity 1 */
+    { MAILBOX_POST, 2, 2, 0, 0, 0, 1, 0, "T3", 0 },
+    { TASKS_RESTORE, 1, 0, 0, 0, 0, 0, 0, "T3", 0 },
+    { SWIS_OFF, 0, 0, 0, 0, 0, 0, 1, "T3", 0 },
+    { MAILBOX_PEND, 0, 3, 0, 0, 9, 0, 0, "T3", 0 },
+    { MAILBOX_POST, 2, 2, F, 0, 9, 0, 0, "T3", 0 },
+    { SWIS_RESTORE, 1, 0, 0, 0, 0, 0, 0, "T3", 0 },
+    { SWI_CREATE, 0, 0, 0, 0, 0, 0, 0, "T3", 0 },
+    { SWI_POST, 0, 0, 0, 0, 0, 0, 0, "S0", 0 },
+    { MAILBOX_PEND, 2, 1, 0, 0, 2, 0, 0, "S0", 0 },
+    { MAILBOX_PEND, 2, 0, 0, 0, 0, 0, 1, "S0", 0 },
+    { MAILBOX_POST, 2, 5, 1, 0, 2, 0, 0, "S0", 0 },
+    { MAILBOX_POST, 2, 5, 0, 0, 0, 0, 0, "S0", 0 },
+    { MAILBOX_POST, 2, 6, 0, 0, 0, 1, 0, "S0", 0 },
+    { MAILBOX_CREATE, 1, 0, 0, 0, 2, 0, 0, "S0", 0 },
+    { MAILBOX_DELETE, 1, 0, 0, 0, 2, 0, 0, "S0", 0 },
+    { SWI_END, 0, 0, 0, 0, 0, 0, 0, "T3", 0 },
+    { MAILBOX_POST, 1, 31, 0, 0, 0, 0, 0, "T3", 0 },
+    { MAILBOX_POST, 1, 32, 0, 0, 0, 0, 0, "T3", 0 },
+    { MAILBOX_POST, 1, 33, 0, 0, 0, 0, 0, "T3", 0 },
+    { MAILBOX_POST, 1, 34, 0, 0, 0, 0, 0, "T3", 0 },
+    { MAILBOX_POST, 1, 35, 0, 0, 0, 0, 0, "T3", 0 },
+    { MAILBOX_POST, 1, 36, 0, 0, 0, 0, 0, "T3", 0 },
+    { MAILBOX_POST, 1, 37, 0, 0, 0, 0, 0, "T3", 0 },
+    { MAILBOX_POST, 1, 38, 0, 0, 0, 0, 0, "T3", 0 },
+    { MAILBOX_POST, 1, 39, 0, 0, 0, 1, 0, "T3", 0 },        /* eight are there */
+    { MAILBOX_PEND, 1, 0, 0, 0, 0, 0, 31, "T3", 0 },
+    { MAILBOX_POST, 1, 39, 0, 0, 0, 0, 0, "T3", 0 },
+    { MAILBOX_PEND, 1, 0, 0, 0, 0, 0, 32, "T3", RISING + 8 }, /* 32 to 39, the oldest first */
+    { MAILBOX_PEND, 1, 0, 0, 0, 0, 1, 0, "T3", 0 },
+    { MAILBOX_POST, 1, F, 0, 0, 0, 0, 0, "T3", 0 },
+    { MAILBOX_POST, 1, 0, 0, 0, 0, 0, 0, "T3", 0 },
+    { MAILBOX_PEND, 1, 0, 0, 0, 0, 0, F, "T3", 0 },
+    { MAILBOX_PEND, 1, 0, 0, 0, 0, 0, 0, "T3", 0 },         /* the word 0 */
+    { MAILBOX_DELETE, 8, 0, 0, 0, 3, 0, 0, "T3", 0 },
+    { MAILBOX_DELETE, 3, 0, 0, 0, 3, 0, 0, "T3", 0 },
+    { MAILBOX_DELETE, 1, 1, 0, 0, 4, 0, 0, "T3", 0 },
+    { MAILBOX_DELETE, 1, 0, 0, 0, 0, 0, 0, "T3", 0 },
+    { MAILBOX_DELETE, 1, 0, 0, 0, 3, 0, 0, "T3", 0 },
+    { MAILBOX_POST, 1, 1, 0, 0, 3, 0, 0, "T3", 0 },
+    { MAILBOX_PEND, 1, 0, 0, 0, 3, 0, 0, "T3", 0 },
+    { MAILBOX_CREATE, 1, 0, 0, 0, 0, 0, 1, "T3", 0 },
+    { MAILBOX_CREATE, 1, 0, 0, 0, 0, 0, 3, "T3", RISING + 5 }, /* 3 to 7 */
+    { MAILBOX_CREATE, 1, 0, 0, 0, 6, 0, 0, "T3", 0 },
+    { MAILBOX_CREATE, 9, 0, 0, 0, 4, 0, 0, "T3", 0 },       /* 4 before 6 */
+};
+
+const struct named_table mailboxes_table = TABLE(mailboxes, 0x40);

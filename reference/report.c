@@ -1,0 +1,94 @@
+/* Prints what a run of calls reached, and what it did not. */
+#include "coverage.h"
+#include "states.h"
+
+#include <string.h>
+
+static int can_have_outcome(uint32_t number, unsigned outcome)
+{
+    switch (number) {
+    case TASK_SLEEP:
+        return outcome == NOW_WAITING;
+    case TASK_LAST_RESULT:
+        return outcome == NOT_MET;
+    case SEMAPHORE_PEND:
+    case EVENT_PEND:
+    case MAILBOX_POST:
+    case MAILBOX_PEND:
+        return 1;
+    default:
+        return 0;
+    }
+}
+
+unsigned coverage_print(FILE *file)
+{
+    unsigned long unknown = 0, stray = 0;
+    unsigned missing = 0, pairs = 0;
+
+    fprintf(file, "%lu calls\n\n", coverage.calls);
+    fprintf(file, "%-28s%9s", "call", "accepted");
+    for (unsigned code = 1; code < 10; code++)
+        fprintf(file, "   code %u", code);
+    fprintf(file, "  outcome 1 outcome 2\n");
+    for (unsigned i = 0; i < CALLS; i++) {
+        const struct call_form *form = &call_forms[i];
+
+        fprintf(file, "%02lX %-25s", (unsigned long)form->number, form->name);
+        for (unsigned code = 0; code < 10; code++) {
+            unsigned long count = coverage.pair[form->number][code];
+
+            if (strchr(form->codes, (int)('0' + code)) == NULL) {
+                stray += count;
+                fprintf(file, "%9s", count == 0 ? "-" : "NOT ITS");
+                continue;
+            }
+            pairs++;
+            missing += count == 0;
+            if (count == 0)
+                fprintf(file, "%9s", "NEVER");
+            else
+                fprintf(file, "%9lu", count);
+        }
+        for (unsigned outcome = 1; outcome < 3; outcome++) {
+            unsigned long count = coverage.outcome[form->number][outcome];
+
+            missing += count == 0 && can_have_outcome(form->number, outcome);
+            if (can_have_outcome(form->number, outcome) || count != 0)
+                fprintf(file, "%10lu", count);
+            else
+                fprintf(file, "%10s", "-");
+        }
+        fputc('\n', file);
+    }
+    for (unsigned number = 0; number < 256; number++)
+        if (form_of(number) == NULL) {
+            unknown += coverage.pair[number][UNKNOWN_CALL];
+            for (unsigned code = 0; code < 10; code++)
+                if (code != UNKNOWN_CALL)
+                    stray += coverage.pair[number][code];
+        }
+    pairs++;
+    missing += unknown == 0;
+    fprintf(file, "%-28s%9s%9lu\n\n", "unknown call numbers", "-", unknown);
+    fprintf(file, "greatest number at a time (of the greatest possible)\n");
+    for (unsigned i = 0; i < MOSTS; i++)
+        fprintf(file, "%10lu of %3lu  %s\n", (unsigned long)coverage.most[i], (unsigned long)mosts[i].limit, mosts[i].name);
+    fprintf(file, "\nhow often\n");
+    for (unsigned i = 0; i < HAPPENED; i++)
+        fprintf(file, "%10lu  %s\n", coverage.count[i], happened[i]);
+    fputc('\n', file);
+    for (unsigned i = 0; i < HAPPENED; i++)
+        if (coverage.count[i] == 0) {
+            missing++;
+            fprintf(file, "never: %s\n", happened[i]);
+        }
+    for (unsigned i = 0; i < CALLS; i++)
+        for (const char *code = call_forms[i].codes; *code != '\0'; code++)
+            if (coverage.pair[call_forms[i].number][*code - '0'] == 0)
+                fprintf(file, "never: call %02lX (%s) with code %c\n", (unsigned long)call_forms[i].number, call_forms[i].name, *code);
+    if (stray != 0)
+        fprintf(file, "%lu answers with a code that the call cannot give\n", stray);
+    fprintf(file, "%u pairs of call and code and %u deep states, %u of them never reached\n", pairs, (unsigned)HAPPENED, missing);
+    return missing + (stray != 0);
+}

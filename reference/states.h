@@ -1,0 +1,117 @@
+/* The deep states, and the counts of a run. */
+#ifndef STATES_H
+#define STATES_H
+
+#include <stdint.h>
+
+/* Greatest numbers at any one time. */
+enum most {
+    ARRIVAL_LINE,
+    PRIORITY_LINE,
+    WRITER_LINE,
+    READER_LINE,
+    EVENT_WAITERS,
+    SLEEPERS,
+    LIMITED_WAITS,
+    READY_IN_ONE_QUEUE,
+    DEPTH,
+    ACTIVE_SWIS,
+    POSTED_SWIS,
+    POSTED_IN_ONE_QUEUE,
+    RUNNING_CLOCKS,
+    MOST_TASKS,
+    MOST_SWIS,
+    MOST_SEMAPHORES,
+    MOST_EVENTS,
+    MOST_MAILBOXES,
+    MOST_CLOCKS,
+    MOST_MESSAGES,
+    UNITS_TAKEN,
+    FREE_RUNS,
+    WAITS_ENDED_BY_ONE_TICK,
+    SWIS_POSTED_BY_ONE_TICK,
+    MOSTS
+};
+
+struct greatest {
+    const char *name;
+    uint32_t limit; /* the greatest that there can be */
+};
+
+extern const struct greatest mosts[MOSTS];
+
+/* Things that happened. */
+enum happened {
+    EXPIRED_SEMAPHORE,
+    EXPIRED_EVENT,
+    EXPIRED_READER,
+    EXPIRED_WRITER,
+    SLEEP_ENDED,
+    EXPIRED_INSIDE_LINE,
+    JOINED_INSIDE_LINE,
+    JOINED_DISORDERED_LINE,
+    WAITER_PRIORITY_SET,
+    READY_PRIORITY_SET,
+    CURRENT_PRIORITY_SET_BY_SWI,
+    CURRENT_LOWERED_ITSELF_AWAY,
+    MADE_INACTIVE,
+    MADE_READY_AGAIN,
+    SAME_PRIORITY,
+    PREEMPTED,
+    YIELDED_TO_EQUAL,
+    IDLE_YIELD,
+    SEMAPHORE_SERVED,
+    BINARY_AT_ONE,
+    COUNT_TO_MOST,
+    EVENT_SERVED_WHOLE_AND,
+    EVENT_SERVED_OR_ONLY,
+    EVENT_SERVED_BOTH,
+    EVENT_NOT_SERVED,
+    EVENT_AT_ONCE,
+    EVENT_BITS_LEFT,
+    WRITER_SERVED,
+    READER_SERVED,
+    ROUND_UP,
+    ROUND_DOWN,
+    CLEARED_AT_ZERO,
+    TAKEN_TO_ZERO,
+    POSTED_WHILE_ACTIVE,
+    POSTED_AGAIN,
+    SWI_PREEMPTED,
+    EQUAL_SWI_WAITED,
+    SWI_AFTER_SWI,
+    SWI_AFTER_INTERRUPT,
+    SWI_AFTER_RESTORE,
+    SWI_WHILE_TASKS_OFF,
+    TASK_AFTER_RESTORE,
+    TASK_AFTER_SWIS_RESTORE,
+    CURRENT_NOT_IN_FRONT,
+    BOTH_OFF,
+    FIVE_BEFORE_NINE,
+    CLOCK_STOPPED_ITSELF,
+    CLOCK_WENT_ROUND,
+    CLOCK_RESTARTED,
+    RUNNING_CLOCK_DELETED,
+    ROOM_BUT_NO_RUN,
+    HOLE_CLOSED,
+    HOLE_USED,
+    RESULT_NOT_MET,
+    RESULT_VALUE,
+    TAKEN_NOT_INITIAL,
+    HAPPENED
+};
+
+extern const char *const happened[HAPPENED]; /* in words */
+
+struct counts {
+    unsigned long calls;
+    unsigned long pair[256][10];       /* of call and code */
+    unsigned long outcome[256][3];     /* of accepted calls */
+    uint32_t most[MOSTS];
+    unsigned long count[HAPPENED];
+};
+
+/* Of all calls noted so far; coverage.c adds to them and report.c prints them. */
+extern struct counts coverage;
+
+#endif
