@@ -1,4 +1,4 @@
--- What the tests come to, and what the calls one after the other leave.
+-- What the test of a capacity comes to, and a number that no call on mailboxes has.
 use Prim.Native.Nat.{ℕ}
 use mathlib.Core.Path.{_≡_}
 use mathlib.Core.Logic.{_≢_}

@@ -16,7 +16,7 @@ use Rattle.parts.specs.Part.{kept, lastText}
 use Rattle.kernel.specs.declared.Call.{Call}
 use Rattle.reads.specs.declared.Ran.{Ran}
 
--- where records stopped
+-- where the replay of a part is: the place of the next read, how many records there were, how long the text is, and whether it has ended
 abbrev pub ranTo : ℕ → ℕ → ℕ → Bool → Ran
 ranTo at count len ended = record { at = at; count = count; len = len; ended = ended }
 

@@ -50,7 +50,7 @@ fn put_said(out: &mut Text, at: usize, n: u64, said: Said) -> usize
     text::put_line(out, at, n, answer, thread)
 }
 
-// Where the records of a part stopped.
+// Where the replay of a part is: the place of the next read, how many records there were, how long the text is, and whether it has ended.
 pub struct Ran {
     pub at: usize,
     pub count: u64,

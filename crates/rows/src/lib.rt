@@ -1,5 +1,5 @@
-// Lines of lent tables, read and changed in place, what the words of a row say, and answers. Every function is total: what is not there reads 0, and writing it
-// changes nothing.
+// Lines of lent tables, read and changed in place, what the words of a row say, and answers. Every function is total: what is not there
+// reads 0, and writing it changes nothing.
 pub mod answers;
 pub mod lines;
 pub mod readings;

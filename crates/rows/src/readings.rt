@@ -1,5 +1,5 @@
 // What the words of a row say: a task's line, the top active Swi, a semaphore's most, an event's
-// match, a heap unit's entry.
+// match, a heap unit's entry; and one less of a word.
 use rules::Heap;
 use rules::Lines;
 use rules::Task;

@@ -1,4 +1,5 @@
-// The calls of the running task on itself: 03 yield, 04 end and 05 sleep, in the same form.
+// The calls of the running task on itself: 03 yield, 04 end and 05 sleep. Of each: its code, 0 where it is accepted; its
+// effect where it is; and the call.
 use rules::Answer;
 use rules::Lines;
 use rules::State;

@@ -1,4 +1,4 @@
--- What the steps of a call, one after the other, leave of the tasks, the lines and the semaphores.
+-- A semaphore's row, stored word by word, and a number that no call on semaphores has.
 use Prim.Native.Nat.{ℕ, suc, _+_, _*_, _≤_, _<_}
 use mathlib.Core.Path.{_≡_, sym}
 use mathlib.Core.Logic.{_≢_}

@@ -1,4 +1,4 @@
--- What the steps of a call, one after the other, leave of the Swis and their lines.
+-- A Swi's row, stored word by word, the searches for a Swi, and a number that no call on Swis has.
 use Prim.Native.Nat.{ℕ, suc, _+_, _*_, _≤_, _<_}
 use mathlib.Core.Path.{_≡_, sym, ap, _∙_}
 use mathlib.Core.Logic.{_≢_}
