@@ -1,5 +1,4 @@
--- Demand 2: "From sound tables each call leaves sound tables and has exactly the effect in document 01, .., and the running thread is the one
--- its dispatch rule names." That "log records are read by exactly its layout" is in `Log`.
+-- Demand 2 holds of every call on sound tables: each group of rules is kept (`keeps`), and dispatch has nothing left to do on what is sound.
 use Prim.{tt}
 use mathlib.Core.Path.{_≡_, refl, sym, ap, subst, _∙_}
 use mathlib.Core.Logic.{_≢_}
@@ -9,8 +8,8 @@ use native.Mathlib.Omega.{arith}
 use Rattle.fold.specs.Lists.{count}
 use Rattle.rules.specs.Tables.{Typed}
 use Rattle.rules.specs.Fresh.{fresh}
-use Rattle.rules.specs.Dispatch.{running, dispatched, dispatchedOf}
-use Rattle.rules.specs.Sound.{Sound, sound}
+use Rattle.rules.specs.Dispatch.{running}
+use Rattle.rules.specs.Sound.{Sound}
 use Rattle.rules.specs.Step.{step, finished}
 use Rattle.rules.proofs.Agree.{sound-means, means-sound}
 use Rattle.rules.proofs.Faster.{fresh-sound}
@@ -21,18 +20,7 @@ use Rattle.refusals.proofs.Demand.{exactly-in}
 use Rattle.refusals.specs.Refusals.{refusal}
 use Rattle.keeps.proofs.Nothing.{nothing-left}
 use Rattle.turns.proofs.Made.{is-step, next-typed, next-sound}
-
-pub record Kept (t : Tables) (q : Asked) : Type 0 where
-  -- what the call does is the definition's step: the test of soundness may be skipped, and code 10 never comes
-  pub effect : made t q ≡ step t (q .number) (q .a) (q .b) (q .c) (q .d)
-  pub tested : made t q .answer .code ≢ 10
-  -- the next tables are sound, all rules of them
-  pub typed : Typed (next t q)
-  pub sound : Sound (next t q)
-  -- the running thread is the one that the dispatch rule names on them, and dispatch has nothing left to do
-  pub thread : made t q .thread ≡ running (next t q .lines) (next t q .state)
-  pub settled : dispatched (next t q .swis) (next t q .lines) (next t q .state)
-      ≡ dispatchedOf (next t q .swis) (next t q .lines) (next t q .state)
+use Rattle.demands.specs.Two.{Kept}
 
 step-thread : (t : Tables) (q : Asked)
     → step t (q .number) (q .a) (q .b) (q .c) (q .d) .thread
@@ -46,7 +34,7 @@ module _ (t : Tables) (typed : Typed t) (s : Sound t) (q : Asked) (w : Words q) 
   unfolding count refusal
   not-10 e = false≢true (sym (ap not (means-sound t s)) ∙ exactly-in t q 10 (omega arith) .0 e .0)
 
-  pub demand-2 : Kept t q
+  pub demand-2 : Kept t q (made t q)
   demand-2 =
       record {
         effect = is-step t s q;
@@ -67,7 +55,7 @@ pub fresh-is-sound : Sound fresh
 fresh-is-sound = sound-means fresh fresh-sound
 
 -- ---- along any sequence of calls from sound tables: each call keeps them so
-pub along : (t : Tables) → Typed t → Sound t → (qs : List Asked) → AllWords t qs → Each (λ u q. Sound u × Kept u q) t qs
+pub along : (t : Tables) → Typed t → Sound t → (qs : List Asked) → AllWords t qs → Each (λ u q. Sound u × Kept u q (made u q)) t qs
 unfolding Each
 along t typed s [] w = tt
 along t typed s (q ∷ qs) w =

@@ -16,9 +16,9 @@ use Rattle.rules.specs.Dispatch.{started, swiDue, activeLevel, highestPosted, s
 pub started-is : (ws ls : List ℕ) (i j : ℕ) {n v u : ℕ} {ws₁ ws₂ ws₃ ls₁ ls₂ : List ℕ}
     → n ≡ i → v ≡ swi ws n 3 → u ≡ swi ws n 2 → ws₁ ≡ withSwi ws n 5 v → ws₂ ≡ withSwi ws₁ n 3 u → ws₃ ≡ withSwi ws₂ n 4 0
     → ls₁ ≡ left j i ls → ls₂ ≡ joined activeLine i ls₁
-    → (p : ℕ) → j ≡ postedLine p → posts ws₃ ls₂ ≡ started i p (posts ws ls)
+    → posts ws₃ ls₂ ≡ started i j (posts ws ls)
 unfolding started
-started-is ws ls i j a b c d e f g h p q = rw (h, g, f, e, d, c, b, a, q)
+started-is ws ls i j a b c d e f g h = rw (h, g, f, e, d, c, b, a)
 
 -- whether one is due
 module _ (ws ls st : List ℕ) where
@@ -37,13 +37,11 @@ module _ (ws ls st : List ℕ) where
 -- one is due, and starts; or none is
 module _ (ws ls st : List ℕ) {t : Bool} (is : t ≡ swiDue ws ls st) where
   pub swi-starts : t ≡ true → {h k j i : ℕ} {x : Posts} → h ≡ highestPosted ls → k ≡ h - 1 → j ≡ 32 + k → i ≡ first ls j
-      → ((p : ℕ) → j ≡ postedLine p → x ≡ started i p (posts ws ls))
-      → x ≡ swiDispatched st (posts ws ls)
+      → x ≡ started i j (posts ws ls) → x ≡ swiDispatched st (posts ws ls)
   unfolding swiDispatched
   swi-starts w a b c d e =
-      let f = b ∙ ap (λ n. n - 1) a in
-      let g = c ∙ ap (λ n. 32 + n) f in
-      e (highestPosted ls - 1) g ∙ rw (d, g, sym is ∙ w)
+      let line-is = c ∙ ap postedLine (b ∙ ap (λ n. n - 1) a) in
+      e ∙ rw (d, line-is, sym is ∙ w)
 
   pub no-swi : t ≡ false → posts ws ls ≡ swiDispatched st (posts ws ls)
   unfolding swiDispatched

@@ -4,8 +4,6 @@ use rules::State;
 use rules::Swis;
 use rules::Thread;
 ghost use mathlib.Core.Path.{_≡_};
-ghost use Prim.Native.Nat.{ℕ};
-ghost use Rattle.rules.specs.Lines.{postedLine};
 ghost use Rattle.rules.specs.Swis.{posts};
 ghost use Rattle.rules.specs.Dispatch.{context, running, started, swiDispatched, taskDispatched};
 
@@ -44,9 +42,8 @@ pub fn running(lines: &Lines, state: &State) -> Thread
 
 // Swi i, posted in line j, starts: its trigger is kept as taken and set back to its initial value.
 pub fn start(swis: &mut Swis, lines: &mut Lines, i: u8, j: usize)
-    ensures { λ _. ⌜ ((p : ℕ) → j ≡ postedLine p
-        → posts (now (swis .exit)) (now (lines .exit))
-        ≡ started i p (posts (now (swis .entry)) (now (lines .entry)))) ⌝ }
+    ensures { λ _. ⌜ posts (now (swis .exit)) (now (lines .exit))
+        ≡ started i j (posts (now (swis .entry)) (now (lines .entry))) ⌝ }
 {
     let n = fold::wide(i);
     let trigger = words::swi(swis, n, 3);

@@ -21,7 +21,7 @@ use Rattle.rules.proofs.Standing.{linesWith, _has_}
 use Rattle.runs.specs.Run.{Asked, made, next, after}
 use Rattle.runs.specs.Turn.{BlockedOn, isPost}
 use Rattle.demands.proofs.Two.{fresh-typed, fresh-is-sound}
-use Rattle.demands.proofs.Three.{pend, Waits, Turn}
+use Rattle.demands.specs.Three.{pend, Waits, Turn}
 use Rattle.examples.proofs.BySteps.{asks, pass, inWords, Leads, leads, anything, blocked}
 
 abbrev pub setup : List Line

@@ -20,7 +20,8 @@ use Rattle.rules.proofs.Faster.{quickly}
 use Rattle.rules.proofs.Standing.{linesWith}
 use Rattle.runs.specs.Run.{asked, made, next, after, Each}
 use Rattle.runs.specs.Turn.{BlockedOn, ServedIn, ReadyAt, queue, Undisturbed, Gone, Unhindered}
-use Rattle.demands.proofs.Three.{pend, Turn, Queues, demand-3}
+use Rattle.demands.specs.Three.{pend, Turn, Queues}
+use Rattle.demands.proofs.Three.{demand-3}
 use Rattle.examples.proofs.BySteps.{asks, stays-blocked, stays-undisturbed, gone-at-last}
 use Rattle.examples.proofs.Story.{flood, tablesOf, start, begun, flooded, moment, ending, to-start, to-begun, to-flooded, to-moment, to-ending}
 use Rattle.examples.proofs.Story.{whole, run, later}

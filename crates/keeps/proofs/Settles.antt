@@ -74,7 +74,7 @@ module _ (t : Tables) (a : Almost t) where
     above h = omega (arith, due-above, level-some (t .swis) (t .lines) h)
 
     after : Posts
-    after = started i p (posts (t .swis) (t .lines))
+    after = started i (postedLine p) (posts (t .swis) (t .lines))
 
     -- no queue above its priority has a member
     level-after : activeLevel (after .swis) (after .lines) ≡ suc p
@@ -109,7 +109,7 @@ module _ (t : Tables) (a : Almost t) where
         rw (le-ltb (activeLevel (after .swis) (after .lines)) (highestPosted (after .lines)) (omega (arith, level-after, highest-after)))
         (and-false (eqb (state (t .state) DEPTH) 0 && not (eqb (state (t .state) SWIS) 0)))
 
-    started-settled : SwisSettled t (started (next (t .lines)) (level (t .lines)) (posts (t .swis) (t .lines)))
+    started-settled : SwisSettled t (started (next (t .lines)) (postedLine (level (t .lines))) (posts (t .swis) (t .lines)))
     unfolding after i p
     started-settled = record { almost = started-almost t a i p low home above; quiet = quiet-after }
 

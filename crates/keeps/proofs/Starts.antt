@@ -174,27 +174,27 @@ module _ (t : Tables) (a : Almost t) (i p : ℕ) (low : p < 16) (home : swiHome 
           active = active-rule;
         }
 
-    pub started-almost : Almost (withPosts t (started i p (posts (t .swis) (t .lines))))
+    pub started-almost : Almost (withPosts t (started i (postedLine p) (posts (t .swis) (t .lines))))
     unfolding started one two ws ks ls
     started-almost = swi-almost t a i (posts ws ls) changed
 
   -- ---- it is the top active one, at its priority; the posted ones at other priorities stay
-  pub started-active : line (started i p (posts (t .swis) (t .lines)) .lines) activeLine ≡ line (t .lines) activeLine ++ (i ∷ [])
+  pub started-active : line (started i (postedLine p) (posts (t .swis) (t .lines)) .lines) activeLine ≡ line (t .lines) activeLine ++ (i ∷ [])
   unfolding started ks ls
   started-active = active
 
-  pub started-top : top (started i p (posts (t .swis) (t .lines)) .lines) ≡ i
+  pub started-top : top (started i (postedLine p) (posts (t .swis) (t .lines)) .lines) ≡ i
   unfolding top
   started-top =
       let xs : List ℕ = line (t .lines) activeLine in
       let n = length-snoc xs i in
       rw (started-active, getD-at xs i [] 0 (length (xs ++ (i ∷ [])) - 1) (omega arith))
 
-  pub started-priority : swi (started i p (posts (t .swis) (t .lines)) .swis) i PRIORITY ≡ p
+  pub started-priority : swi (started i (postedLine p) (posts (t .swis) (t .lines)) .swis) i PRIORITY ≡ p
   unfolding started one two ws
   started-priority = priority-stays i ∙ is-posted .1
 
   pub started-stays : (q : ℕ) → q < 16 → q ≢ p
-      → line (started i p (posts (t .swis) (t .lines)) .lines) (postedLine q) ≡ line (t .lines) (postedLine q)
+      → line (started i (postedLine p) (posts (t .swis) (t .lines)) .lines) (postedLine q) ≡ line (t .lines) (postedLine q)
   unfolding started ks ls
   started-stays = stays

@@ -31,17 +31,21 @@ activeLevel ws ls = if (anyone ls activeLine) (suc (swi ws (top ls) PRIORITY)) 0
 unfoldable pub swiDue : List ℕ → List ℕ → List ℕ → Bool
 swiDue ws ls st = eqb (state st DEPTH) 0 && not (eqb (state st SWIS) 0) && ltb (activeLevel ws ls) (highestPosted ls)
 
--- "its trigger is kept as taken and set back to its initial value"; it leaves its queue and is the top active one
+-- "its trigger is kept as taken and set back to its initial value"; it leaves the line j in which it is posted and is the top active one
 unfoldable pub started : ℕ → ℕ → Posts → Posts
-started i p x =
+started i j x =
     posts
     (withSwi (withSwi (withSwi (x .swis) i TAKEN (swi (x .swis) i TRIGGER)) i TRIGGER (swi (x .swis) i INITIAL)) i POSTED 0)
-    (joined activeLine i (left (postedLine p) i (x .lines)))
+    (joined activeLine i (left j i (x .lines)))
+
+-- the line of the highest posted Swi
+abbrev pub nextLine : List ℕ → ℕ
+nextLine ls = postedLine (highestPosted ls - 1)
 
 unfoldable pub swiDispatched : List ℕ → Posts → Posts
 swiDispatched st x =
     if (swiDue (x .swis) (x .lines) st)
-    (started (first (x .lines) (postedLine (highestPosted (x .lines) - 1))) (highestPosted (x .lines) - 1) x)
+    (started (first (x .lines) (nextLine (x .lines))) (nextLine (x .lines)) x)
     x
 
 -- ---- tasks: "Then, at depth 0 with no Swi active and both switches on, the current task becomes the front of the highest non-empty ready queue."

@@ -1,7 +1,7 @@
 -- 01, 'The call log': what stands at a position of a log, and a record's arguments.
 use Prim.Native.Nat.{ℕ, _+_, _-_, _*_}
 use mathlib.Core.Bool.{cond as if}
-use mathlib.Core.List.{List}
+use mathlib.Core.List.{List, []}
 use lib.ListN.{length, getD, take, drop}
 use lib.Dec.{ltb, eqb}
 use Rattle.rules.specs.declared.Read.{Read}
@@ -30,6 +30,10 @@ readAt s at =
 -- "it hands out each record's sixteen argument bytes as that part of the log"
 unfoldable pub argumentBytes : List ℕ → ℕ → List ℕ
 argumentBytes s start = take 16 (drop start s)
+
+-- what the reader hands out from `start` on: the sixteen bytes, or an empty part where they are not there
+unfoldable pub handedOut : List ℕ → ℕ → List ℕ
+handedOut s start = if (ltb (length s) (start + 16)) [] (argumentBytes s start)
 
 -- argument n of the four
 abbrev pub argument : List ℕ → ℕ → ℕ

@@ -37,7 +37,7 @@ ended-aside ls x =
 
 -- dispatch: a posted Swi starts
 module _ (ws ls st : List ℕ) where
-  started-aside : (p x : ℕ) → p < 16 → Aside ls (started x p (posts ws ls) .lines)
+  started-aside : (p x : ℕ) → p < 16 → Aside ls (started x (postedLine p) (posts ws ls) .lines)
   unfolding started
   started-aside p x l =
       record {

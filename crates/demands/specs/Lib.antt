@@ -1,0 +1,4 @@
+pub mod One
+pub mod Two
+pub mod Log
+pub mod Three
