@@ -37,6 +37,8 @@ module _ (t : Tables) (typed : Typed t) (s : Sound t) (q : Asked) (w : Words q) 
   pub demand-2 : Kept t q (made t q)
   demand-2 =
       record {
+        typedBefore = typed;
+        words = w;
         effect = is-step t s q;
         tested = not-10;
         typed = next-typed t typed s q w;

@@ -2,3 +2,5 @@ pub mod One
 pub mod Two
 pub mod Log
 pub mod Three
+pub mod Promised
+pub mod Sequence

@@ -11,9 +11,14 @@ use Rattle.rules.specs.Sound.{sound}
 use Rattle.rules.specs.Step.{stepOf}
 use Rattle.rules.specs.declared.Tables.{Tables}
 use Rattle.rules.specs.declared.Step.{Step}
+use Rattle.rules.specs.declared.Thread.{Thread}
 use Rattle.rules.specs.declared.Thread.the-variants.{Task}
 use Rattle.runs.specs.Run.{Asked}
 use Rattle.refusals.specs.Refusals.{refusal, None}
+
+-- the running thread of any tables: "with code 10 the thread given is T0"
+abbrev pub threadOf : Tables → Thread
+threadOf t = if (sound t) (running (t .lines) (t .state)) (Task 0)
 
 -- `refusal t q k` is the row of code k in 01's table (refusals/specs); `None ks (refusal t q)` says that no row of these codes holds
 pub record Answered (t : Tables) (q : Asked) (s : Step) : Type 0 where
@@ -24,4 +29,4 @@ pub record Answered (t : Tables) (q : Asked) (s : Step) : Type 0 where
   pub accepted : (s .answer .code ≡ 0) ↔ None order (refusal t q)
   -- "A refusal has outcome 0, value 0 and no change; with code 10 the thread given is T0."
   pub refused : s .answer .code ≢ 0
-      → s ≡ stepOf t (answer (s .answer .code) 0 0) (if (sound t) (running (t .lines) (t .state)) (Task 0))
+      → s ≡ stepOf t (answer (s .answer .code) 0 0) (threadOf t)

@@ -8,10 +8,13 @@ use Rattle.rules.specs.Sound.{Sound}
 use Rattle.rules.specs.Step.{step}
 use Rattle.rules.specs.declared.Tables.{Tables}
 use Rattle.rules.specs.declared.Step.{Step}
-use Rattle.runs.specs.Run.{Asked}
+use Rattle.runs.specs.Run.{Asked, Words}
 
 -- the call q on sound tables t left s
 pub record Kept (t : Tables) (q : Asked) (s : Step) : Type 0 where
+  -- what the types say: the arrays' lengths, and that arguments are words
+  pub typedBefore : Typed t
+  pub words : Words q
   -- what the call does is the definition's step: the test of soundness may be skipped, and code 10 never comes
   pub effect : s ≡ step t (q .number) (q .a) (q .b) (q .c) (q .d)
   pub tested : s .answer .code ≢ 10

@@ -1,0 +1,14 @@
+-- What every entry promises of a call, on any tables: the whole answer, and with it demands 1 and 2.
+use mathlib.Core.Path.{_≡_}
+use Rattle.rules.specs.Sound.{Sound}
+use Rattle.rules.specs.declared.Tables.{Tables}
+use Rattle.rules.specs.declared.Step.{Step}
+use Rattle.runs.specs.Run.{Asked, made}
+use Rattle.demands.specs.One.{Answered}
+use Rattle.demands.specs.Two.{Kept}
+
+-- the call q on tables t left s: the next tables, the answer and the running thread
+pub record Promised (t : Tables) (q : Asked) (s : Step) : Type 0 where
+  pub whole : s ≡ made t q
+  pub answered : Answered t q s
+  pub kept : Sound t → Kept t q s
