@@ -18,3 +18,7 @@ promised t q e types =
       answered = subst (λ (x : Step). Answered t q x) (sym e) (demand-1 t q);
       kept = λ s. subst (λ (x : Step). Kept t q x) (sym e) (demand-2 t (types s .0) s q (types s .1));
     }
+
+-- what is put together anew is the same
+pub promised-same : {t : Tables} {q : Asked} {r s : Step} → r ≡ s → Promised t q s → Promised t q r
+promised-same {t} {q} e p = subst (λ (x : Step). Promised t q x) (sym e) p

@@ -1,4 +1,5 @@
-// The entries: any tables, any number, any arguments.
+// The entries: any tables, any number, any arguments. What they promise of a call is `Promised` (demands/specs): the whole answer, demand 1, and from
+// sound tables demand 2.
 use kernel::Call;
 use kernel::Said;
 use rules::Clocks;
@@ -14,14 +15,12 @@ use rules::Tables;
 use rules::Tasks;
 use rules::Thread;
 ghost use mathlib.Core.Path.{_≡_};
-ghost use mathlib.Core.Bool.{cond};
-ghost use Rattle.rules.specs.Answer.{answer};
-ghost use Rattle.rules.specs.Tables.{tables};
 ghost use Rattle.rules.specs.Fresh.{fresh};
-ghost use Rattle.rules.specs.Dispatch.{running};
-ghost use Rattle.rules.specs.Sound.{sound};
-ghost use Rattle.rules.specs.Step.{stepOf, call};
-ghost use Rattle.rules.specs.declared.Thread.the-variants.{Task};
+ghost use Rattle.rules.specs.Step.{stepOf};
+ghost use Rattle.runs.specs.Run.{asked};
+ghost use Rattle.demands.specs.One.{threadOf};
+ghost use Rattle.demands.specs.Promised.{Promised};
+ghost use Rattle.lent.specs.Lent.{before, leaves};
 ghost use Rattle.kernel.specs.Safe.{Safe};
 
 // Fresh tables: they are sound.
@@ -49,8 +48,8 @@ pub fn call_in_place(
     c: u32,
     d: u32,
 ) -> Said
-    ensures { λ r. ⌜ stepOf (tables (now (tasks .exit)) (now (lines .exit)) (now (semaphores .exit)) (now (events .exit)) (now (mailboxes .exit)) (now (swis .exit)) (now (clocks .exit)) (now (heap .exit)) (now (state .exit))) (r .answer) (r .thread)
-        ≡ call (tables (now (tasks .entry)) (now (lines .entry)) (now (semaphores .entry)) (now (events .entry)) (now (mailboxes .entry)) (now (swis .entry)) (now (clocks .entry)) (now (heap .entry)) (now (state .entry))) number a b c d ⌝ }
+    ensures { λ r. ⌜ Promised (before tasks lines semaphores events mailboxes swis clocks heap state) (asked number a b c d)
+        (stepOf (leaves tasks lines semaphores events mailboxes swis clocks heap state) (r .answer) (r .thread)) ⌝ }
 {
     tested::tested_call(
         tasks,
@@ -81,7 +80,7 @@ fn stepped(tables: Tables, said: Said) -> Step
 
 // One call on tables by value.
 pub fn call(t: Tables, number: u32, a: u32, b: u32, c: u32, d: u32) -> Step
-    ensures { λ r. ⌜ r ≡ call t number a b c d ⌝ }
+    ensures { λ r. ⌜ Promised t (asked number a b c d) r ⌝ }
 {
     let mut tasks = t.tasks;
     let mut lines = t.lines;
@@ -130,8 +129,7 @@ pub fn thread(
     heap: &Heap,
     state: &State,
 ) -> Thread
-    ensures { λ r. ⌜ r
-        ≡ cond (sound (tables (now (tasks .entry)) (now (lines .entry)) (now (semaphores .entry)) (now (events .entry)) (now (mailboxes .entry)) (now (swis .entry)) (now (clocks .entry)) (now (heap .entry)) (now (state .entry)))) (running (now (lines .entry)) (now (state .entry))) (Task 0) ⌝ }
+    ensures { λ r. ⌜ r ≡ threadOf (before tasks lines semaphores events mailboxes swis clocks heap state) ⌝ }
 {
     if sound::is_sound(
         tasks,
@@ -151,7 +149,7 @@ pub fn thread(
 
 // The running thread of tables by value.
 pub fn thread_of(t: Tables) -> Thread
-    ensures { λ r. ⌜ r ≡ cond (sound t) (running (t .lines) (t .state)) (Task 0) ⌝ }
+    ensures { λ r. ⌜ r ≡ threadOf t ⌝ }
 {
     let tasks = t.tasks;
     let lines = t.lines;

@@ -1,32 +1,29 @@
 -- Each call keeps sound tables sound, by demand 2.
 use Prim.Native.Nat.{ℕ}
-use mathlib.Core.Path.{_≡_, sym, subst}
+use mathlib.Core.Path.{_≡_, sym, subst, _∙_}
 use mathlib.Core.Bool.{true}
 use Rattle.rules.specs.Tables.{Typed}
-use Rattle.rules.specs.Sound.{sound}
+use Rattle.rules.specs.Sound.{Sound, sound}
 use Rattle.rules.specs.Step.{step, call}
 use Rattle.rules.specs.declared.Tables.{Tables}
 use Rattle.rules.specs.declared.Step.{Step}
-use Rattle.rules.proofs.Agree.{sound-means, means-sound}
+use Rattle.rules.proofs.Agree.{means-sound}
 use Rattle.keeps.proofs.Groups.{Words}
 use Rattle.keeps.proofs.Keeps.{step-typed, step-sound}
-use Rattle.kernel.specs.Safe.{Safe}
+use Rattle.kernel.specs.Quick.{quickStep}
+use Rattle.kernel.specs.Safe.{Safe, Stepped}
+use Rattle.kernel.proofs.Steps.{quick-is-step}
 
-pub step-safe : (t : Tables) → sound t ≡ true → (number a b c d : ℕ) → Words a b c d → {s : Step} → s ≡ step t number a b c d
-    → Typed t → Safe (s .tables)
-step-safe t is number a b c d w e typed =
-    subst
-    (λ (r : Step). Safe (r .tables))
-    (sym e)
-    (record {
-      typed = step-typed t typed (sound-means t is) number a b c d w;
-      sound = step-sound t typed (sound-means t is) number a b c d w;
-    })
+-- what is left by `step` on sound tables
+pub stepped : (t : Tables) (number a b c d : ℕ) → Typed t → Words a b c d → {s : Step} → s ≡ quickStep t number a b c d
+    → Sound t → Stepped t number a b c d s
+stepped t number a b c d typed w e sound =
+    let is = e ∙ quick-is-step t number a b c d sound in
+    let left : Safe (step t number a b c d .tables) =
+        record { typed = step-typed t typed sound number a b c d w; sound = step-sound t typed sound number a b c d w } in
+    record { is = is; safe = subst (λ (r : Step). Safe (r .tables)) (sym is) left; typed = typed; words = w }
 
--- safe tables may be passed to `step`, which is then the call
-pub safe-sound : {t : Tables} → Safe t → sound t ≡ true
-safe-sound {t} s = means-sound t (s .sound)
-
+-- on safe tables `step` is the call with its test
 pub safe-call : (t : Tables) → Safe t → (number a b c d : ℕ) → step t number a b c d ≡ call t number a b c d
 unfolding call
-safe-call t s number a b c d = rw (safe-sound s)
+safe-call t s number a b c d = rw (means-sound t (s .sound))

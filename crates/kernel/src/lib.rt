@@ -1,4 +1,5 @@
-// The call core on lent tables that are sound: one call, dispatch after an accepted one, and the thread that runs then.
+// The call core on lent tables: one call, dispatch after an accepted one, and the thread that runs then. Sound tables stay sound. Whoever does not know
+// that his tables are sound makes calls by an entry, which tests them.
 use rules::Answer;
 use rules::Clocks;
 use rules::Events;
@@ -11,12 +12,12 @@ use rules::Swis;
 use rules::Tasks;
 use rules::Thread;
 ghost use mathlib.Core.Path.{_≡_};
-ghost use mathlib.Core.Bool.{true};
-ghost use Rattle.rules.specs.Tables.{tables, Typed};
-ghost use Rattle.rules.specs.Sound.{sound};
-ghost use Rattle.rules.specs.Step.{stepOf, step};
+ghost use Rattle.rules.specs.Sound.{Sound};
+ghost use Rattle.rules.specs.Step.{stepOf};
+ghost use Rattle.lent.specs.Lent.{before, leaves};
 ghost use Rattle.keeps.proofs.Groups.{Words};
-ghost use Rattle.kernel.specs.Safe.{Safe};
+ghost use Rattle.kernel.specs.Quick.{quickStep};
+ghost use Rattle.kernel.specs.Safe.{Stepped};
 
 // A call: its number and its four arguments.
 pub struct Call {
@@ -38,7 +39,7 @@ fn words(a: u32, b: u32, c: u32, d: u32)
     ensures { λ _. ⌜ Words a b c d ⌝ }
 {}
 
-// One call on sound tables, in place. It asks that they are sound, so that only who can show it skips the test; and it keeps them so.
+// One call in place, with no test of the tables. On sound ones it is 01's step, and keeps them sound.
 pub fn step(
     tasks: &mut Tasks,
     lines: &mut Lines,
@@ -51,12 +52,24 @@ pub fn step(
     state: &mut State,
     asked: Call,
 ) -> Said
-    requires { ⌜ sound (tables (now tasks) (now lines) (now semaphores) (now events) (now mailboxes) (now swis) (now clocks) (now heap) (now state)) ≡ true ⌝ }
-    ensures { λ r. ⌜ stepOf (tables (now (tasks .exit)) (now (lines .exit)) (now (semaphores .exit)) (now (events .exit)) (now (mailboxes .exit)) (now (swis .exit)) (now (clocks .exit)) (now (heap .exit)) (now (state .exit))) (r .answer) (r .thread)
-        ≡ step (tables (now (tasks .entry)) (now (lines .entry)) (now (semaphores .entry)) (now (events .entry)) (now (mailboxes .entry)) (now (swis .entry)) (now (clocks .entry)) (now (heap .entry)) (now (state .entry))) (asked .number) (asked .a) (asked .b) (asked .c) (asked .d) ⌝ }
-    ensures { λ _. ⌜ (Typed (tables (now (tasks .entry)) (now (lines .entry)) (now (semaphores .entry)) (now (events .entry)) (now (mailboxes .entry)) (now (swis .entry)) (now (clocks .entry)) (now (heap .entry)) (now (state .entry))) → Safe (tables (now (tasks .exit)) (now (lines .exit)) (now (semaphores .exit)) (now (events .exit)) (now (mailboxes .exit)) (now (swis .exit)) (now (clocks .exit)) (now (heap .exit)) (now (state .exit)))) ⌝ }
+    ensures { λ r. ⌜ stepOf (leaves tasks lines semaphores events mailboxes swis clocks heap state) (r .answer) (r .thread)
+        ≡ quickStep (before tasks lines semaphores events mailboxes swis clocks heap state) (asked .number) (asked .a) (asked .b) (asked .c) (asked .d) ⌝ }
+    ensures { λ r. ⌜ (Sound (before tasks lines semaphores events mailboxes swis clocks heap state)
+        → Stepped (before tasks lines semaphores events mailboxes swis clocks heap state) (asked .number) (asked .a) (asked .b) (asked .c) (asked .d)
+        (stepOf (leaves tasks lines semaphores events mailboxes swis clocks heap state) (r .answer) (r .thread))) ⌝ }
 {
     words(asked.a, asked.b, asked.c, asked.d);
+    lent::typed(
+        *tasks,
+        *lines,
+        *semaphores,
+        *events,
+        *mailboxes,
+        *swis,
+        *clocks,
+        *heap,
+        *state,
+    );
     let answer = ranges::any_call(
         tasks,
         lines,

@@ -13,8 +13,10 @@ use rules::Tasks;
 use rules::Thread;
 ghost use mathlib.Core.Path.{_≡_};
 ghost use Rattle.rules.specs.Answer.{answer};
-ghost use Rattle.rules.specs.Tables.{tables};
-ghost use Rattle.rules.specs.Step.{stepOf, call};
+ghost use Rattle.rules.specs.Step.{stepOf};
+ghost use Rattle.runs.specs.Run.{asked};
+ghost use Rattle.demands.specs.Promised.{Promised};
+ghost use Rattle.lent.specs.Lent.{before, leaves};
 ghost use Rattle.rules.specs.declared.Thread.the-variants.{Task};
 
 // What is said of tables that are not sound: code 10, and T0.
@@ -38,9 +40,10 @@ pub fn tested_call(
     clocks: &mut Clocks,
     heap: &mut Heap,
     state: &mut State,
-    asked: Call,
+    q: Call,
 ) -> Said
-    ensures { λ r. ⌜ stepOf (tables (now (tasks .exit)) (now (lines .exit)) (now (semaphores .exit)) (now (events .exit)) (now (mailboxes .exit)) (now (swis .exit)) (now (clocks .exit)) (now (heap .exit)) (now (state .exit))) (r .answer) (r .thread) ≡ call (tables (now (tasks .entry)) (now (lines .entry)) (now (semaphores .entry)) (now (events .entry)) (now (mailboxes .entry)) (now (swis .entry)) (now (clocks .entry)) (now (heap .entry)) (now (state .entry))) (asked .number) (asked .a) (asked .b) (asked .c) (asked .d) ⌝ }
+    ensures { λ r. ⌜ Promised (before tasks lines semaphores events mailboxes swis clocks heap state) (asked (q .number) (q .a) (q .b) (q .c) (q .d))
+        (stepOf (leaves tasks lines semaphores events mailboxes swis clocks heap state) (r .answer) (r .thread)) ⌝ }
 {
     if !sound::is_sound(
         tasks,
@@ -65,6 +68,6 @@ pub fn tested_call(
         clocks,
         heap,
         state,
-        asked,
+        q,
     )
 }

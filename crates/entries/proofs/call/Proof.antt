@@ -1,7 +1,11 @@
-use mathlib.Core.Path.{_∙_}
+-- `entries::call` meets its contract: the tables are lent to `tested_call` and put together again with what it said.
 use borrow.Author.Needs.{needs}
+use Rattle.demands.proofs.Promised.{promised-same}
 use Rattle.entries.proofs.call.Statement.{statement}
 use Rattle.entries.proofs.call.Tie as tie
+
+returns : tie.Need-returns
+returns c = promised-same (c .stepped .ensures) (c .before .tested-call .ensures)
 
 pub call-spec : {M : Type 1} → statement M
 call-spec =
@@ -9,4 +13,4 @@ call-spec =
     (tie.spec
     (λ c κs. search needs)
     (λ c κs. search needs)
-    (λ c. c .stepped .ensures ∙ c .before .tested-call .ensures))
+    returns)

@@ -1,3 +1,4 @@
+-- `entries::thread` meets its contract, by the test of soundness.
 use borrow.Author.Needs.{needs}
 use Rattle.entries.proofs.Threads.{thread-sound, thread-unsound}
 use Rattle.entries.proofs.thread.Statement.{statement}

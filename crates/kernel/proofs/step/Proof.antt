@@ -1,8 +1,19 @@
+-- `kernel::step` meets its contract: its parts one after the other are `quickStep`, and on sound tables that is 01's step, which keeps them sound.
 use borrow.Author.Needs.{needs}
-use Rattle.kernel.proofs.Keeping.{step-safe}
-use Rattle.kernel.proofs.Steps.{step-is}
+use Rattle.kernel.proofs.Steps.{quick-is}
+use Rattle.kernel.proofs.Keeping.{stepped}
 use Rattle.kernel.proofs.step.Statement.{statement}
 use Rattle.kernel.proofs.step.Tie as tie
+
+returns : tie.Need-returns
+returns c =
+    let at-settle = c .before .before .before in
+    let at-any-call = at-settle .before .before .before .before in
+    let at-typed = at-any-call .before .before .before .before .before .before .before .before .before .before in
+    let at-words = at-typed .before .before .before .before .before .before .before .before .before .before in
+    let q = at-words .before .args .asked in
+    let e = quick-is _ (q .number) (q .a) (q .b) (q .c) (q .d) (at-any-call .any-call .ensures) (at-settle .settle .ensures) (c .running .ensures) in
+    (e, stepped _ (q .number) (q .a) (q .b) (q .c) (q .d) (at-typed .typed .ensures) (at-words .words .ensures) e)
 
 pub step-spec : {M : Type 1} → statement M
 step-spec =
@@ -12,8 +23,5 @@ step-spec =
     (λ c κs. search needs)
     (λ c κs. search needs)
     (λ c κs. search needs)
-    (λ c.
-    let s = c .before .before .before .before .before .before .before .before .before .before .before .before .before .before .before .before .before .before in
-    let q = s .args .asked in
-    let e = step-is _ (s .pre) (q .number) (q .a) (q .b) (q .c) (q .d) (c .before .before .before .before .before .before .before .any-call .ensures) (c .before .before .before .settle .ensures) (c .running .ensures) in
-    (e, step-safe _ (s .pre) (q .number) (q .a) (q .b) (q .c) (q .d) (c .before .before .before .before .before .before .before .before .before .before .before .before .before .before .before .before .before .words .ensures) e)))
+    (λ c κs. search needs)
+    returns)

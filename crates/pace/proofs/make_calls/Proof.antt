@@ -2,7 +2,6 @@ use Prim.Native.Nat.{_-_}
 use native.Mathlib.Omega.{arith}
 use Rattle.rules.specs.Tables.{tables}
 use Rattle.kernel.specs.Safe.{Safe}
-use Rattle.kernel.proofs.Keeping.{safe-sound}
 use Rattle.pace.proofs.make_calls.Statement.{statement}
 use Rattle.pace.proofs.make_calls.Tie as tie
 
@@ -22,9 +21,9 @@ make-calls-spec =
     μ-loop
     (λ c. c .pre)
     (λ c κs. tt)
-    (λ c κs. safe-sound (c .before .before .before .before .before .before .before .before .before .before .before .loop .inv))
+    (λ c κs. tt)
     (λ c κs. tt)
     (λ c. omega (arith, c .before .before .before .before .before .before .before .before .before .before .before .before .before .loop-test .taken, c .before .before .before .before .before .before .before .before .before .before .before .before .before .before .before .fits .n .fits))
     (λ c. omega (arith, c .before .before .before .before .before .before .before .before .before .before .before .before .before .loop-test .taken))
-    (λ c. c .before .before .step .ensures .1 (c .before .before .before .before .before .before .before .before .before .before .before .before .before .before .loop .inv .typed))
+    (λ c. c .before .before .step .ensures .1 (c .before .before .before .before .before .before .before .before .before .before .before .before .before .before .loop .inv .sound) .safe)
     (λ c. tt))

@@ -1,7 +1,19 @@
+-- `tested::tested_call` meets its contract: where the test fails it is code 10 and nothing is touched, where it holds `step` is the call.
 use borrow.Author.Needs.{needs}
-use Rattle.tested.proofs.Tested.{tested-sound, call-sound, call-unsound}
+use Rattle.tested.proofs.Tested.{promised-sound, promised-unsound}
 use Rattle.tested.proofs.tested_call.Statement.{statement}
 use Rattle.tested.proofs.tested_call.Tie as tie
+
+not-sound : tie.Need-returns
+not-sound c =
+    let at-test = c .before .before in
+    promised-unsound _ (at-test .is-sound .ensures) _ _ _ _ _ (c .before .if1 .taken) (c .unsound .ensures)
+
+made : tie.Need-returns-2
+made c =
+    let past-test = c .before .before .before .before .before .before .before .before .before .before in
+    let at-test = past-test .before in
+    promised-sound _ (at-test .is-sound .ensures) _ _ _ _ _ (past-test .if1 .left) (c .step .ensures .1)
 
 pub tested-call-spec : {M : Type 1} → statement M
 tested-call-spec =
@@ -9,6 +21,6 @@ tested-call-spec =
     (tie.spec
     (λ c κs. search needs)
     (λ c κs. search needs)
-    (λ c. call-unsound _ (c .before .before .is-sound .ensures) _ _ _ _ _ (c .before .if1 .taken) (c .unsound .ensures))
-    (λ c κs. tested-sound _ (c .before .before .before .before .before .before .before .before .before .before .is-sound .ensures) (c .before .before .before .before .before .before .before .before .before .if1 .left))
-    (λ c. call-sound _ (c .before .before .before .before .before .before .before .before .before .before .before .is-sound .ensures) _ _ _ _ _ (c .before .before .before .before .before .before .before .before .before .before .if1 .left) (c .step .ensures .0)))
+    not-sound
+    (λ c κs. search needs)
+    made)
