@@ -31,7 +31,7 @@ said-as f g t = record { only = λ e. f (t .only e); all = λ q. t .all (g q) }
 pub exactly : {a : Bool} {P : Type 0} → (a ≡ true → P) × (P → a ≡ true) → Tells a P
 exactly h = record { only = h .0; all = h .1 }
 
-both : {a b : Bool} {P Q : Type 0} → Tells a P → Tells b Q → Tells (a && b) (P × Q)
+pub both : {a b : Bool} {P Q : Type 0} → Tells a P → Tells b Q → Tells (a && b) (P × Q)
 both {a} {b} p q = record {
   only = λ e. let h = and-eq-true-iff a b .0 e in (p .only (h .0), q .only (h .1));
   all = λ h. and-eq-true-iff a b .1 (p .all (h .0), q .all (h .1));

@@ -4,4 +4,3 @@ pub mod Log
 pub mod Three
 pub mod Promised
 pub mod Sequence
-pub mod OneAnswer

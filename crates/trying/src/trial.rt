@@ -16,8 +16,12 @@ use rules::Swis;
 use rules::Tables;
 use rules::Tasks;
 use rules::Thread;
-ghost use mathlib.Core.Path.{_≡_};
-ghost use Rattle.rules.specs.Step.{call};
+ghost use Rattle.rules.specs.Step.{stepOf};
+ghost use Rattle.runs.specs.Run.{asked};
+ghost use Rattle.demands.specs.Promised.{Promised};
+ghost use Rattle.comparing.specs.Tells.{Tells};
+ghost use Rattle.lent.specs.Lent.{before, leaves};
+ghost use Rattle.trying.specs.Trial.{SaidAlike, Alike, InPlace, BothWays};
 
 // What the call by value left, and whether the call in place says the same in everything.
 pub struct Tried {
@@ -26,7 +30,9 @@ pub struct Tried {
 }
 
 // The answers are the same, and so are the threads: the two that the calls gave, and the two that run in what they left.
-fn same_said(step: Step, said: Said, running: Thread) -> bool {
+fn same_said(step: Step, said: Said, running: Thread) -> bool
+    ensures { λ r. ⌜ Tells r (SaidAlike step (said .answer) (said .thread) running) ⌝ }
+{
     let thread = step.thread;
     let in_place = said.thread;
     same_answer(step.answer, said.answer)
@@ -48,7 +54,9 @@ fn agrees(
     clocks: &Clocks,
     heap: &Heap,
     state: &State,
-) -> bool {
+) -> bool
+    ensures { λ r. ⌜ Tells r (Alike step (stepOf (before tasks lines semaphores events mailboxes swis clocks heap state) (said .answer) (said .thread))) ⌝ }
+{
     let running = entries::thread(
         tasks,
         lines,
@@ -87,7 +95,10 @@ fn call_in_place(
     heap: &mut Heap,
     state: &mut State,
     k: Call,
-) -> Said {
+) -> Said
+    ensures { λ r. ⌜ Promised (before tasks lines semaphores events mailboxes swis clocks heap state) (asked (k .number) (k .a) (k .b) (k .c) (k .d))
+        (stepOf (leaves tasks lines semaphores events mailboxes swis clocks heap state) (r .answer) (r .thread)) ⌝ }
+{
     entries::call_in_place(
         tasks,
         lines,
@@ -119,7 +130,10 @@ fn agrees_in_place(
     heap: &mut Heap,
     state: &mut State,
     k: Call,
-) -> bool {
+) -> bool
+    ensures { λ r. ⌜ InPlace step (before tasks lines semaphores events mailboxes swis clocks heap state) (asked (k .number) (k .a) (k .b) (k .c) (k .d))
+        (leaves tasks lines semaphores events mailboxes swis clocks heap state) r ⌝ }
+{
     let said = call_in_place(
         tasks,
         lines,
@@ -161,7 +175,8 @@ pub fn try_call(
     state: &mut State,
     k: Call,
 ) -> Tried
-    ensures { λ r. ⌜ r .step ≡ call t (k .number) (k .a) (k .b) (k .c) (k .d) ⌝ }
+    ensures { λ r. ⌜ BothWays t (before tasks lines semaphores events mailboxes swis clocks heap state) (asked (k .number) (k .a) (k .b) (k .c) (k .d))
+        (leaves tasks lines semaphores events mailboxes swis clocks heap state) r ⌝ }
 {
     let step = entries::call(t, k.number, k.a, k.b, k.c, k.d);
     let agrees = agrees_in_place(
