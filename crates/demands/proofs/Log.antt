@@ -2,8 +2,8 @@
 use Prim.Native.Nat.{ℕ, suc, _+_, _-_, _*_, _<_, _≤_}
 use mathlib.Core.Path.{_≡_, refl, sym, ap, subst, _∙_}
 use mathlib.Core.Bool.{true, cond as if}
-use mathlib.Core.Logic.{_≢_, _⊎_, _↔_, inl, inr, ⊎-elim}
-use mathlib.Core.List.{List, _∷_, _++_}
+use mathlib.Core.Logic.{_≢_, _↔_, inl, inr, ⊎-elim}
+use mathlib.Core.List.{List, _∷_}
 use native.Mathlib.Omega.{arith}
 use borrow.Author.Tests.{eq-eqb, ne-eqb, lt-ltb, le-ltb}
 use lib.Dec.{eqb, ltb}
@@ -126,7 +126,7 @@ module _ (s : List ℕ) (at : ℕ) where
       (lt-or-le (length s) (at + 20)))
       (λ (e : halfAt s at ≢ 18).
       let differs : LengthAt s at → ⊥ = λ l. let (_, a, b) = l in e (omega arith) in
-      rw (wrong two differs) (refl, two, differs))
+      rw (wrong two differs) (refl, omega arith, differs))
       (same? (halfAt s at) 18))
       (same? (length s) (at + 1)))
       (same? (length s) at))
@@ -143,7 +143,7 @@ module _ (s : List ℕ) (at : ℕ) where
   only (Cut n) (e, inl h) = rw e (past h)
   only (Cut n) (e, inr (inl h)) = rw e (one h)
   only (Cut n) (e, inr (inr (l, h))) = rw e (short l h)
-  only (Length n) (e, two, differs) = rw e (wrong two differs)
+  only (Length n) (e, two, differs) = rw e (wrong (omega arith) differs)
   only (Version n) (e, h, l, v) = rw e (strange l h v)
 
 -- ---- the layout: an answer is given exactly where it stands

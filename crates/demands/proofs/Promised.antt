@@ -21,7 +21,9 @@ promised t q e types =
     record {
       whole = e;
       answered = subst (λ (x : Step). Answered t q x) (sym e) (demand-1 t q);
-      kept = λ s. subst (λ (x : Step). Kept t q x) (sym e) (demand-2 t (types s .0) s q (types s .1));
+      kept = λ given.
+          let s : Sound t = search in
+          subst (λ (x : Step). Kept t q x) (sym e) (demand-2 t (types s .0) s q (types s .1));
     }
 
 -- what is put together anew is the same

@@ -1,11 +1,13 @@
 -- Demand 3 holds of entry calls: each of them leaves what `Run.made` says, so what a sequence of them leaves is what demand 3 speaks of.
 use Prim.{tt}
-use Prim.Native.Nat.{ℕ, _+_, _<_}
+use Prim.Native.Nat.{ℕ, _<_}
 use mathlib.Core.Path.{_≡_, refl, sym, ap, subst, _∙_}
+use mathlib.Core.Logic.{⊎-elim}
 use mathlib.Core.List.{List, [], _∷_}
+use native.Mathlib.Omega.{arith}
 use lib.ListN.{length}
 use Rattle.rules.specs.Answer.{nowWaiting}
-use Rattle.rules.specs.Tables.{current, semaphore, KIND}
+use Rattle.rules.specs.Tables.{current}
 use Rattle.rules.specs.Lines.{line, semaphoreLine}
 use Rattle.rules.specs.Sound.{Sound}
 use Rattle.rules.specs.declared.Tables.{Tables}
@@ -14,7 +16,7 @@ use Rattle.runs.specs.Run.{after, Each, AllWords}
 use Rattle.runs.specs.Turn.{posts, ServedIn}
 use Rattle.demands.specs.Promised.{Promised}
 use Rattle.demands.specs.Sequence.{Entered, Sequence, calls, tablesAfter, postsIn, AsEntered}
-use Rattle.demands.specs.Three.{Turn, pend}
+use Rattle.demands.specs.Three.{ArrivalOrder, Turn, pend}
 use Rattle.demands.proofs.Three.{demand-3}
 
 -- ---- a sequence of entry calls from sound tables
@@ -25,14 +27,14 @@ as-entered t sound (e ∷ es) (p, rest) =
     let k = p .kept sound in
     let r = as-entered (e .left .tables) (k .sound) es rest in
     record {
-      tables = r .tables ∙ ap (λ (x : Step). after (x .tables) (calls es)) (p .whole);
+      tables = rw (r .tables, p .whole);
       posts = λ s. rw (r .posts s, p .whole);
       words = (k .words, subst (λ (x : Step). AllWords (x .tables) (calls es)) (p .whole) (r .words));
       sound = r .sound;
     }
 
 -- ---- demand 3, of entries: a task began to wait by the entry call `pend s` that left r
-module _ (t : Tables) (sound : Sound t) (s : ℕ) (arrival : semaphore (t .semaphores) s KIND < 2)
+module _ (t : Tables) (sound : Sound t) (s : ℕ) (arrival : ArrivalOrder s t)
     (r : Step) (p : Promised t (pend s) r) (waits : r .answer .outcome ≡ nowWaiting) where
   pub demand-3-entered : Turn s (current (t .state)) (line (t .lines) (semaphoreLine s)) (r .tables)
   demand-3-entered =
@@ -45,4 +47,7 @@ module _ (t : Tables) (sound : Sound t) (s : ℕ) (arrival : semaphore (t .semap
       → ServedIn s (current (t .state)) (length (line (t .lines) (semaphoreLine s))) (r .tables) (calls es)
   served-entered es row more =
       let a = as-entered (r .tables) (p .kept sound .sound) es row in
-      demand-3-entered .waits .inTime (calls es) (a .words) (rw (a .posts s) at more)
+      ⊎-elim
+      (λ h. absurd (omega (arith, h .1, a .posts s, more)))
+      (λ x. x)
+      (demand-3-entered .waits .turn (calls es) (a .words))

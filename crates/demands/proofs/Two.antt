@@ -1,11 +1,15 @@
 -- Demand 2 holds of every call on sound tables: each group of rules is kept (`keeps`), and dispatch has nothing left to do on what is sound.
 use Prim.{tt}
+use Prim.Native.Nat.{ℕ, _≤_}
 use mathlib.Core.Path.{_≡_, refl, sym, ap, subst, _∙_}
 use mathlib.Core.Logic.{_≢_}
-use mathlib.Core.Bool.{not, false≢true}
+use mathlib.Core.Bool.{true, not, false≢true, and-eq-true-iff}
 use mathlib.Core.List.{List, [], _∷_}
 use native.Mathlib.Omega.{arith}
-use Rattle.fold.specs.Lists.{count}
+use borrow.Author.Tests.{leb-true}
+use lib.Dec.{leb}
+use Rattle.fold.specs.Lists.{count, allOf}
+use Rattle.rules.specs.Answer.{Cases, order, firstGiven}
 use Rattle.rules.specs.Tables.{Typed}
 use Rattle.rules.specs.Fresh.{fresh}
 use Rattle.rules.specs.Dispatch.{running}
@@ -16,7 +20,8 @@ use Rattle.rules.proofs.Faster.{fresh-sound}
 use Rattle.rules.specs.declared.Tables.{Tables}
 use Rattle.rules.specs.declared.Step.{Step}
 use Rattle.runs.specs.Run.{Asked, Words, made, next, after, Each, AllWords}
-use Rattle.refusals.proofs.Demand.{exactly-in}
+use Rattle.refusals.proofs.Demand.{exactly-in, code-is}
+use Rattle.refusals.proofs.First.{by-bool}
 use Rattle.refusals.specs.Refusals.{refusal}
 use Rattle.keeps.proofs.Nothing.{nothing-left}
 use Rattle.turns.proofs.Made.{is-step, next-typed, next-sound}
@@ -28,11 +33,23 @@ step-thread : (t : Tables) (q : Asked)
 unfolding step finished
 step-thread t q = refl
 
+-- a code that is given is one of the list's: at most n, where those are
+given-to : (n : ℕ) (ks : List ℕ) (c : Cases) → allOf (λ k. leb k n) ks ≡ true → firstGiven ks c ≤ n
+unfolding firstGiven allOf
+given-to n [] c e = omega arith
+given-to n (k ∷ ks) c e =
+    let (here, later) = and-eq-true-iff (leb k n) (allOf (λ j. leb j n) ks) .0 e in
+    by-bool (c k) (λ h. rw h (leb-true k n here)) (λ h. rw h (given-to n ks c later))
+
 -- ---- one call
 module _ (t : Tables) (typed : Typed t) (s : Sound t) (q : Asked) (w : Words q) where
   not-10 : made t q .answer .code ≢ 10
   unfolding count refusal
   not-10 e = false≢true (sym (ap not (means-sound t s)) ∙ exactly-in t q 10 (omega arith) .0 e .0)
+
+  to-10 : made t q .answer .code ≤ 10
+  unfolding allOf
+  to-10 = rw (code-is t q) (given-to 10 order (refusal t q) refl)
 
   pub demand-2 : Kept t q (made t q)
   demand-2 =
@@ -40,7 +57,7 @@ module _ (t : Tables) (typed : Typed t) (s : Sound t) (q : Asked) (w : Words q) 
         typedBefore = typed;
         words = w;
         effect = is-step t s q;
-        tested = not-10;
+        tested = λ e. omega (arith, e, not-10, to-10);
         typed = next-typed t typed s q w;
         sound = next-sound t typed s q w;
         thread = subst (λ (r : Step). r .thread ≡ running (r .tables .lines) (r .tables .state)) (sym (is-step t s q)) (step-thread t q);

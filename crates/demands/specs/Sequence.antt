@@ -1,12 +1,11 @@
 -- Entry calls one after the other, as a caller sees them: each is made on the tables that the one before it left, and of each the caller has the
 -- call and what it left. Demand 3 speaks of `Run.after` and `Turn.posts`: `demands/proofs/Sequence` shows that these are what such a sequence leaves.
 use Prim.{Unit}
-use Prim.Native.Nat.{ℕ, _+_, _<_}
+use Prim.Native.Nat.{ℕ, _+_}
 use mathlib.Core.Path.{_≡_}
 use mathlib.Core.Bool.{Bool, _&&_}
 use mathlib.Core.List.{List, [], _∷_}
 use lib.Dec.{eqb}
-use lib.ListN.{length}
 use Rattle.fold.specs.Lists.{bit}
 use Rattle.rules.specs.Sound.{Sound}
 use Rattle.rules.specs.declared.Tables.{Tables}

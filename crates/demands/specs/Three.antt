@@ -8,7 +8,7 @@ use mathlib.Core.Logic.{_⊎_}
 use mathlib.Core.List.{List, [], Sublistᴰ}
 use lib.ListN.{length}
 use Rattle.fold.specs.Lists.{count, ahead}
-use Rattle.rules.specs.Tables.{forever, task}
+use Rattle.rules.specs.Tables.{forever, task, semaphore, KIND}
 use Rattle.rules.specs.Dispatch.{running}
 use Rattle.rules.specs.declared.Tables.{Tables}
 use Rattle.rules.specs.declared.Thread.the-variants.{Task}
@@ -38,6 +38,10 @@ pub record Queues (p i : ℕ) (v : Tables) : Type 0 where
   -- it runs whenever it is there and nothing stands in its way, whatever calls were made
   pub runs : (qs : List Asked) → AllWords v qs → ReadyAt p i (after v qs) → ahead i (queue p (after v qs)) ≡ [] → Unhindered p (after v qs)
       → running (after v qs .lines) (after v qs .state) ≡ Task i
+
+-- "Kinds 0 and 1 wait in arrival order": semaphore s is of one of them
+abbrev pub ArrivalOrder : ℕ → Tables → Type 0
+ArrivalOrder s t = semaphore (t .semaphores) s KIND < 2
 
 -- the call with which it begins to wait
 abbrev pub pend : ℕ → Asked

@@ -1,28 +1,25 @@
 -- Why demand 3 speaks of arrival order alone: at a semaphore of kind 2 it does not hold. Task 1 of priority 5 begins to wait there without end, with
 -- nobody before it, so that k is 0. Task 2 of priority 6 comes later, stands before it, and the one post readies task 2.
-use Prim.Native.Nat.{ℕ, _<_}
-use mathlib.Core.Path.{_≡_, refl, sym, ap, subst, _∙_}
-use mathlib.Core.Bool.{true, and-eq-true-iff}
+use Prim.Native.Nat.{ℕ}
+use mathlib.Core.Path.{_≡_, refl}
 use mathlib.Core.List.{List, [], _∷_, _++_}
 use native.Mathlib.Omega.{arith}
-use borrow.Author.Tests.{eqb-true}
-use lib.ListN.{length, getD, take, length-append}
 use Rattle.fold.specs.Lists.{zeros}
 use Rattle.rules.specs.Answer.{nowWaiting}
-use Rattle.rules.specs.Tables.{Typed, wordEnd, forever, ready, atSemaphore, tables, task, current, semaphore, KIND}
+use Rattle.rules.specs.Tables.{forever, ready, atSemaphore, tables, current, semaphore, KIND}
 use Rattle.rules.specs.Lines.{line, semaphoreLine, readyLine}
 use Rattle.rules.specs.Fresh.{fresh}
-use Rattle.rules.specs.Sound.{Sound}
 use Rattle.rules.specs.declared.Tables.{Tables}
 use Rattle.rules.proofs.Runs.{Line, _⇒_, said, says, calls, T, createTask, createSemaphore, post}
 use Rattle.rules.proofs.Runs as Runs
 use Rattle.rules.proofs.Faster.{quickly}
 use Rattle.rules.proofs.Standing.{linesWith, _has_}
-use Rattle.runs.specs.Run.{Asked, made, next, after}
-use Rattle.runs.specs.Turn.{BlockedOn, isPost}
+use Rattle.runs.specs.Run.{made, after}
+use Rattle.runs.specs.Turn.{BlockedOn}
 use Rattle.demands.proofs.Two.{fresh-typed, fresh-is-sound}
 use Rattle.demands.specs.Three.{pend, Waits, Turn}
-use Rattle.examples.proofs.BySteps.{asks, pass, inWords, Leads, leads, anything, blocked}
+use Rattle.examples.proofs.BySteps.{asks, pass, inWords, Leads, leads, anything, blocked, stays-blocked, not-served}
+use Rattle.examples.proofs.Stated.{Begun, Begins, begun-there}
 
 abbrev pub setup : List Line
 setup = createSemaphore 2 0 ⇒ said 0 0 0 (T 0) ∷ createTask 5 ⇒ said 0 0 1 (T 1) ∷ []
@@ -77,32 +74,25 @@ unfolding quickly tablesOf overtaken
 in-overtaken = (refl, refl)
 
 -- ---- so no call of these served it
-a-post : (t : Tables) (q : Asked) → isPost 0 t q ≡ true → q .number ≡ 0x23
-a-post t q p = eqb-true _ _ (and-eq-true-iff _ _ .0 (and-eq-true-iff _ _ .0 p .0) .0)
-
-none-serves : (before : List Asked) (q : Asked) (rest : List Asked) → asks (calls overtaking) ≡ before ++ (q ∷ rest)
-    → isPost 0 (after begun before) q ≡ true → task (next (after begun before) q .tasks) 1 .mode ≡ ready → ⊥
+begins : Begins 3 start 1 [] begun
 unfolding after
-none-serves [] q rest e p r = omega (arith, a-post _ q p, ap (λ (qs : List Asked). getD qs 0 (pend 0) .number) e)
-none-serves (a ∷ []) q rest e p r = omega (arith, a-post _ q p, ap (λ (qs : List Asked). getD qs 1 (pend 0) .number) e)
-none-serves (a ∷ b ∷ []) q rest e p r =
-    let there = sym (ap (λ (qs : List Asked). after begun (take 3 qs)) e) ∙ to-overtaken .now in
-    omega (arith, in-overtaken .0, rw there at r)
-none-serves (a ∷ b ∷ c ∷ more) q rest e p r = omega (arith, simp length-append at (ap length e))
+begins =
+    record {
+      typed = to-start .typed;
+      sound = to-start .sound;
+      kind = omega (arith, in-start .0);
+      waits = waits;
+      task = in-start .1;
+      behind = in-start .2;
+      now = to-begun .now;
+    }
 
 pub not-in-turn : Waits 0 1 0 begun → ⊥
 not-in-turn w =
-    let x = w .inTime (asks (calls overtaking)) (to-overtaken .words) (omega (arith, to-overtaken .posts)) in
-    none-serves (x .before) (x .post) (x .rest) (x .split) (x .posted) (rw (x .now) at (x .ready))
+    not-served 0 1 0 begun (asks (calls overtaking))
+    (stays-blocked 0 1 begun (asks (calls overtaking)) (to-overtaken .all) (rw (to-overtaken .now) in-overtaken))
+    (w .inTime (asks (calls overtaking)) (to-overtaken .words) (omega (arith, to-overtaken .posts)))
 
 -- demand 3 with kind 2 among the kinds is not true
-pub not-with-kind-2 : ((t : Tables) → Typed t → Sound t → (s : ℕ) → s < wordEnd → semaphore (t .semaphores) s KIND < 3
-    → made t (pend s) .answer .outcome ≡ nowWaiting
-    → Turn s (current (t .state)) (line (t .lines) (semaphoreLine s)) (next t (pend s))) → ⊥
-unfolding after
-not-with-kind-2 every =
-    not-in-turn
-    (subst (λ (u : Tables). Waits 0 1 0 u) (to-begun .now)
-    (subst (λ (i : ℕ). Waits 0 i 0 (next start (pend 0))) (in-start .1)
-    (subst (λ (k : ℕ). Waits 0 (current (start .state)) k (next start (pend 0))) (ap length (in-start .2))
-    (every start (to-start .typed) (to-start .sound) 0 (omega arith) (omega (arith, in-start .0)) waits .waits))))
+pub not-with-kind-2 : Begun 3 Turn → ⊥
+not-with-kind-2 every = not-in-turn (begun-there 3 Turn start 1 [] begun begins every .waits)

@@ -1,15 +1,19 @@
 -- Examples for demand 3: a run of calls is computed in one pass. On sound tables a call is its step, so that soundness is not tested anew.
 use Prim.{tt}
-use Prim.Native.Nat.{ℕ, _+_}
+use Prim.Native.Nat.{ℕ, _+_, _<_, _≤_}
 use mathlib.Core.Path.{_≡_, refl, sym, ap, subst, _∙_}
 use mathlib.Core.Logic.{inr}
 use mathlib.Core.Bool.{Bool, true, false, not, _&&_, and-eq-true-iff, false≢true}
-use mathlib.Core.List.{List, [], _∷_}
-use borrow.Author.Tests.{ltb-true, eq-eqb, eqb-true, not-true}
+use mathlib.Core.List.{List, [], _∷_, _++_}
+use native.Mathlib.Omega.{arith}
+use borrow.Author.Tests.{ltb-true, ltb-false, eq-eqb, eqb-true, not-true}
 use lib.Dec.{eqb, ltb}
 use Rattle.fold.specs.Lists.{bit, count}
-use Rattle.rules.specs.Tables.{Typed, wordEnd, atSemaphore, task}
-use Rattle.rules.specs.Dispatch.{running}
+use Rattle.fold.proofs.Laws.{no-length}
+use Rattle.fold.proofs.Finds.{high-is}
+use Rattle.rules.specs.Tables.{Typed, wordEnd, levels, atSemaphore, task}
+use Rattle.rules.specs.Lines.{readyLine, anyone}
+use Rattle.rules.specs.Dispatch.{running, highestReady}
 use Rattle.rules.specs.Sound.{Sound}
 use Rattle.rules.specs.Step.{step}
 use Rattle.rules.specs.declared.Tables.{Tables}
@@ -19,7 +23,7 @@ use Rattle.rules.specs.declared.Thread.the-variants.{Task, Swi, Interrupt}
 use Rattle.rules.proofs.Runs.{Line, Said, _runs_, look, said, saw, says, calls, answers}
 use Rattle.rules.proofs.Runs as Runs
 use Rattle.runs.specs.Run.{Asked, asked, next, after, Each, Always, AllWords}
-use Rattle.runs.specs.Turn.{BlockedOn, posts, queue, Undisturbed, Gone}
+use Rattle.runs.specs.Turn.{BlockedOn, posts, ServedIn, queue, Undisturbed, Gone}
 use Rattle.demands.proofs.Two.{demand-2}
 
 -- the calls of a run, without the looks between them
@@ -129,6 +133,10 @@ isTask i Interrupt = false
 abbrev pub undisturbed : ℕ → ℕ → Tables → Tables → Bool
 undisturbed p i t u = not (isTask i (running (t .lines) (t .state))) && eqb (task (u .tasks) i .priority) p
 
+-- it keeps its priority, whether it runs or not
+abbrev pub unchanged : ℕ → ℕ → Tables → Tables → Bool
+unchanged p i t u = eqb (task (u .tasks) i .priority) p
+
 pub stays-blocked : (s i : ℕ) (t : Tables) (qs : List Asked) → Each (λ u q. blocked s i u (next u q) ≡ true) t qs → BlockedOn s i (after t qs)
     → Always (BlockedOn s i) t qs
 unfolding Each Always after
@@ -144,8 +152,32 @@ stays-undisturbed p i t (q ∷ qs) e =
     let (other, same) = and-eq-true-iff _ _ .0 (e .0) in
     ((λ r. false≢true (sym (not-true _ other) ∙ ap (isTask i) r ∙ eq-eqb i i refl), eqb-true _ _ same), stays-undisturbed p i (next t q) qs (e .1))
 
+pub stays-unchanged : (p i : ℕ) (t : Tables) (qs : List Asked) → Each (λ u q. unchanged p i u (next u q) ≡ true) t qs
+    → Each (λ u q. task (next u q .tasks) i .priority ≡ p) t qs
+unfolding Each
+stays-unchanged p i t [] e = tt
+stays-unchanged p i t (q ∷ qs) e = (eqb-true _ _ (e .0), stays-unchanged p i (next t q) qs (e .1))
+
+-- who was blocked all along was not served: at no place of the run is it ready
+always-there : (P : Tables → Type 0) (u : Tables) (before : List Asked) (q : Asked) (rest : List Asked) → Always P u (before ++ (q ∷ rest))
+    → P (next (after u before) q)
+unfolding Always after
+always-there P u [] q [] a = a .1
+always-there P u [] q (r ∷ rest) a = a .1 .0
+always-there P u (p ∷ before) q rest a = always-there P (next u p) before q rest (a .1)
+
+pub not-served : (s i k : ℕ) (u : Tables) (qs : List Asked) → Always (BlockedOn s i) u qs → ServedIn s i k u qs → ⊥
+not-served s i k u qs a x =
+    let there = always-there (BlockedOn s i) u (x .before) (x .post) (x .rest) (rw (x .split) at a) in
+    omega (arith, there .0, rw (x .now) at (x .ready))
+
 -- who has left the queue after all calls is gone
 pub gone-at-last : (p x : ℕ) (t : Tables) (qs : List Asked) → count x (queue p (after t qs)) ≡ 0 → Gone p x t qs
 unfolding after Gone
 gone-at-last p x t [] e = e
 gone-at-last p x t (q ∷ qs) e = inr (inr (gone-at-last p x (next t q) qs e))
+
+-- no task is ready above the highest at which one is
+pub none-higher : (t : Tables) (r : ℕ) → highestReady levels (t .lines) ≤ r → r < levels → queue r t ≡ []
+unfolding highestReady
+none-higher t r over under = no-length _ (ltb-false 0 _ (high-is levels (λ p. anyone (t .lines) (readyLine p)) .after r over under))

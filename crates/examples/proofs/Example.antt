@@ -3,26 +3,26 @@
 use Prim.Native.Nat.{ℕ, _<_}
 use mathlib.Core.Path.{_≡_, refl, sym, subst}
 use mathlib.Core.Logic.{_≢_, inl, inr, ⊎-elim}
-use mathlib.Core.List.{List, [], _∷_}
+use mathlib.Core.List.{[], _∷_}
 use native.Mathlib.Omega.{arith}
-use borrow.Author.Tests.{eq-eqb, ne-eqb, ltb-false}
+use borrow.Author.Tests.{eq-eqb, ne-eqb}
 use Rattle.fold.specs.Lists.{count, ahead}
-use Rattle.fold.proofs.Laws.{same?, no-length}
-use Rattle.fold.proofs.Finds.{high-is}
+use Rattle.fold.proofs.Laws.{same?}
 use Rattle.rules.specs.Answer.{nowWaiting}
 use Rattle.rules.specs.Tables.{levels, task, current, semaphore, KIND}
-use Rattle.rules.specs.Lines.{line, semaphoreLine, activeLine, readyLine, anyone}
+use Rattle.rules.specs.Lines.{line, semaphoreLine, activeLine}
 use Rattle.rules.specs.Dispatch.{running, highestReady}
 use Rattle.rules.specs.declared.Tables.{Tables}
 use Rattle.rules.specs.declared.Thread.the-variants.{Task}
 use Rattle.rules.proofs.Runs.{says, calls}
 use Rattle.rules.proofs.Faster.{quickly}
 use Rattle.rules.proofs.Standing.{linesWith}
-use Rattle.runs.specs.Run.{asked, made, next, after, Each}
+use Rattle.runs.specs.Run.{asked, made, after, Each}
 use Rattle.runs.specs.Turn.{BlockedOn, ServedIn, ReadyAt, queue, Undisturbed, Gone, Unhindered}
 use Rattle.demands.specs.Three.{pend, Turn, Queues}
 use Rattle.demands.proofs.Three.{demand-3}
-use Rattle.examples.proofs.BySteps.{asks, stays-blocked, stays-undisturbed, gone-at-last}
+use Rattle.examples.proofs.BySteps.{asks, stays-blocked, stays-undisturbed, gone-at-last, none-higher}
+use Rattle.examples.proofs.Stated.{WhenServed, Readied, Begins, begun-there}
 use Rattle.examples.proofs.Story.{flood, tablesOf, start, begun, flooded, moment, ending, to-start, to-begun, to-flooded, to-moment, to-ending}
 use Rattle.examples.proofs.Story.{whole, run, later}
 
@@ -35,13 +35,21 @@ pub waits : made start (pend 0) .answer .outcome ≡ nowWaiting
 unfolding says
 waits = let e = to-begun .answers .so in cc
 
-pub turn : Turn 0 3 (1 ∷ 2 ∷ []) begun
+pub begins : Begins 2 start 3 (1 ∷ 2 ∷ []) begun
 unfolding after
-turn =
-    subst (λ (u : Tables). Turn 0 3 (1 ∷ 2 ∷ []) u) (to-begun .now)
-    (subst (λ (i : ℕ). Turn 0 i (1 ∷ 2 ∷ []) (next start (pend 0))) (in-start .0)
-    (subst (λ (others : List ℕ). Turn 0 (current (start .state)) others (next start (pend 0))) (in-start .1)
-    (demand-3 start (to-start .typed) (to-start .sound) 0 (omega arith) (omega (arith, in-start .2)) waits)))
+begins =
+    record {
+      typed = to-start .typed;
+      sound = to-start .sound;
+      kind = omega (arith, in-start .2);
+      waits = waits;
+      task = in-start .0;
+      behind = in-start .1;
+      now = to-begun .now;
+    }
+
+pub turn : Turn 0 3 (1 ∷ 2 ∷ []) begun
+turn = begun-there 2 Turn start 3 (1 ∷ 2 ∷ []) begun begins demand-3
 
 -- ---- the post that readies it is the one after the flood, in which there is one: by the theorem there is such a post, since there are three
 pub in-time : ServedIn 0 3 2 begun run
@@ -87,7 +95,7 @@ in-ending = ((refl, refl), refl, refl, refl, refl)
 pub quiet : Each (Undisturbed 5 3) moment later
 quiet = stays-undisturbed 5 3 moment later (to-ending .all)
 
-yields : made moment (asked 0x03 0 0 0 0) .answer .code ≡ 0
+pub yields : made moment (asked 0x03 0 0 0 0) .answer .code ≡ 0
 unfolding says
 yields = let e = to-ending .answers .so in cc
 
@@ -111,21 +119,24 @@ all-gone x h =
     (same? 2 x))
     (same? 1 x)
 
+-- ---- what is said of each moment at which a task is readied is said of this one
+pub readied-there : (P : ℕ → ℕ → Tables → Type 0) → Readied P → P 5 3 moment
+unfolding served
+readied-there P every =
+    subst (λ (p : ℕ). P p 3 moment) (in-moment .0 .1) (begun-there 2 (WhenServed P) start 3 (1 ∷ 2 ∷ []) begun begins every run (whole .words) served)
+
 -- ---- from the theorem: it is at the front, and it runs; by computation the same, `in-ending`
 pub queues : Queues 5 3 moment
-unfolding served
-queues = subst (λ (p : ℕ). Queues p 3 moment) (in-moment .0 .1) (turn .queues run (whole .words) served)
+queues = readied-there Queues (λ t typed sound s word kind begun. demand-3 t typed sound s word kind begun .queues)
 
 pub front : ahead 3 (queue 5 ending) ≡ []
 front = rw (to-ending .now) at (queues .front later (to-ending .words) quiet all-gone)
 
 pub unhindered : Unhindered 5 ending
-unfolding highestReady tablesOf ending
+unfolding tablesOf ending
 unhindered =
     record {
-      higher =
-          λ r over under.
-          no-length _ (ltb-false 0 _ (high-is levels (λ p. anyone (ending .lines) (readyLine p)) .after r (omega (arith, in-ending .3)) under));
+      higher = λ r over under. none-higher ending r (omega (arith, in-ending .3)) under;
       depth = refl;
       active = in-ending .4;
       swis = λ e. omega (arith, e);

@@ -78,7 +78,7 @@ tablesOf rows waiters queue count ticks current =
     (0 ∷ 1 ∷ 1 ∷ ticks ∷ current ∷ [])
 
 -- a row: mode, priority, object, left, first, second, outcome, value
-abbrev row : ℕ → ℕ → ℕ → List ℕ
+abbrev pub row : ℕ → ℕ → ℕ → List ℕ
 row mode left outcome = mode ∷ 5 ∷ 0 ∷ left ∷ 0 ∷ 0 ∷ outcome ∷ 0 ∷ []
 
 unfoldable pub start : Tables

@@ -1,1 +1,1 @@
-// Demand 3 in a worked example that meets every premise, and why it speaks of arrival order alone: no code.
+// Demand 3 in a worked example that meets every premise, and statements that say more than the demands, each denied: no code.

@@ -1,0 +1,158 @@
+-- Demands 1 and 2, the log's layout and a sequence of entry calls say no more than is true: statements that say more than one of their fields, and of
+-- each a call, a log or tables that deny it.
+use Prim.{tt}
+use Prim.Native.Nat.{ℕ, _+_, _<_, _≤_}
+use mathlib.Core.Path.{_≡_, refl, sym, ap, _∙_}
+use mathlib.Core.Logic.{_≢_, _↔_}
+use mathlib.Core.Bool.{true, false, _&&_}
+use mathlib.Core.List.{List, [], _∷_}
+use native.Mathlib.Omega.{arith}
+use lib.Dec.{eqb}
+use lib.ListN.{length, getD}
+use Rattle.fold.specs.Lists.{count, ahead, allOf, bit, zeros}
+use Rattle.rules.specs.Answer.{order, answer}
+use Rattle.rules.specs.Tables.{Typed, wordEnd, tables, TASKS}
+use Rattle.rules.specs.Fresh.{fresh, freshTasks, freshLines}
+use Rattle.rules.specs.Dispatch.{running}
+use Rattle.rules.specs.Sound.{Sound, sound}
+use Rattle.rules.specs.Step.{stepOf, call}
+use Rattle.rules.specs.Log.{readAt}
+use Rattle.rules.specs.declared.Tables.{Tables}
+use Rattle.rules.specs.declared.Step.{Step}
+use Rattle.rules.specs.declared.Read.the-variants.{Length}
+use Rattle.rules.specs.declared.Thread.the-variants.{Task}
+use Rattle.rules.proofs.Runs.{Line, _⇒_, said, calls, says, T, yield, post, tasksOff}
+use Rattle.rules.proofs.Computed.{computed}
+use Rattle.rules.proofs.Faster.{quickly}
+use Rattle.runs.specs.Run.{Asked, asked, made, after, Words}
+use Rattle.runs.specs.Turn.{posts}
+use Rattle.refusals.specs.Refusals.{refusal, unknownNumber, among, None}
+use Rattle.demands.specs.Two.{Kept}
+use Rattle.demands.specs.Sequence.{Entered, Sequence}
+use Rattle.demands.specs.Sequence as Entries
+use Rattle.demands.proofs.Two.{fresh-typed, fresh-is-sound}
+use Rattle.demands.proofs.Promised.{promised}
+use Rattle.examples.proofs.BySteps.{pass, inWords, Leads, leads, anything}
+
+-- ---- tables that are not sound: fresh ones, but that task 1 is the current one
+unfoldable stray : Tables
+stray = tables freshTasks freshLines (zeros 48) (zeros 16) (zeros 80) (zeros 96) (zeros 80) (zeros 256) (0 ∷ 1 ∷ 1 ∷ 0 ∷ 1 ∷ [])
+
+stray-typed : Typed stray
+unfolding stray
+stray-typed =
+    record { tasks = refl; lines = refl; semaphores = refl; events = refl; mailboxes = refl; swis = refl; clocks = refl; heap = refl; state = refl }
+
+not-sound : sound stray ≡ false
+unfolding computed stray
+not-sound = refl
+
+-- an unknown number, of which two rows hold
+abbrev strange : Asked
+strange = asked 0x77 0 0 0 0
+
+refused : made stray strange ≡ stepOf stray (answer 10 0 0) (Task 0)
+unfolding call
+refused = rw not-sound
+
+-- ---- "with code 10 the thread given is T0", which need not be the one that the dispatch rule names
+runs-there : running (stray .lines) (stray .state) ≡ Task 1
+unfolding computed stray
+runs-there = refl
+
+pub not-the-running-thread : ((t : Tables) (q : Asked) → made t q .answer .code ≢ 0
+    → made t q ≡ stepOf t (answer (made t q .answer .code) 0 0) (running (t .lines) (t .state))) → ⊥
+not-the-running-thread every =
+    let e = every stray strange (rw refused (λ z. omega (arith, z))) in
+    let given = ap (λ (r : Step). r .thread) (sym refused ∙ e) ∙ runs-there in
+    let z : _≡_ {A = ℕ} 0 1 = cc in
+    omega arith
+
+-- ---- "and a code is given exactly in its case", where no earlier row's case holds: rows 10 and 1 hold, and the code is 10
+abbrev pub WhateverBefore : Type 0
+WhateverBefore =
+    (t : Tables) (q : Asked) (k : ℕ) → 0 < count k order
+    → (made t q .answer .code ≡ k) ↔ ((refusal t q k ≡ true) × None (ahead 10 order) (refusal t q))
+
+unknown : (refusal stray strange 1 ≡ true) × None (ahead 10 order) (refusal stray strange)
+unfolding refusal unknownNumber among count ahead allOf
+unknown = (refl, refl)
+
+pub not-whatever-stands-before : WhateverBefore → ⊥
+unfolding count
+not-whatever-stands-before every =
+    omega (arith, ap (λ (r : Step). r .answer .code) refused, every stray strange 1 (omega arith) .1 unknown)
+
+-- ---- "From sound tables": on others each call is refused with code 10
+pub not-where-not-sound : ((t : Tables) (q : Asked) → Typed t → Kept t q (made t q)) → ⊥
+not-where-not-sound every = every stray strange stray-typed .tested (ap (λ (r : Step). r .answer .code) refused)
+
+in-words : (number a : ℕ) → a < wordEnd → Words (asked number a 0 0 0)
+in-words number a h = record { first = h; second = omega arith; third = omega arith; fourth = omega arith }
+
+-- ---- on sound tables each other code may come, as 9: tasks are off, and task 0 yields
+abbrev switchedOff : List Line
+switchedOff = tasksOff ⇒ said 0 0 1 (T 0) ∷ []
+
+abbrev yields : List Line
+yields = yield ⇒ said 9 0 0 (T 0) ∷ []
+
+unfoldable off : Tables
+off = tables freshTasks freshLines (zeros 48) (zeros 16) (zeros 80) (zeros 96) (zeros 80) (zeros 256) (0 ∷ 1 ∷ 0 ∷ 0 ∷ 0 ∷ [])
+
+to-off : Leads anything 0 fresh switchedOff 0 off
+unfolding quickly pass inWords off
+to-off = leads anything 0 fresh fresh-typed fresh-is-sound switchedOff 0 off refl refl
+
+still-off : Leads anything 0 off yields 0 off
+unfolding quickly pass inWords off
+still-off = leads anything 0 off (to-off .typed) (to-off .sound) yields 0 off refl refl
+
+code-9 : made off (asked 0x03 0 0 0 0) .answer .code ≡ 9
+unfolding says
+code-9 = let e = still-off .answers .so in cc
+
+pub not-without-code-9 : ((t : Tables) (q : Asked) → Typed t → Sound t → Words q → made t q .answer .code ≢ 9) → ⊥
+not-without-code-9 every =
+    every off (asked 0x03 0 0 0 0) (to-off .typed) (to-off .sound) (in-words 0x03 0 (omega arith)) code-9
+
+-- ---- "length not 18, `length`; fewer than 18 after it, `cut`": the log 00 13 is `length`, though twenty bytes are not there
+pub not-cut-before-length : ((s : List ℕ) (at n : ℕ) → readAt s at ≡ Length n → at + 20 ≤ length s) → ⊥
+unfolding readAt
+not-cut-before-length every = omega (arith, every (0x00 ∷ 0x13 ∷ []) 0 0 refl)
+
+-- ---- entry calls: one on fresh tables, as it is made
+abbrev entered : Asked → Entered
+entered q = record { call = q; left = made fresh q }
+
+one-call : (number a : ℕ) → a < wordEnd → Sequence fresh (entered (asked number a 0 0 0) ∷ [])
+unfolding Sequence
+one-call number a h = (promised fresh (asked number a 0 0 0) refl (λ s. (fresh-typed, in-words number a h)), tt)
+
+-- "accepted posts": a refused one does not count. Semaphore 7 is not in use
+abbrev refusedPost : List Line
+refusedPost = post 7 ⇒ said 3 0 0 (T 0) ∷ []
+
+none-posted : Leads anything 7 fresh refusedPost 0 fresh
+unfolding quickly pass inWords
+none-posted = leads anything 7 fresh fresh-typed fresh-is-sound refusedPost 0 fresh refl refl
+
+unfoldable pub postsTried : ℕ → List Entered → ℕ
+postsTried s [] = 0
+postsTried s (e ∷ es) = bit (eqb (e .call .number) 0x23 && eqb (e .call .a) s) + postsTried s es
+
+pub not-with-refused-posts : ((t : Tables) → Sound t → (es : List Entered) → Sequence t es → (s : ℕ) → postsTried s es ≡ posts s t (Entries.calls es)) → ⊥
+unfolding postsTried Entries.calls
+not-with-refused-posts every =
+    omega (arith, none-posted .posts, every fresh fresh-is-sound (entered (asked 0x23 7 0 0 0) ∷ []) (one-call 0x23 7 (omega arith)) 7)
+
+-- each call is made on the tables that the one before it left: those are not the first ones
+unfoldable pub tablesFirst : Tables → List Entered → Tables
+tablesFirst t [] = t
+tablesFirst t (e ∷ es) = tablesFirst t es
+
+pub not-on-the-first-tables : ((t : Tables) → Sound t → (es : List Entered) → Sequence t es → tablesFirst t es ≡ after t (Entries.calls es)) → ⊥
+unfolding tablesFirst Entries.calls fresh off
+not-on-the-first-tables every =
+    let same = every fresh fresh-is-sound (entered (asked 0x72 0 0 0 0) ∷ []) (one-call 0x72 0 (omega arith)) ∙ to-off .now in
+    omega (arith, ap (λ (t : Tables). getD (t .state) TASKS 0) same)
