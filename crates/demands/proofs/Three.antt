@@ -18,7 +18,7 @@ use Rattle.turns.proofs.Begins.{begins, behind}
 use Rattle.turns.proofs.Waits.{turn, in-time}
 use Rattle.turns.proofs.Ahead.{sub-length}
 use Rattle.turns.proofs.Queues as InTurn
-use Rattle.turns.proofs.Fronts.{runs-there}
+use Rattle.turns.proofs.Fronts.{at-front, nobody-before, runs-there}
 use Rattle.demands.specs.Three.{Queues, ArrivalOrder, Turn, pend}
 use Rattle.demands.proofs.Two.{sound-after}
 
@@ -39,8 +39,10 @@ queues-in-turn v typed sound p i r =
           (InTurn.stays p i v typed sound r qs w still, search);
       gone = λ qs w quiet.
           InTurn.gone p i v typed sound r qs w (each-of _ (Undisturbed p i) v qs quiet (λ u q h. (search, search)));
-      front = λ qs w quiet.
-          InTurn.front p i v typed sound r qs w (each-of _ (Undisturbed p i) v qs quiet (λ u q h. (search, search)));
+      front = λ qs w quiet all.
+          let still = each-of _ (Undisturbed p i) v qs quiet (λ u q h. (search, search)) in
+          let (ty, so) = sound-after v typed sound qs w in
+          at-front (after v qs) ty so p i (InTurn.stays p i v typed sound r qs w still) (InTurn.front p i v typed sound r qs w still all);
       runs =
           λ qs w there first free.
           let (ty, so) = sound-after v typed sound qs w in
@@ -52,7 +54,7 @@ queues-in-turn v typed sound p i r =
             swis = free .swis;
             tasks = free .tasks;
           }
-          first;
+          (nobody-before first);
     }
 
 -- the first calls of a run, and the one after them, are words too

@@ -13,7 +13,7 @@ use Rattle.rules.specs.Dispatch.{running}
 use Rattle.rules.specs.declared.Tables.{Tables}
 use Rattle.rules.specs.declared.Thread.the-variants.{Task}
 use Rattle.runs.specs.Run.{Asked, asked, after, Always, Each, AllWords}
-use Rattle.runs.specs.Turn.{BlockedOn, beforeAt, posts, ServedIn, ReadyAt, queue, Undisturbed, Gone, Unhindered}
+use Rattle.runs.specs.Turn.{BlockedOn, beforeAt, posts, ServedIn, ReadyAt, queue, AtFront, Undisturbed, Gone, Unhindered}
 
 -- ---- the waiter: task i at semaphore s, behind k others, in tables u
 pub record Waits (s i k : ℕ) (u : Tables) : Type 0 where
@@ -34,9 +34,9 @@ pub record Queues (p i : ℕ) (v : Tables) : Type 0 where
       → count x (ahead i (queue p (after v qs))) ≡ 0
   -- and once each of them has, it is at the front
   pub front : (qs : List Asked) → AllWords v qs → Each (Undisturbed p i) v qs → ((x : ℕ) → 0 < count x (ahead i (queue p v)) → Gone p x v qs)
-      → ahead i (queue p (after v qs)) ≡ []
+      → AtFront p i (after v qs)
   -- it runs whenever it is there and nothing stands in its way, whatever calls were made
-  pub runs : (qs : List Asked) → AllWords v qs → ReadyAt p i (after v qs) → ahead i (queue p (after v qs)) ≡ [] → Unhindered p (after v qs)
+  pub runs : (qs : List Asked) → AllWords v qs → ReadyAt p i (after v qs) → AtFront p i (after v qs) → Unhindered p (after v qs)
       → running (after v qs .lines) (after v qs .state) ≡ Task i
 
 -- "Kinds 0 and 1 wait in arrival order": semaphore s is of one of them

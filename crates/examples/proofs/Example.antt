@@ -18,7 +18,7 @@ use Rattle.rules.proofs.Runs.{says, calls}
 use Rattle.rules.proofs.Faster.{quickly}
 use Rattle.rules.proofs.Standing.{linesWith}
 use Rattle.runs.specs.Run.{asked, made, after, Each}
-use Rattle.runs.specs.Turn.{BlockedOn, ServedIn, ReadyAt, queue, Undisturbed, Gone, Unhindered}
+use Rattle.runs.specs.Turn.{BlockedOn, ServedIn, ReadyAt, queue, AtFront, Undisturbed, Gone, Unhindered}
 use Rattle.demands.specs.Three.{pend, Turn, Queues}
 use Rattle.demands.proofs.Three.{demand-3}
 use Rattle.examples.proofs.BySteps.{asks, stays-blocked, stays-undisturbed, gone-at-last, none-higher}
@@ -129,7 +129,7 @@ readied-there P every =
 pub queues : Queues 5 3 moment
 queues = readied-there Queues (λ t typed sound s word kind begun. demand-3 t typed sound s word kind begun .queues)
 
-pub front : ahead 3 (queue 5 ending) ≡ []
+pub front : AtFront 5 3 ending
 front = rw (to-ending .now) at (queues .front later (to-ending .words) quiet all-gone)
 
 pub unhindered : Unhindered 5 ending

@@ -4,7 +4,7 @@ use mathlib.Core.Path.{_≡_, refl, ap}
 use mathlib.Core.Logic.{inl, inr}
 use mathlib.Core.List.{List, [], _∷_, _++_}
 use native.Mathlib.Omega.{arith}
-use lib.ListN.{length}
+use lib.ListN.{length, drop}
 use Rattle.fold.specs.Lists.{count, ahead, zeros}
 use Rattle.rules.specs.Tables.{levels, ready, atSemaphore, terminated, tables, task}
 use Rattle.rules.specs.Lines.{line, activeLine, readyLine}
@@ -14,8 +14,9 @@ use Rattle.rules.specs.declared.Thread.the-variants.{Task}
 use Rattle.rules.proofs.Runs.{Line, _⇒_, said, calls, T, createTask, yield, post}
 use Rattle.rules.proofs.Faster.{quickly}
 use Rattle.rules.proofs.Standing.{linesWith, _has_}
+use Rattle.turns.proofs.Fronts.{nobody-before}
 use Rattle.runs.specs.Run.{Asked, next, after, Each, AllWords}
-use Rattle.runs.specs.Turn.{BlockedOn, posts, ServedIn, ReadyAt, queue, Undisturbed, Gone, Unhindered}
+use Rattle.runs.specs.Turn.{BlockedOn, posts, ServedIn, ReadyAt, queue, AtFront, Undisturbed, Gone, Unhindered}
 use Rattle.examples.proofs.BySteps.{asks, pass, inWords, Leads, leads, anything, blocked, unchanged, stays-blocked, stays-unchanged, not-served}
 use Rattle.examples.proofs.BySteps.{none-higher}
 use Rattle.examples.proofs.Stated.{Begun, Readied, begun-there}
@@ -54,7 +55,7 @@ AllStay p i v =
 pub not-all-of-those-before : Readied AllStay → ⊥
 not-all-of-those-before every =
     let same = readied-there AllStay every later (to-ending .words) quiet in
-    omega (arith, ap length front, ap length (rw (to-ending .now, in-moment .1) at same))
+    omega (arith, ap length (nobody-before front), ap length (rw (to-ending .now, in-moment .1) at same))
 
 -- ---- "before it runs": once it runs it may yield. Then task 1 is before it again, which had yielded in its turn
 abbrev yielding : List Line
@@ -101,10 +102,13 @@ to-outranked : Leads anything 0 moment outranking 1 outranked
 unfolding quickly linesWith tablesOf pass inWords moment outranked
 to-outranked = leads anything 0 moment (to-moment .typed) (to-moment .sound) outranking 1 outranked refl refl
 
-in-outranked : ReadyAt 5 3 outranked × (ahead 3 (queue 5 outranked) ≡ []) × (running (outranked .lines) (outranked .state) ≡ Task 5)
+in-outranked : ReadyAt 5 3 outranked × (queue 5 outranked ≡ 3 ∷ drop 1 (queue 5 outranked)) × (running (outranked .lines) (outranked .state) ≡ Task 5)
     × (highestReady levels (outranked .lines) ≡ 7) × (line (outranked .lines) activeLine ≡ [])
 unfolding quickly ahead linesWith outranked
 in-outranked = ((refl, refl), refl, refl, refl, refl)
+
+foremost : AtFront 5 3 outranked
+foremost = record { behind = drop 1 (queue 5 outranked); is = in-outranked .1 }
 
 nearly-unhindered : Unhindered 6 outranked
 unfolding outranked
@@ -119,7 +123,7 @@ nearly-unhindered =
 
 abbrev pub RunsWithOneHigher : ℕ → ℕ → Tables → Type 0
 RunsWithOneHigher p i v =
-    (qs : List Asked) → AllWords v qs → ReadyAt p i (after v qs) → ahead i (queue p (after v qs)) ≡ [] → Unhindered (p + 1) (after v qs)
+    (qs : List Asked) → AllWords v qs → ReadyAt p i (after v qs) → AtFront p i (after v qs) → Unhindered (p + 1) (after v qs)
     → running (after v qs .lines) (after v qs .state) ≡ Task i
 
 pub not-with-one-higher : Readied RunsWithOneHigher → ⊥
@@ -127,7 +131,7 @@ not-with-one-higher every =
     let runs =
     rw (to-outranked .now) at
     (readied-there RunsWithOneHigher every (asks (calls outranking)) (to-outranked .words) (rw (to-outranked .now) (in-outranked .0))
-    (rw (to-outranked .now) (in-outranked .1)) (rw (to-outranked .now) nearly-unhindered)) in
+    (rw (to-outranked .now) foremost) (rw (to-outranked .now) nearly-unhindered)) in
     let other = in-outranked .2 in
     let z : _≡_ {A = ℕ} 3 5 = cc in
     omega arith

@@ -54,6 +54,11 @@ ReadyAt p i t = (task (t .tasks) i .mode ≡ ready) × (task (t .tasks) i .prior
 abbrev pub queue : ℕ → Tables → List ℕ
 queue p t = line (t .lines) (readyLine p)
 
+-- "it is at the front": it stands in the queue, and nobody before it
+pub record AtFront (p i : ℕ) (t : Tables) : Type 0 where
+  pub behind : List ℕ
+  pub is : queue p t ≡ i ∷ behind
+
 -- it does not run when the call is made, and the call leaves it its priority
 abbrev pub Undisturbed : ℕ → ℕ → Tables → Asked → Type 0
 Undisturbed p i t q = (running (t .lines) (t .state) ≢ Task i) × (task (next t q .tasks) i .priority ≡ p)

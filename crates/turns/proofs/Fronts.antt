@@ -1,12 +1,12 @@
 -- A ready task at the front of its queue, with no higher task ready, no interrupt open, no Swi active and both switches on: it runs.
 use Prim.Native.Nat.{ℕ, suc, _-_, _<_}
-use mathlib.Core.Path.{_≡_, ap, _∙_}
+use mathlib.Core.Path.{_≡_, refl, ap, _∙_}
 use mathlib.Core.Logic.{_≢_, ⊎-elim}
 use mathlib.Core.Bool.{true, false}
-use mathlib.Core.List.{List, []}
+use mathlib.Core.List.{List, [], _∷_}
 use native.Mathlib.Omega.{arith}
 use borrow.Author.Tests.{eq-eqb, ne-eqb, lt-ltb}
-use lib.ListN.{length, getD}
+use lib.ListN.{length, getD, drop}
 use Rattle.fold.specs.Lists.{count, ahead}
 use Rattle.fold.specs.Find.{highestBelow}
 use Rattle.fold.proofs.Laws.{same?, length-without}
@@ -17,19 +17,33 @@ use Rattle.rules.specs.Dispatch.{running, highestReady, front, taskDue}
 use Rattle.rules.specs.Sound.{Sound}
 use Rattle.rules.specs.declared.Tables.{Tables}
 use Rattle.rules.specs.declared.Thread.the-variants.{Task}
-use Rattle.runs.specs.Turn.{ReadyAt, queue, Unhindered}
+use Rattle.runs.specs.Turn.{ReadyAt, queue, AtFront, Unhindered}
 use Rattle.keeps.proofs.Waiting.{current-in}
 use Rattle.turns.proofs.Ahead.{first-ahead}
 use Rattle.turns.proofs.Turns.{in-queue, ready-level}
 
 -- who stands in a list with nobody before it is the first
-at-front : (i : ℕ) (xs : List ℕ) → 0 < count i xs → ahead i xs ≡ [] → getD xs 0 0 ≡ i
+is-first : (i : ℕ) (xs : List ℕ) → 0 < count i xs → ahead i xs ≡ [] → getD xs 0 0 ≡ i
 unfolding count
-at-front i xs h e =
+is-first i xs h e =
     ⊎-elim
     (λ (q : getD xs 0 0 ≡ i). q)
     (λ (n : getD xs 0 0 ≢ i). absurd (omega (arith, ap (count (getD xs 0 0)) e, first-ahead i xs (omega (arith, length-without i xs)) n)))
     (same? (getD xs 0 0) i)
+
+-- and the rest stands behind it
+first-then : (i : ℕ) (xs : List ℕ) → 0 < count i xs → ahead i xs ≡ [] → xs ≡ i ∷ drop 1 xs
+unfolding count
+first-then i [] h e = absurd (omega arith)
+first-then i (x ∷ xs) h e = ap (λ (y : ℕ). y ∷ xs) (is-first i (x ∷ xs) h e)
+
+pub at-front : (t : Tables) → Typed t → Sound t → (p i : ℕ) → ReadyAt p i t → ahead i (queue p t) ≡ [] → AtFront p i t
+at-front t typed s p i is none =
+    record { behind = drop 1 (queue p t); is = first-then i (queue p t) (in-queue t typed s p i is) none }
+
+pub nobody-before : {p i : ℕ} {t : Tables} → AtFront p i t → ahead i (queue p t) ≡ []
+unfolding ahead
+nobody-before {i = i} f = rw (f .is, eq-eqb i i refl)
 
 one-less : (p : ℕ) → suc p - 1 ≡ p
 one-less p = omega arith
@@ -67,7 +81,7 @@ module _ (t : Tables) (typed : Typed t) (s : Sound t) (p i : ℕ) (is : ReadyAt 
       s .dispatch .1 due
       ∙ ap (λ (n : ℕ). first (t .lines) (readyLine (n - 1))) highest
       ∙ ap (λ (n : ℕ). first (t .lines) (readyLine n)) (one-less p)
-      ∙ at-front i (queue p t) (in-queue t typed s p i is) first-there
+      ∙ is-first i (queue p t) (in-queue t typed s p i is) first-there
 
   pub runs-there : running (t .lines) (t .state) ≡ Task i
   unfolding running
