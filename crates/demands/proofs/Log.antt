@@ -13,7 +13,7 @@ use Rattle.fold.proofs.Laws.{same?, lt-or-le}
 use Rattle.rules.specs.Log.{halfAt, readAt, argumentBytes, argument, moveTo}
 use Rattle.rules.specs.declared.Read.{Read}
 use Rattle.rules.specs.declared.Read.the-variants.{Record, End, Cut, Length, Version}
-use Rattle.demands.specs.Log.{LengthAt, RecordAt, StandsAt}
+use Rattle.demands.specs.Log.{LengthAt, RecordAt, StandsAt, LogLayout, BigEndian, OnlyRecordsMove}
 
 module _ (s : List ℕ) (at : ℕ) where
   -- ---- the record's bytes
@@ -147,16 +147,24 @@ module _ (s : List ℕ) (at : ℕ) where
   only (Version n) (e, h, l, v) = rw e (strange l h v)
 
 -- ---- the layout: an answer is given exactly where it stands
-pub log-layout : (s : List ℕ) (at : ℕ) (r : Read) → (readAt s at ≡ r) ↔ StandsAt s at r
+pub log-layout : LogLayout
 log-layout s at r = (λ e. subst (λ (x : Read). StandsAt s at x) e (stands s at), only s at r)
 
--- a record's four arguments, "of four big-endian bytes"
-pub argument-is : (bytes : List ℕ) (n : ℕ)
-    → argument bytes n
-    ≡ getD bytes (n * 4) 0 * 16777216 + getD bytes (n * 4 + 1) 0 * 65536 + getD bytes (n * 4 + 2) 0 * 256 + getD bytes (n * 4 + 3) 0
-argument-is bytes n = let e : n * 4 + 2 + 1 ≡ n * 4 + 3 = omega arith in rw e (omega arith)
+pub big-endian : BigEndian
+big-endian bytes n = let e : n * 4 + 2 + 1 ≡ n * 4 + 3 = omega arith in rw e (omega arith)
 
--- "only a good record moves it": by its twenty bytes
-pub record-moves : (s : List ℕ) (at number start : ℕ) → readAt s at ≡ Record number start → moveTo (readAt s at) at ≡ at + 20
+record-moves : (s : List ℕ) (at number start : ℕ) → readAt s at ≡ Record number start → moveTo (readAt s at) at ≡ at + 20
 unfolding moveTo
 record-moves s at number start e = let (d, _) = log-layout s at (Record number start) .0 e in rw e (omega arith)
+
+-- by what was read
+stays : (r : Read) (at : ℕ) → ((number start : ℕ) → r ≢ Record number start) → moveTo r at ≡ at
+unfolding moveTo
+stays (Record number start) at n = absurd (n number start refl)
+stays End at n = refl
+stays (Cut k) at n = refl
+stays (Length k) at n = refl
+stays (Version k) at n = refl
+
+pub only-records-move : OnlyRecordsMove
+only-records-move s at = (record-moves s at, stays (readAt s at) at)

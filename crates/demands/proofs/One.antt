@@ -10,16 +10,16 @@ use Rattle.rules.specs.Step.{stepOf}
 use Rattle.rules.specs.declared.Tables.{Tables}
 use Rattle.rules.specs.declared.Thread.{Thread}
 use Rattle.rules.specs.declared.Thread.the-variants.{Task}
-use Rattle.runs.specs.Run.{Asked, made}
+use Rattle.runs.specs.Run.{made}
 use Rattle.refusals.proofs.Demand.{code-is, exactly-in, accepted-in, left-alone}
 use Rattle.refusals.proofs.First.{by-bool}
-use Rattle.demands.specs.One.{Answered, threadOf}
+use Rattle.demands.specs.One.{DemandOne, threadOf}
 
 -- the thread that a refusal leaves is the tables' own, on sound tables and on others
 thread-is : (t : Tables) → if (sound t) (running (t .lines) (t .state)) (Task 0) ≡ threadOf t
 thread-is t = by-bool (sound t) (λ e. rw e) (λ e. rw e)
 
-pub demand-1 : (t : Tables) (q : Asked) → Answered t q (made t q)
+pub demand-1 : DemandOne
 unfolding ahead allOf
 demand-1 t q =
     record {

@@ -24,6 +24,7 @@ promised t q e types =
       kept = λ given.
           let s : Sound t = search in
           subst (λ (x : Step). Kept t q x) (sym e) (demand-2 t (types s .0) s q (types s .1));
+      types = types;
     }
 
 -- what is put together anew is the same

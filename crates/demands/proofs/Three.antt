@@ -14,12 +14,12 @@ use Rattle.rules.specs.declared.Tables.{Tables}
 use Rattle.runs.specs.Run.{Asked, Words, made, next, after, Each, AllWords}
 use Rattle.runs.specs.Turn.{beforeAt, ServedIn, ReadyAt, Undisturbed}
 use Rattle.turns.proofs.Made.{next-typed, next-sound}
-use Rattle.turns.proofs.Begins.{begins, behind}
+use Rattle.turns.proofs.Begins.{begins, behind, at-back}
 use Rattle.turns.proofs.Waits.{turn, in-time}
 use Rattle.turns.proofs.Ahead.{sub-length}
 use Rattle.turns.proofs.Queues as InTurn
 use Rattle.turns.proofs.Fronts.{at-front, nobody-before, runs-there}
-use Rattle.demands.specs.Three.{Queues, ArrivalOrder, Turn, pend}
+use Rattle.demands.specs.Three.{DemandThree, Queues, ArrivalOrder, Turn, pend}
 use Rattle.demands.proofs.Two.{sound-after}
 
 -- what follows of each call from what is known of each
@@ -84,11 +84,11 @@ module _ (t : Tables) (typed : Typed t) (sound : Sound t) (s : ℕ) (word : s < 
       let u = after (next t (pend s)) (x .before) in
       rw (x .now) (next-typed u ty so (x .post) here, next-sound u ty so (x .post) here)
 
-  pub demand-3 : Turn s (current (t .state)) (line (t .lines) (semaphoreLine s)) (next t (pend s))
-  demand-3 =
+  turn-comes : Turn s (current (t .state)) (line (t .lines) (semaphoreLine s)) (next t (pend s))
+  turn-comes =
       let w = begins t typed sound s word (omega (arith, arrival)) waits in
       record {
-        behind = behind-others;
+        behind = at-back t typed sound s word (omega (arith, arrival)) waits;
         waits =
             record {
               turn = λ qs words.
@@ -104,3 +104,6 @@ module _ (t : Tables) (typed : Typed t) (sound : Sound t) (s : ℕ) (word : s < 
             let (ty, so) = moment-sound qs words x in
             queues-in-turn (x .moment) ty so (task (x .moment .tasks) (current (t .state)) .priority) (current (t .state)) (x .ready, refl);
       }
+
+pub demand-3 : DemandThree
+demand-3 = turn-comes

@@ -25,7 +25,7 @@ use Rattle.refusals.proofs.First.{by-bool}
 use Rattle.refusals.specs.Refusals.{refusal}
 use Rattle.keeps.proofs.Nothing.{nothing-left}
 use Rattle.turns.proofs.Made.{is-step, next-typed, next-sound}
-use Rattle.demands.specs.Two.{Kept}
+use Rattle.demands.specs.Two.{DemandTwo, Kept}
 
 step-thread : (t : Tables) (q : Asked)
     → step t (q .number) (q .a) (q .b) (q .c) (q .d) .thread
@@ -51,11 +51,9 @@ module _ (t : Tables) (typed : Typed t) (s : Sound t) (q : Asked) (w : Words q) 
   unfolding allOf
   to-10 = rw (code-is t q) (given-to 10 order (refusal t q) refl)
 
-  pub demand-2 : Kept t q (made t q)
-  demand-2 =
+  is-kept : Kept t q (made t q)
+  is-kept =
       record {
-        typedBefore = typed;
-        words = w;
         effect = is-step t s q;
         tested = λ e. omega (arith, e, not-10, to-10);
         typed = next-typed t typed s q w;
@@ -63,6 +61,9 @@ module _ (t : Tables) (typed : Typed t) (s : Sound t) (q : Asked) (w : Words q) 
         thread = subst (λ (r : Step). r .thread ≡ running (r .tables .lines) (r .tables .state)) (sym (is-step t s q)) (step-thread t q);
         settled = nothing-left (next t q) (next-sound t typed s q w);
       }
+
+pub demand-2 : DemandTwo
+demand-2 = is-kept
 
 -- ---- "Fresh tables are sound"
 pub fresh-typed : Typed fresh

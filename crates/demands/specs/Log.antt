@@ -1,10 +1,10 @@
 -- Demand 2, "Log records are read by exactly its layout": what stands at a position of a log, by its bytes.
-use Prim.Native.Nat.{ℕ, _+_, _<_, _≤_}
+use Prim.Native.Nat.{ℕ, _+_, _*_, _<_, _≤_}
 use mathlib.Core.Path.{_≡_}
-use mathlib.Core.Logic.{_≢_, _⊎_}
+use mathlib.Core.Logic.{_≢_, _⊎_, _↔_}
 use mathlib.Core.List.{List, _∷_, _++_}
 use lib.ListN.{length, drop, getD}
-use Rattle.rules.specs.Log.{argumentBytes}
+use Rattle.rules.specs.Log.{readAt, argumentBytes, argument, moveTo}
 use Rattle.rules.specs.declared.Read.{Read}
 use Rattle.rules.specs.declared.Read.the-variants.{Record, End, Cut, Length, Version}
 
@@ -26,3 +26,21 @@ StandsAt s at End = length s ≡ at
 StandsAt s at (Cut n) = (n ≡ at) × ((length s < at) ⊎ (length s ≡ at + 1) ⊎ (LengthAt s at × (length s < at + 20)))
 StandsAt s at (Length n) = (n ≡ at) × (at + 2 ≤ length s) × (LengthAt s at → ⊥)
 StandsAt s at (Version n) = (n ≡ at) × (at + 20 ≤ length s) × LengthAt s at × (getD s (at + 2) 0 ≢ 0x01)
+
+-- the demand: an answer is given exactly where it stands
+abbrev pub LogLayout : Type 0
+LogLayout = (s : List ℕ) (at : ℕ) (r : Read) → (readAt s at ≡ r) ↔ StandsAt s at r
+
+-- "four arguments of four big-endian bytes"
+abbrev pub BigEndian : Type 0
+BigEndian =
+    (bytes : List ℕ) (n : ℕ)
+    → argument bytes n
+    ≡ getD bytes (n * 4) 0 * 16777216 + getD bytes (n * 4 + 1) 0 * 65536 + getD bytes (n * 4 + 2) 0 * 256 + getD bytes (n * 4 + 3) 0
+
+-- "only a good record moves it": by its twenty bytes, and what is no record leaves it
+abbrev pub OnlyRecordsMove : Type 0
+OnlyRecordsMove =
+    (s : List ℕ) (at : ℕ)
+    → ((number start : ℕ) → readAt s at ≡ Record number start → moveTo (readAt s at) at ≡ at + 20)
+    × (((number start : ℕ) → readAt s at ≢ Record number start) → moveTo (readAt s at) at ≡ at)

@@ -13,7 +13,7 @@ use Rattle.rules.specs.declared.Tables.{Tables}
 use Rattle.rules.specs.declared.Step.{Step}
 use Rattle.rules.specs.declared.Thread.{Thread}
 use Rattle.rules.specs.declared.Thread.the-variants.{Task}
-use Rattle.runs.specs.Run.{Asked}
+use Rattle.runs.specs.Run.{Asked, made}
 use Rattle.refusals.specs.Refusals.{refusal, None}
 
 -- the running thread of any tables: "with code 10 the thread given is T0"
@@ -30,3 +30,7 @@ pub record Answered (t : Tables) (q : Asked) (s : Step) : Type 0 where
   -- "A refusal has outcome 0, value 0 and no change; with code 10 the thread given is T0."
   pub refused : s .answer .code ≢ 0
       → s ≡ stepOf t (answer (s .answer .code) 0 0) (threadOf t)
+
+-- the demand: of any tables and any call
+abbrev pub DemandOne : Type 0
+DemandOne = (t : Tables) (q : Asked) → Answered t q (made t q)

@@ -7,6 +7,7 @@ use mathlib.Core.Bool.{Bool, _&&_}
 use mathlib.Core.List.{List, [], _∷_}
 use lib.Dec.{eqb}
 use Rattle.fold.specs.Lists.{bit}
+use Rattle.rules.specs.Tables.{Typed}
 use Rattle.rules.specs.Sound.{Sound}
 use Rattle.rules.specs.declared.Tables.{Tables}
 use Rattle.rules.specs.declared.Step.{Step}
@@ -46,3 +47,4 @@ pub record AsEntered (t : Tables) (es : List Entered) : Type 0 where
   pub posts : (s : ℕ) → postsIn s es ≡ posts s t (calls es)
   pub words : AllWords t (calls es)
   pub sound : Sound (tablesAfter t es)
+  pub typed : Typed t → Typed (tablesAfter t es)

@@ -5,14 +5,17 @@
 use Prim.Native.Nat.{ℕ, _+_, _<_, _≤_}
 use mathlib.Core.Path.{_≡_}
 use mathlib.Core.Logic.{_⊎_}
-use mathlib.Core.List.{List, [], Sublistᴰ}
+use mathlib.Core.List.{List, [], _∷_, _++_, Sublistᴰ}
 use lib.ListN.{length}
 use Rattle.fold.specs.Lists.{count, ahead}
-use Rattle.rules.specs.Tables.{forever, task, semaphore, KIND}
+use Rattle.rules.specs.Tables.{Typed, wordEnd, forever, task, current, semaphore, KIND}
+use Rattle.rules.specs.Answer.{nowWaiting}
+use Rattle.rules.specs.Lines.{line, semaphoreLine}
 use Rattle.rules.specs.Dispatch.{running}
+use Rattle.rules.specs.Sound.{Sound}
 use Rattle.rules.specs.declared.Tables.{Tables}
 use Rattle.rules.specs.declared.Thread.the-variants.{Task}
-use Rattle.runs.specs.Run.{Asked, asked, after, Always, Each, AllWords}
+use Rattle.runs.specs.Run.{Asked, asked, made, next, after, Always, Each, AllWords}
 use Rattle.runs.specs.Turn.{BlockedOn, beforeAt, posts, ServedIn, ReadyAt, queue, AtFront, Undisturbed, Gone, Unhindered}
 
 -- ---- the waiter: task i at semaphore s, behind k others, in tables u
@@ -49,8 +52,15 @@ pend s = asked 0x22 s forever 0 0
 
 -- task i began to wait at s behind these others, and the tables are u
 pub record Turn (s i : ℕ) (others : List ℕ) (u : Tables) : Type 0 where
-  pub behind : beforeAt s i u ≡ others
+  pub behind : line (u .lines) (semaphoreLine s) ≡ others ++ (i ∷ [])
   pub waits : Waits s i (length others) u
   -- from the moment when it is readied
   pub queues : (qs : List Asked) → AllWords u qs → (x : ServedIn s i (length others) u qs)
       → Queues (task (x .moment .tasks) i .priority) i (x .moment)
+
+-- the demand: of sound tables in which the current task begins to wait without end at an arrival-order semaphore; the others are those who stood in
+-- the line before the call
+abbrev pub DemandThree : Type 0
+DemandThree =
+    (t : Tables) → Typed t → Sound t → (s : ℕ) → s < wordEnd → ArrivalOrder s t → made t (pend s) .answer .outcome ≡ nowWaiting
+    → Turn s (current (t .state)) (line (t .lines) (semaphoreLine s)) (next t (pend s))

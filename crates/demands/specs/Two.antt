@@ -8,13 +8,10 @@ use Rattle.rules.specs.Sound.{Sound}
 use Rattle.rules.specs.Step.{step}
 use Rattle.rules.specs.declared.Tables.{Tables}
 use Rattle.rules.specs.declared.Step.{Step}
-use Rattle.runs.specs.Run.{Asked, Words}
+use Rattle.runs.specs.Run.{Asked, Words, made}
 
 -- the call q on sound tables t left s
 pub record Kept (t : Tables) (q : Asked) (s : Step) : Type 0 where
-  -- what the types say: the arrays' lengths, and that arguments are words
-  pub typedBefore : Typed t
-  pub words : Words q
   -- what the call does is the definition's step: the test of soundness may be skipped, and code 10 never comes
   pub effect : s ≡ step t (q .number) (q .a) (q .b) (q .c) (q .d)
   pub tested : s .answer .code ≢ 10
@@ -25,3 +22,7 @@ pub record Kept (t : Tables) (q : Asked) (s : Step) : Type 0 where
   pub thread : s .thread ≡ running (s .tables .lines) (s .tables .state)
   pub settled : dispatched (s .tables .swis) (s .tables .lines) (s .tables .state)
       ≡ dispatchedOf (s .tables .swis) (s .tables .lines) (s .tables .state)
+
+-- the demand: of sound tables whose arrays have their types' lengths, and any call whose arguments are words
+abbrev pub DemandTwo : Type 0
+DemandTwo = (t : Tables) → Typed t → Sound t → (q : Asked) → Words q → Kept t q (made t q)

@@ -20,7 +20,7 @@ pub stepped : (t : Tables) (number a b c d : ℕ) → Typed t → Words a b c d 
 stepped t number a b c d typed w e sound =
     let is = e ∙ quick-is-step t number a b c d sound in
     let left : Safe (step t number a b c d .tables) =
-        record { typed = step-typed t typed sound number a b c d w; sound = step-sound t typed sound number a b c d w } in
+    record { typed = step-typed t typed sound number a b c d w; sound = step-sound t typed sound number a b c d w } in
     record { is = is; safe = subst (λ (r : Step). Safe (r .tables)) (sym is) left; typed = typed; words = w }
 
 -- on safe tables `step` is the call with its test

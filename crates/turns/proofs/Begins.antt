@@ -105,7 +105,7 @@ module _ (t : Tables) (typed : Typed t) (sound : Sound t) (s : ℕ) (word : s < 
       let apart : taskHome (t .tasks) i ≢ semaphoreLine s = λ e. omega (arith, rw (current-ready t sound) at e) in
       almost .standing .tasks i (semaphoreLine s) (inl (omega arith)) ∙ bit-other _ _ apart
 
-  at-back : line (next t q .lines) (semaphoreLine s) ≡ line (t .lines) (semaphoreLine s) ++ (i ∷ [])
+  pub at-back : line (next t q .lines) (semaphoreLine s) ≡ line (t .lines) (semaphoreLine s) ++ (i ∷ [])
   unfolding homeBy
   at-back =
       let low = here in
