@@ -19,9 +19,9 @@ use switches::switch_call;
 use tasks::task_call;
 ghost use mathlib.Core.Path.{_≡_};
 ghost use Rattle.rules.specs.Answer.{after, answered};
-ghost use Rattle.rules.specs.Tables.{tables};
 ghost use Rattle.rules.specs.Dispatch.{context};
 ghost use Rattle.rules.specs.Step.{callOf};
+ghost use Rattle.lent.specs.Lent.{before, leaves};
 
 // The call by its kind's range of sixteen numbers.
 pub fn any_call(
@@ -40,19 +40,24 @@ pub fn any_call(
     c: u32,
     d: u32,
 ) -> Answer
-    ensures { λ r. ⌜ after r (tables (now (tasks .exit)) (now (lines .exit)) (now (semaphores .exit)) (now (events .exit)) (now (mailboxes .exit)) (now (swis .exit)) (now (clocks .exit)) (now (heap .exit)) (now (state .exit)))
-        ≡ answered (tables (now (tasks .entry)) (now (lines .entry)) (now (semaphores .entry)) (now (events .entry)) (now (mailboxes .entry)) (now (swis .entry)) (now (clocks .entry)) (now (heap .entry)) (now (state .entry))) (callOf (tables (now (tasks .entry)) (now (lines .entry)) (now (semaphores .entry)) (now (events .entry)) (now (mailboxes .entry)) (now (swis .entry)) (now (clocks .entry)) (now (heap .entry)) (now (state .entry))) (context (now (lines .entry)) (now (state .entry))) number a b c d) ⌝ }
+    ensures { λ r. ⌜ after r (leaves tasks lines semaphores events mailboxes swis clocks heap state)
+        ≡ answered
+        (before tasks lines semaphores events mailboxes swis clocks heap state)
+        (callOf
+        (before tasks lines semaphores events mailboxes swis clocks heap state)
+        (context (now (lines .entry)) (now (state .entry)))
+        number a b c d) ⌝ }
 {
     let x = dispatch::context(lines, state);
-    match number / 16 {
-        0 => task_call(tasks, lines, state, x, number, a, b, c, d),
-        1 => swi_call(swis, lines, clocks, state, x, number, a, b, c, d),
-        2 => semaphore_call(tasks, lines, semaphores, state, x, number, a, b, c, d),
-        3 => event_call(tasks, lines, events, state, x, number, a, b, c, d),
-        4 => mailbox_call(tasks, lines, mailboxes, state, x, number, a, b, c, d),
-        5 => clock_call(clocks, swis, x, number, a, b, c, d),
-        6 => heap_call(heap, x, number, a, b, c, d),
-        7 => switch_call(tasks, lines, swis, clocks, state, x, number, a, b, c, d),
+    match number {
+        0x00..=0x0f => task_call(tasks, lines, state, x, number, a, b, c, d),
+        0x10..=0x1f => swi_call(swis, lines, clocks, state, x, number, a, b, c, d),
+        0x20..=0x2f => semaphore_call(tasks, lines, semaphores, state, x, number, a, b, c, d),
+        0x30..=0x3f => event_call(tasks, lines, events, state, x, number, a, b, c, d),
+        0x40..=0x4f => mailbox_call(tasks, lines, mailboxes, state, x, number, a, b, c, d),
+        0x50..=0x5f => clock_call(clocks, swis, x, number, a, b, c, d),
+        0x60..=0x6f => heap_call(heap, x, number, a, b, c, d),
+        0x70..=0x7f => switch_call(tasks, lines, swis, clocks, state, x, number, a, b, c, d),
         _ => rows::answers::refused(1),
     }
 }

@@ -5,23 +5,25 @@ use mathlib.Core.Bool.{true, false}
 use mathlib.Core.List.{List, [], _∷_, _++_}
 use Rattle.fold.specs.Lists.{zeros}
 use Rattle.fold.specs.Rule.{holds}
-use Rattle.rules.specs.Answer.{After, accepted, refused, called, answered, given, never, done}
-use Rattle.rules.specs.Tables.{task, forever, ready, atSemaphore}
-use Rattle.rules.specs.Lines.{line, joined, queued, semaphoreLine, activeLine, readyLine}
+use Rattle.rules.specs.Answer.{After, accepted, refused, called, answered, codeOf, given, never, done}
+use Rattle.rules.specs.Tables.{task, forever, ready, sleeping, atSemaphore}
+use Rattle.rules.specs.Lines.{line, joined, queued, semaphoreLine, postedLine, activeLine, readyLine}
 use Rattle.rules.specs.Waits.{ticksFor, served}
 use Rattle.rules.specs.Tasks.{reprioritized}
 use Rattle.rules.specs.Swis.{posts, endEffect}
 use Rattle.rules.specs.Semaphores.{placeIn, postEffect}
-use Rattle.rules.specs.Events.{matched}
+use Rattle.rules.specs.Events.{freeEvent, matched, postCases, postEffect as postEvent}
+use Rattle.rules.specs.Tick.{Ticked, taskTick, tickedOf, ticked}
+use Rattle.rules.specs.Dispatch.{started}
 use Rattle.rules.specs.Sound.{otherRule}
 use Rattle.rules.specs.Step.{settled, finished}
 use Rattle.rules.specs.declared.Tables.{Tables}
 use Rattle.rules.proofs.Computed.{computed}
 use Rattle.rules.proofs.Standing.{linesWith, _has_}
 
--- tasks 1, at this priority, and 2, at 5, wait without end at semaphore 0
-abbrev pub waiters : ℕ → List ℕ
-waiters p = (ready ∷ zeros 7) ++ (atSemaphore ∷ p ∷ zeros 6) ++ (atSemaphore ∷ 5 ∷ zeros 6) ++ zeros 232
+-- tasks 1, at this priority and with so many ticks left, and 2, at 5 and without end, wait at semaphore 0
+abbrev pub waiters : ℕ → ℕ → List ℕ
+waiters p n = (ready ∷ zeros 7) ++ (atSemaphore ∷ p ∷ 0 ∷ n ∷ zeros 4) ++ (atSemaphore ∷ 5 ∷ zeros 6) ++ zeros 232
 
 -- their line, and task 0 ready
 abbrev pub waiting : List ℕ
@@ -36,9 +38,26 @@ counting n = 1 ∷ 0 ∷ n ∷ zeros 45
 abbrev pub taking : ℕ → List ℕ
 taking n = 1 ∷ 3 ∷ 5 ∷ 5 ∷ 0 ∷ n ∷ zeros 90
 
+-- the same, posted with this trigger
+abbrev pub postedWith : ℕ → List ℕ
+postedWith n = 1 ∷ 3 ∷ 5 ∷ n ∷ 1 ∷ zeros 91
+
+-- an event with these bits
+abbrev pub bits : ℕ → List ℕ
+bits n = 1 ∷ n ∷ zeros 14
+
 -- depth 0, both switches on, and this current task
 abbrev pub currently : ℕ → List ℕ
 currently i = 0 ∷ 1 ∷ 1 ∷ 0 ∷ i ∷ []
+
+-- a clock comes to 0 and posts Swi 3, and task 1's sleep ends, at priority 0. Nobody can tell the order on sound tables, since Swis and tasks stand
+-- in lines of their own; the Swi's priority is 17, and that line is the ready queue of 0
+abbrev pub together : Ticked
+unfolding linesWith
+together =
+    tickedOf ((ready ∷ zeros 7) ++ (sleeping ∷ 0 ∷ 0 ∷ 1 ∷ zeros 244)) (linesWith []) (zeros 18 ++ (1 ∷ 17 ∷ zeros 76))
+    (1 ∷ 3 ∷ 1 ∷ 0 ∷ 1 ∷ zeros 75)
+    (currently 0)
 
 pub record Sentences : Type 0 where
   -- "a code is given exactly in its case": where no case holds the call has its effect
@@ -47,24 +66,39 @@ pub record Sentences : Type 0 where
   pub refuses : (t : List ℕ) (e : After (List ℕ)) → answered t (called (given 5 true never) e) ≡ refused 5 t
   -- 'The answer': what the call answered is given, whoever runs next
   pub answers : (r : After Tables) → finished r .answer ≡ r .answer
+  -- code 3, "an object number out of range or not in use": event 0 is in range
+  pub not-in-use : codeOf (postCases (zeros 16) 0 0 0) ≡ 3
+  -- "a new object takes the lowest free number": event 0 is in use
+  pub lowest : freeEvent (bits 0) ≡ 1
   -- "After each accepted call .. the current task becomes the front of the highest non-empty ready queue": from task 1, blocked, to task 0
   pub dispatches : settled 0 [] waiting (currently 1) .state ≡ currently 0
+  -- "its trigger is kept as taken and set back to its initial value" where it starts
+  pub starts : started 0 (postedLine 3) (posts (postedWith 7) []) .swis ≡ taking 7
   -- "Tasks join queues at the back."
   pub joins : line (joined (readyLine 0) 3 waiting) (readyLine 0) ≡ 0 ∷ 3 ∷ []
   -- "02 set priority: .. a blocked task keeps its place in line"
-  pub keeps-place : reprioritized (queued (waiters 5) waiting) 1 6 ≡ queued (waiters 6) waiting
+  pub keeps-place : reprioritized (queued (waiters 5 0) waiting) 1 6 ≡ queued (waiters 6 0) waiting
   -- "Limit 4,294,967,295 is without end.", and any other is its ticks
   pub without-end : ticksFor forever ≡ 0
   pub limited : ticksFor 7 ≡ 7
   -- "Kinds 0 and 1 wait in arrival order"
-  pub arrival : placeIn 0 (waiters 5) 5 (1 ∷ 2 ∷ []) ≡ 2
+  pub arrival : placeIn 0 (waiters 5 0) 5 (1 ∷ 2 ∷ []) ≡ 2
   -- "23 post: .. the first waiter ready": the second waits on
-  pub wakes : line (postEffect (served (waiters 5) waiting (counting 0)) 0 .next .lines) (semaphoreLine 0) ≡ 2 ∷ []
+  pub wakes : line (postEffect (served (waiters 5 0) waiting (counting 0)) 0 .next .lines) (semaphoreLine 0) ≡ 2 ∷ []
   -- "or value 0 and count one up", where nobody waits
   pub counts : postEffect (served [] [] (counting 0)) 0 ≡ accepted done 0 (served [] [] (counting 1))
+  -- value 1 and a waiter ready, "or" the count: not both
+  pub wakes-only : postEffect (served (waiters 5 0) waiting (counting 0)) 0 .next .objects ≡ counting 0
+  -- "33 post: .. value 1 if it did, else 0": nobody was served
+  pub unserved : postEvent (served [] [] (bits 0)) 0 1 ≡ accepted done 0 (served [] [] (bits 1))
   -- "the whole and-mask if all its bits are posted", and no part of it
   pub no-part : matched 1 3 0 ≡ 0
   pub whole-mask : matched 3 3 0 ≡ 3
+  -- "at 0 the task leaves its line and is ready"
+  pub leaves : line (taskTick (queued (waiters 5 1) waiting) 1 .lines) (semaphoreLine 0) ≡ 2 ∷ []
+  pub is-ready : line (taskTick (queued (waiters 5 1) waiting) 1 .lines) (readyLine 5) ≡ 1 ∷ []
+  -- "Then running clocks ..": they come before the tasks
+  pub clocks-first : line (ticked together .lines) (readyLine 0) ≡ 3 ∷ 1 ∷ []
   -- "fields without meaning at the time (.., the taken trigger of a Swi not active)" are 0: a Swi that ends has none
   pub ends : endEffect (posts (taking 2) (linesWith (activeLine has (0 ∷ []) ∷ []))) .next .swis ≡ taking 0
   -- "fields without meaning at the time (.., an ended wait's data, ..)" are 0: a ready task has no ticks left
@@ -78,7 +112,10 @@ sentences =
       accepts = λ t e. refl;
       refuses = λ t e. refl;
       answers = λ r. refl;
+      not-in-use = refl;
+      lowest = refl;
       dispatches = refl;
+      starts = refl;
       joins = refl;
       keeps-place = refl;
       without-end = refl;
@@ -86,8 +123,13 @@ sentences =
       arrival = refl;
       wakes = refl;
       counts = refl;
+      wakes-only = refl;
+      unserved = refl;
       no-part = refl;
       whole-mask = refl;
+      leaves = refl;
+      is-ready = refl;
+      clocks-first = refl;
       ends = refl;
       ended-wait = refl;
       no-wait = refl;

@@ -49,8 +49,8 @@ pub fn move_by_priority(tasks: &mut Tasks, lines: &mut Lines, i: u32, k: Task, p
     ensures { λ _. ⌜ queued (now (tasks .exit)) (now (lines .exit)) ≡ moved (byPriority (now (tasks .entry)) p) i k (queued (now (tasks .entry)) (now (lines .entry))) ⌝ }
 {
     if i < 32 {
-        let old = words::task(tasks, i as usize);
-        rows::lines::leave(lines, rows::readings::home_of(old), i as u8);
+        let was = words::task(tasks, i as usize);
+        rows::lines::leave(lines, rows::readings::home_of(was), i as u8);
         enter_by_priority(tasks, lines, rows::readings::home_of(k), i as u8, p);
         words::set_task(tasks, i as usize, k);
     }

@@ -1,4 +1,4 @@
--- `clocks::age` meets its contract: a walk of its MIR, by hand. The borrow is opened, the record is copied out and passed to `aged`, the record that comes back is stored in its place, and the borrow is closed there.
+-- `ageing::age` meets its contract: a walk of its MIR, by hand. The borrow is opened, the record is copied out and passed to `aged`, the record that comes back is stored in its place, and the borrow is closed there.
 -- All that the proof knows of `aged` is that it meets its contract.
 -- Assumes nothing.
 use mathlib.Core.Path.{_≡_, refl, ap}

@@ -1,4 +1,4 @@
--- `clocks::age_one` meets its contract: a walk of its MIR, by hand. The record is put in a local, the local is lent to `age` for a lifetime that is made for the call, and is read when it has come back.
+-- `ageing::age_one` meets its contract: a walk of its MIR, by hand. The record is put in a local, the local is lent to `age` for a lifetime that is made for the call, and is read when it has come back.
 -- All that the proof knows of `age` is that it meets its contract. A record of plain data owns nothing but facts, so what it owns is made anew where it is wanted.
 -- Assumes nothing.
 use mathlib.Core.Path.{_≡_, refl, ap}
