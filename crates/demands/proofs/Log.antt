@@ -10,7 +10,7 @@ use lib.Dec.{eqb, ltb}
 use lib.ListN.{length, take, drop, getD, take-append-drop, length-append, length-drop}
 use lib.Seq.{drop-cons, drop-drop, getD-drop, take-at, length-take-le}
 use Rattle.fold.proofs.Laws.{same?, lt-or-le}
-use Rattle.rules.specs.Log.{halfAt, readAt, argumentBytes, argument, moveTo}
+use Rattle.rules.specs.Log.{halfAt, readAt, argumentBytes, handedOut, argument, moveTo}
 use Rattle.rules.specs.declared.Read.{Read}
 use Rattle.rules.specs.declared.Read.the-variants.{Record, End, Cut, Length, Version}
 use Rattle.demands.specs.Log.{LengthAt, RecordAt, StandsAt}
@@ -149,6 +149,12 @@ module _ (s : List ℕ) (at : ℕ) where
 -- ---- the layout: an answer is given exactly where it stands
 pub log-layout : (s : List ℕ) (at : ℕ) (r : Read) → (readAt s at ≡ r) ↔ StandsAt s at r
 log-layout s at r = (λ e. subst (λ (x : Read). StandsAt s at x) e (stands s at), only s at r)
+
+-- "it hands out each record's sixteen argument bytes as that part of the log": the sixteen of the layout
+pub record-hands-out : (s : List ℕ) (at number : ℕ) (arguments : List ℕ) → RecordAt s at number arguments → handedOut s (at + 4) ≡ arguments
+unfolding handedOut
+record-hands-out s at number arguments r =
+    rw (le-ltb (length s) (at + 4 + 16) (omega (arith, whole s at number arguments r))) (arguments-are s at number arguments r)
 
 -- a record's four arguments, "of four big-endian bytes"
 pub argument-is : (bytes : List ℕ) (n : ℕ)
