@@ -16,21 +16,21 @@ same-reader : (r s : Reader) → r .log ≡ s .log → r .at ≡ s .at → r ≡
 same-reader r s p q = let e : _≡_ {A = Reader} (record { log = r .log; at = r .at }) (record { log = s .log; at = s .at }) = cc in e
 
 -- ---- `step_at` and `read_next`: what stands at a position of a log, and the position after it
-abbrev Stepped : List ℕ → ℕ → Step → Type 0
+abbrev pub Stepped : List ℕ → ℕ → Step → Type 0
 Stepped log at r = (r .found ≡ readAt log at) × (r .at ≡ moveTo (r .found) at)
 
 pub one-step : (log : List ℕ) (at : ℕ) (r s : Step) → Stepped log at r → Stepped log at s → r ≡ s
 one-step log at r s p q = same-step r s (cc) (cc)
 
 -- ---- `Reader::new`: a reader of the log that was passed, at its start
-abbrev Begun : RefT (List ℕ) → Reader → Type 0
+abbrev pub Begun : RefT (List ℕ) → Reader → Type 0
 Begun log r = (r .log ≡ log) × (r .at ≡ 0)
 
 pub one-reader : (log : RefT (List ℕ)) (r s : Reader) → Begun log r → Begun log s → r ≡ s
 one-reader log r s p q = same-reader r s (cc) (cc)
 
 -- ---- `Reader::next`: what a reader answers, and the reader that is left
-abbrev Found : Reader → Read → Reader → Type 0
+abbrev pub Found : Reader → Read → Reader → Type 0
 Found before r after =
     (r ≡ readAt (now (before .log)) (before .at)) × ((after .log ≡ before .log) × (after .at ≡ moveTo r (before .at)))
 
