@@ -1,6 +1,8 @@
 -- What a reader that reads a log three times finds and hands out.
 use Prim.Native.Nat.{ℕ}
+use mathlib.Core.Bool.{Bool, false, _&&_}
 use mathlib.Core.List.{List}
+use lib.Dec.{eqb}
 use lib.ListN.{length}
 use Rattle.rules.specs.Log.{readAt, handedOut, argument, moveTo}
 use Rattle.rules.specs.declared.Read.{Read}
@@ -40,3 +42,21 @@ walked s =
     let second = readAt s (moveTo first 0) in
     let third = readAt s (moveTo second (moveTo first 0)) in
     walkedBy s first second third (moveTo third (moveTo second (moveTo first 0)))
+
+-- ---- what the program expects
+unfoldable pub isRecord : Read → ℕ → ℕ → Bool
+isRecord (Record number start) n s = eqb number n && eqb start s
+isRecord End n s = false
+isRecord (Cut k) n s = false
+isRecord (Length k) n s = false
+isRecord (Version k) n s = false
+
+unfoldable pub isVersion : Read → ℕ → Bool
+isVersion (Record number start) n = false
+isVersion End n = false
+isVersion (Cut k) n = false
+isVersion (Length k) n = false
+isVersion (Version k) n = eqb k n
+
+abbrev pub areIn : Arguments → ℕ → ℕ → Bool
+areIn r a b = (((eqb (r .len) 16 && eqb (r .a) a) && eqb (r .b) b) && eqb (r .c) 0) && eqb (r .d) 0

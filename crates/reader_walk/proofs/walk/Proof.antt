@@ -66,8 +66,10 @@ use Rattle.reader_walk.proofs.start_of.Met as start-of-thm
 use Rattle.reader_walk.proofs.arguments_in.Symbol as arguments-in-def
 use Rattle.reader_walk.proofs.arguments_in.Symbol.{name as #arguments-in}
 use Rattle.reader_walk.proofs.arguments_in.Met as arguments-in-thm
-use Rattle.reader_walk.proofs.Calls as c
-use Rattle.reader_walk.proofs.Calls.{New, Next, StartOf, HandsOut, ArgumentsIn, slice, found}
+use Rattle.calllog.proofs.Calls as c
+use Rattle.calllog.proofs.Calls.{New, Next, HandsOut, slice, found}
+use Rattle.reader_walk.proofs.Calls as own
+use Rattle.reader_walk.proofs.Calls.{StartOf, ArgumentsIn, words}
 use Rattle.reader_walk.proofs.Walking.{walked-is}
 use Rattle.reader_walk.proofs.walk.Key.{name as #walk}
 use Rattle.reader_walk.proofs.walk as the-fn
@@ -77,10 +79,7 @@ use Rattle.reader_walk.proofs.walk.Code as code
 abbrev stayed : Stays (the-fn.ended .signature .params) (the-fn.ended .kept)
 stayed = (stay-none-slice (0 ∷ []) tt (plain (λ _. u8)) yes, tt)
 
--- the machine values of arguments and of what is answered
-abbrev words : Arguments → Val
-words a = LL.val P.the-type P′.the-laws a
-
+-- the machine value of what is answered
 abbrev out : Walked → Val
 out w = LL.val K.the-type K′.the-laws w
 
@@ -141,7 +140,7 @@ module _ {M : Type 1} (𝓤 : URA M) (H : Heap 𝓤) (A : Atoms 𝓤) (W : Given
   answer r₁ a₁ r₂ a₂ r₃ n = record { first = r₁; one = a₁; second = r₂; two = a₂; third = r₃; at = n }
 
   answer-is : (r₁ : Read) (a₁ : Arguments) (r₂ : Read) (a₂ : Arguments) (r₃ : Read) (n : ℕ)
-      → Is R.the-row r₁ (found r₁) → Is P.the-row a₁ (words a₁ ∷ []) → Is R.the-row r₂ (found r₂) → Is P.the-row a₂ (words a₂ ∷ []) → Is R.the-row r₃ (found r₃) → n < 2 ^ 64
+      → Is R.the-row r₁ (found r₁) → Is P.the-row a₁ (words a₁) → Is R.the-row r₂ (found r₂) → Is P.the-row a₂ (words a₂) → Is R.the-row r₃ (found r₃) → n < 2 ^ 64
       → Is K.the-row (answer r₁ a₁ r₂ a₂ r₃ n) (out (answer r₁ a₁ r₂ a₂ r₃ n) ∷ [])
   answer-is r₁ a₁ r₂ a₂ r₃ n i₁ j₁ i₂ j₂ i₃ fit = LL.owes K.the-type K′.the-laws (answer r₁ a₁ r₂ a₂ r₃ n) (i₁, (j₁, (i₂, (j₂, (i₃, ((refl, fit), tt))))))
 
@@ -168,9 +167,9 @@ module _ {M : Type 1} (𝓤 : URA M) (H : Heap 𝓤) (A : Atoms 𝓤) (W : Given
         land ! (from ! (stop !)) (init ! 26 refl (read-typed r₁ u₁ (f₁ .landed))) $ rewrite ! 26 (λ (v : Val). ‵ (fat fullShare R′.mir l₃ 0 v)) (ap only (f₁ .told)) refl $
         -- its arguments are handed out: [the token; the reader's cell; what it owns; what s owns; _14; …]
         assigns ! (of-opd ! (load ! (from ! (stop !)) (look ! 1 refl))) (from ! (stop !)) (store ! 16 refl (reader-typed z₁ (T′.lowered z₁) (f₁ .ensured .0))) $
-        use0 W (raw (StartOf 𝓤 H A at-mem run .pre (c.to-start 𝓤 H A W at-mem run κ q r₁))) (c.asks-start 𝓤 H A W at-mem run κ q r₁ (f₁ .is)) $
-        calls-at ! fm (StartOf 𝓤 H A at-mem run) on-start (c.to-start 𝓤 H A W at-mem run κ q r₁) (and-then ! (load ! (from ! (stop !)) (look ! 27 refl)) (no-more !)) (λ v₁.
-        use1 W (c.Gives-start 𝓤 H A W at-mem run κ q r₁ v₁) (c.gives-start 𝓤 H A W at-mem run κ q r₁ v₁) $ await ! tt $ pick ! (λ n₁. learn ! (λ m₁. drop ! $
+        use0 W (raw (StartOf 𝓤 H A at-mem run .pre (own.to-start 𝓤 H A W at-mem run κ q r₁))) (own.asks-start 𝓤 H A W at-mem run κ q r₁ (f₁ .is)) $
+        calls-at ! fm (StartOf 𝓤 H A at-mem run) on-start (own.to-start 𝓤 H A W at-mem run κ q r₁) (and-then ! (load ! (from ! (stop !)) (look ! 27 refl)) (no-more !)) (λ v₁.
+        use1 W (own.Gives-start 𝓤 H A W at-mem run κ q r₁ v₁) (own.gives-start 𝓤 H A W at-mem run κ q r₁ v₁) $ await ! tt $ pick ! (λ n₁. learn ! (λ m₁. drop ! $
         land ! (from ! (stop !)) (init ! 10 refl (number-typed n₁ v₁ (m₁ .landed))) $ rewrite ! 10 (λ (v : Val). ‵ (fat fullShare (tyInt w64) l₁₁ 0 v)) (ap only (m₁ .told)) refl $
         move ! (0 ∷ 2 ∷ []) $ use2 W (raw (HandsOut 𝓤 H A at-mem run .pre (c.to-hand 𝓤 H A W at-mem run κ q z₁ n₁)) ⊛ ‵ (c.B 𝓤 H A W at-mem run κ q .own z₁ (c.reader 𝓤 H A W at-mem run κ q z₁))) (c.asks-hand 𝓤 H A W at-mem run κ q z₁ n₁ (m₁ .is .1)) $ split ! $
         -- [what `arguments` asks; what the reader owns; its cell; what s owns; _14; …]
@@ -178,9 +177,9 @@ module _ {M : Type 1} (𝓤 : URA M) (H : Heap 𝓤) (A : Atoms 𝓤) (W : Given
         use1 W (c.Gives-hand 𝓤 H A W at-mem run κ q z₁ n₁ w₁) (c.gives-hand 𝓤 H A W at-mem run κ q z₁ n₁ w₁) $ await ! tt $ pick ! (λ p₁. learn ! (λ h₁. split ! $ split ! $ move ! (1 ∷ []) $ drop ! $
         -- [the token; what the part owns; what the reader owns; its cell; what s owns; _14; …]
         land ! (from ! (stop !)) (init ! 13 refl (part-typed p₁ w₁ (h₁ .landed))) $ rewrite ! 13 (λ (v : Val). ‵ (fat fullShare Part-mir l₁₀ 0 v)) (ap only (h₁ .told)) refl $
-        use2 W (raw (ArgumentsIn 𝓤 H A at-mem run .pre (c.to-in 𝓤 H A W at-mem run κ q p₁))) (c.asks-in 𝓤 H A W at-mem run κ q p₁) $
-        calls-at ! fm (ArgumentsIn 𝓤 H A at-mem run) on-in (c.to-in 𝓤 H A W at-mem run κ q p₁) (and-then ! (load ! (from ! (stop !)) (look ! 12 refl)) (no-more !)) (λ x₁.
-        use1 W (c.Gives-in 𝓤 H A W at-mem run κ q p₁ x₁) (c.gives-in 𝓤 H A W at-mem run κ q p₁ x₁) $ await ! tt $ pick ! (λ a₁. learn ! (λ g₁. split ! $ split ! $ move ! (1 ∷ 2 ∷ []) $ drop ! $ drop ! $
+        use2 W (raw (ArgumentsIn 𝓤 H A at-mem run .pre (own.to-in 𝓤 H A W at-mem run κ q p₁))) (own.asks-in 𝓤 H A W at-mem run κ q p₁) $
+        calls-at ! fm (ArgumentsIn 𝓤 H A at-mem run) on-in (own.to-in 𝓤 H A W at-mem run κ q p₁) (and-then ! (load ! (from ! (stop !)) (look ! 12 refl)) (no-more !)) (λ x₁.
+        use1 W (own.Gives-in 𝓤 H A W at-mem run κ q p₁ x₁) (own.gives-in 𝓤 H A W at-mem run κ q p₁ x₁) $ await ! tt $ pick ! (λ a₁. learn ! (λ g₁. split ! $ split ! $ move ! (1 ∷ 2 ∷ []) $ drop ! $ drop ! $
         land ! (from ! (stop !)) (init ! 24 refl (words-typed a₁ x₁ (g₁ .landed))) $ rewrite ! 24 (λ (v : Val). ‵ (fat fullShare P′.mir l₄ 0 v)) (ap only (g₁ .told)) refl $ move ! (0 ∷ 2 ∷ []) $
         -- a read: [the token; the reader's cell; what it owns; what s owns; _14; …]
         assigns ! (addr ! (from ! (stop !))) (from ! (stop !)) (init ! 8 refl (tt, tt)) $
@@ -190,9 +189,9 @@ module _ {M : Type 1} (𝓤 : URA M) (H : Heap 𝓤) (A : Atoms 𝓤) (W : Given
         land ! (from ! (stop !)) (init ! 22 refl (read-typed r₂ u₂ (f₂ .landed))) $ rewrite ! 22 (λ (v : Val). ‵ (fat fullShare R′.mir l₅ 0 v)) (ap only (f₂ .told)) refl $
         -- its arguments are handed out: [the token; the reader's cell; what it owns; what s owns; _14; …]
         assigns ! (of-opd ! (load ! (from ! (stop !)) (look ! 1 refl))) (from ! (stop !)) (store ! 16 refl (reader-typed z₂ (T′.lowered z₂) (f₂ .ensured .0))) $
-        use0 W (raw (StartOf 𝓤 H A at-mem run .pre (c.to-start 𝓤 H A W at-mem run κ q r₂))) (c.asks-start 𝓤 H A W at-mem run κ q r₂ (f₂ .is)) $
-        calls-at ! fm (StartOf 𝓤 H A at-mem run) on-start (c.to-start 𝓤 H A W at-mem run κ q r₂) (and-then ! (load ! (from ! (stop !)) (look ! 23 refl)) (no-more !)) (λ v₂.
-        use1 W (c.Gives-start 𝓤 H A W at-mem run κ q r₂ v₂) (c.gives-start 𝓤 H A W at-mem run κ q r₂ v₂) $ await ! tt $ pick ! (λ n₂. learn ! (λ m₂. drop ! $
+        use0 W (raw (StartOf 𝓤 H A at-mem run .pre (own.to-start 𝓤 H A W at-mem run κ q r₂))) (own.asks-start 𝓤 H A W at-mem run κ q r₂ (f₂ .is)) $
+        calls-at ! fm (StartOf 𝓤 H A at-mem run) on-start (own.to-start 𝓤 H A W at-mem run κ q r₂) (and-then ! (load ! (from ! (stop !)) (look ! 23 refl)) (no-more !)) (λ v₂.
+        use1 W (own.Gives-start 𝓤 H A W at-mem run κ q r₂ v₂) (own.gives-start 𝓤 H A W at-mem run κ q r₂ v₂) $ await ! tt $ pick ! (λ n₂. learn ! (λ m₂. drop ! $
         land ! (from ! (stop !)) (store ! 10 refl (number-typed n₂ v₂ (m₂ .landed))) $ rewrite ! 10 (λ (v : Val). ‵ (fat fullShare (tyInt w64) l₁₁ 0 v)) (ap only (m₂ .told)) refl $
         move ! (0 ∷ 2 ∷ []) $ use2 W (raw (HandsOut 𝓤 H A at-mem run .pre (c.to-hand 𝓤 H A W at-mem run κ q z₂ n₂)) ⊛ ‵ (c.B 𝓤 H A W at-mem run κ q .own z₂ (c.reader 𝓤 H A W at-mem run κ q z₂))) (c.asks-hand 𝓤 H A W at-mem run κ q z₂ n₂ (m₂ .is .1)) $ split ! $
         -- [what `arguments` asks; what the reader owns; its cell; what s owns; _14; …]
@@ -200,9 +199,9 @@ module _ {M : Type 1} (𝓤 : URA M) (H : Heap 𝓤) (A : Atoms 𝓤) (W : Given
         use1 W (c.Gives-hand 𝓤 H A W at-mem run κ q z₂ n₂ w₂) (c.gives-hand 𝓤 H A W at-mem run κ q z₂ n₂ w₂) $ await ! tt $ pick ! (λ p₂. learn ! (λ h₂. split ! $ split ! $ move ! (1 ∷ []) $ drop ! $
         -- [the token; what the part owns; what the reader owns; its cell; what s owns; _14; …]
         land ! (from ! (stop !)) (init ! 7 refl (part-typed p₂ w₂ (h₂ .landed))) $ rewrite ! 7 (λ (v : Val). ‵ (fat fullShare Part-mir l₁₃ 0 v)) (ap only (h₂ .told)) refl $
-        use2 W (raw (ArgumentsIn 𝓤 H A at-mem run .pre (c.to-in 𝓤 H A W at-mem run κ q p₂))) (c.asks-in 𝓤 H A W at-mem run κ q p₂) $
-        calls-at ! fm (ArgumentsIn 𝓤 H A at-mem run) on-in (c.to-in 𝓤 H A W at-mem run κ q p₂) (and-then ! (load ! (from ! (stop !)) (look ! 6 refl)) (no-more !)) (λ x₂.
-        use1 W (c.Gives-in 𝓤 H A W at-mem run κ q p₂ x₂) (c.gives-in 𝓤 H A W at-mem run κ q p₂ x₂) $ await ! tt $ pick ! (λ a₂. learn ! (λ g₂. split ! $ split ! $ move ! (1 ∷ 2 ∷ []) $ drop ! $ drop ! $
+        use2 W (raw (ArgumentsIn 𝓤 H A at-mem run .pre (own.to-in 𝓤 H A W at-mem run κ q p₂))) (own.asks-in 𝓤 H A W at-mem run κ q p₂) $
+        calls-at ! fm (ArgumentsIn 𝓤 H A at-mem run) on-in (own.to-in 𝓤 H A W at-mem run κ q p₂) (and-then ! (load ! (from ! (stop !)) (look ! 6 refl)) (no-more !)) (λ x₂.
+        use1 W (own.Gives-in 𝓤 H A W at-mem run κ q p₂ x₂) (own.gives-in 𝓤 H A W at-mem run κ q p₂ x₂) $ await ! tt $ pick ! (λ a₂. learn ! (λ g₂. split ! $ split ! $ move ! (1 ∷ 2 ∷ []) $ drop ! $ drop ! $
         land ! (from ! (stop !)) (init ! 20 refl (words-typed a₂ x₂ (g₂ .landed))) $ rewrite ! 20 (λ (v : Val). ‵ (fat fullShare P′.mir l₆ 0 v)) (ap only (g₂ .told)) refl $ move ! (0 ∷ 2 ∷ []) $
         -- a read: [the token; the reader's cell; what it owns; what s owns; _14; …]
         assigns ! (addr ! (from ! (stop !))) (from ! (stop !)) (init ! 4 refl (tt, tt)) $
@@ -213,7 +212,7 @@ module _ {M : Type 1} (𝓤 : URA M) (H : Heap 𝓤) (A : Atoms 𝓤) (W : Given
         -- what is answered: [the token; the reader's cell; what it owns; what s owns; _14; …; _3; …; …; _1; …; room for _0; …]
         assigns ! (of-opd ! (load ! (from ! (fld ! refl (stop !))) (look-in ! 1 (sub ! 1 refl (whole !))))) (from ! (stop !)) (store ! 10 refl (tt, record { fits = small z₃ (f₃ .ensured .0) })) $
         assigns ! (agg ! (and-then ! (load ! (from ! (stop !)) (look ! 26 refl)) (and-then ! (load ! (from ! (stop !)) (look ! 24 refl)) (and-then ! (load ! (from ! (stop !)) (look ! 22 refl)) (and-then ! (load ! (from ! (stop !)) (look ! 20 refl)) (and-then ! (load ! (from ! (stop !)) (look ! 18 refl)) (and-then ! (load ! (from ! (stop !)) (look ! 10 refl)) (no-more !)))))))) (from ! (stop !)) (init ! 31 refl (walked-typed (answer r₁ a₁ r₂ a₂ r₃ (z₃ .at)) (answer-is r₁ a₁ r₂ a₂ r₃ (z₃ .at) (f₁ .is) (g₁ .is) (f₂ .is) (g₂ .is) (f₃ .is) (small z₃ (f₃ .ensured .0))))) $
-        returns ! (look ! 31 refl) $ forget ! 1 refl $ forget ! 4 refl $ forget ! 6 refl $ forget ! 8 refl $ forget ! 10 refl $ forget ! 12 refl $ forget ! 14 refl $ forget ! 16 refl $ forget ! 18 refl $ forget ! 20 refl $ forget ! 22 refl $ forget ! 24 refl $ forget ! 26 refl $ forget ! 29 refl $ forget ! 31 refl $ 
+        returns ! (look ! 31 refl) $ forget ! 1 refl $ forget ! 4 refl $ forget ! 6 refl $ forget ! 8 refl $ forget ! 10 refl $ forget ! 12 refl $ forget ! 14 refl $ forget ! 16 refl $ forget ! 18 refl $ forget ! 20 refl $ forget ! 22 refl $ forget ! 24 refl $ forget ! 26 refl $ forget ! 29 refl $ forget ! 31 refl $
         move ! (31 ∷ 32 ∷ []) $ free1 ! $ move ! (29 ∷ 30 ∷ []) $ free1 ! $ move ! (1 ∷ 28 ∷ []) $ free1 ! $ move ! (25 ∷ 26 ∷ []) $ free1 ! $ move ! (23 ∷ 24 ∷ []) $ free1 ! $ move ! (21 ∷ 22 ∷ []) $ free1 ! $ move ! (19 ∷ 20 ∷ []) $ free1 ! $ move ! (17 ∷ 18 ∷ []) $ free1 ! $ move ! (15 ∷ 16 ∷ []) $ free1 ! $ move ! (13 ∷ 14 ∷ []) $ free1 ! $ move ! (11 ∷ 12 ∷ []) $ free1 ! $ move ! (9 ∷ 10 ∷ []) $ free1 ! $ move ! (7 ∷ 8 ∷ []) $ free1 ! $ move ! (5 ∷ 6 ∷ []) $ free1 ! $ move ! (3 ∷ 4 ∷ []) $ free1 ! $ free0 ! $
         keep ! (0 ∷ 2 ∷ []) $ by ! (exits (answer r₁ a₁ r₂ a₂ r₃ (z₃ .at)) (answer-is r₁ a₁ r₂ a₂ r₃ (z₃ .at) (f₁ .is) (g₁ .is) (f₂ .is) (g₂ .is) (f₃ .is) (small z₃ (f₃ .ensured .0))) (walked-is s (b .ensured) (f₁ .ensured .1) (record { start = m₁ .ensured; part = h₁ .ensured; words = g₁ .ensured }) (f₂ .ensured .1) (record { start = m₂ .ensured; part = h₂ .ensured; words = g₂ .ensured }) (f₃ .ensured .1)))))))))))))))))))))))))))))))))))))))))))))))))))))))))
 
