@@ -1,14 +1,14 @@
--- What the tests of the reader say of `readAt`, what is read past the end, and where a record that was found lies.
+-- What the tests of the reader say of `readAt`, what is read past the end, where a record that was found lies, and what is handed out of it.
 use Prim.Native.Nat.{ℕ, _+_, _-_, _%_, _^_, _≤_, _<_}
 use mathlib.Core.Path.{_≡_, refl, sym, _∙_}
 use mathlib.Core.Bool.{Bool, true, false, cond as if}
 use mathlib.Core.List.{List, []}
 use native.Mathlib.Omega.{arith}
 use lib.Dec.{ltb, eqb}
-use lib.ListN.{length, getD, take, drop, List·getD-eq-default, drop-of-length-le, length-drop}
-use lib.Seq.{take-all}
+use lib.ListN.{length, getD, take, drop, List·getD-eq-default, length-drop}
+use lib.Seq.{length-take-le}
 use borrow.Author.Tests.{lt-ltb, le-ltb, eq-eqb, ne-eqb, ltb-false}
-use Rattle.rules.specs.Log.{halfAt, wordAt, readAt, argumentBytes, moveTo}
+use Rattle.rules.specs.Log.{halfAt, wordAt, readAt, argumentBytes, handedOut, moveTo}
 use Rattle.rules.specs.declared.Read.{Read}
 use Rattle.rules.specs.declared.Read.the-variants.{Record, End, Cut, Length, Version}
 
@@ -73,20 +73,21 @@ half-out s at h = rw (← byte-out s at h, ← byte-out s (at + 1) (omega arith)
 pub word-out : (s : List ℕ) (at : ℕ) → length s ≤ at → 0 ≡ wordAt s at
 word-out s at h = rw (← half-out s at h, ← half-out s (at + 2) (omega arith))
 
--- ---- a record's argument bytes
-pub none-is : (s : List ℕ) (start : ℕ) → length s ≤ start → [] ≡ argumentBytes s start
-unfolding argumentBytes
-none-is s start h = rw (drop-of-length-le s {i = start} h)
+-- ---- what is handed out from a start on
+module _ (s : List ℕ) (start : ℕ) where
+  -- nothing past the end, and nothing where fewer than sixteen are left
+  pub past-empty : length s < start → [] ≡ handedOut s start
+  unfolding handedOut
+  past-empty h = rw (lt-ltb (length s) (start + 16) (omega arith))
 
-pub fewer-is : (s : List ℕ) (start : ℕ) → length s - start < 16 → take (length s - start) (drop start s) ≡ argumentBytes s start
-unfolding argumentBytes
-fewer-is s start h =
-    take-all (length s - start) (drop start s) (omega (arith, length-drop start s))
-    ∙ sym (take-all 16 (drop start s) (omega (arith, length-drop start s)))
+  pub short-empty : start ≤ length s → length s - start < 16 → take (length s - length s) (drop (length s) s) ≡ handedOut s start
+  unfolding handedOut
+  short-empty g h = let none : length s - length s ≡ 0 = omega arith in rw (none, lt-ltb (length s) (start + 16) (omega arith))
 
-pub sixteen-is : (s : List ℕ) (start : ℕ) → take (start + 16 - start) (drop start s) ≡ argumentBytes s start
-unfolding argumentBytes
-sixteen-is s start = let e : start + 16 - start ≡ 16 = omega arith in rw e
+  -- else the sixteen
+  pub sixteen-is : 16 ≤ length s - start → take (start + 16 - start) (drop start s) ≡ handedOut s start
+  unfolding handedOut argumentBytes
+  sixteen-is h = let e : start + 16 - start ≡ 16 = omega arith in rw (e, le-ltb (length s) (start + 16) (omega arith))
 
 -- ---- a record that was found has its twenty bytes there
 asked : (a b c d e f : Bool) (at : ℕ) → Read → Read
@@ -121,6 +122,15 @@ record-fits s at number start h =
     start
     h in
     (omega (arith, ltb-false (length s) at (t .0), ltb-false (length s - at) 20 (t .1)), sym (t .2))
+
+-- ---- so what is handed out from its start is its argument bytes, and they are sixteen
+pub handed-out : (s : List ℕ) (at number start : ℕ) → readAt s at ≡ Record number start
+    → (handedOut s start ≡ argumentBytes s start) × (length (handedOut s start) ≡ 16)
+unfolding handedOut argumentBytes
+handed-out s at number start h =
+    let t = record-fits s at number start h in
+    let there = le-ltb (length s) (start + 16) (omega (arith, t .0, t .1)) in
+    (rw there, rw there (length-take-le 16 (drop start s) (omega (arith, t .0, t .1, length-drop start s))))
 
 -- ---- the position after it lies in the log too, or is the one before
 after-fits : (s : List ℕ) (at : ℕ) (r : Read) → readAt s at ≡ r → length s < 2 ^ 64 → at < 2 ^ 64 → moveTo r at < 2 ^ 64

@@ -3,7 +3,7 @@ use rules::Read;
 ghost use mathlib.Core.Path.{_≡_};
 ghost use Prim.Native.Nat.{_%_, _^_, _<_};
 ghost use lib.ListN.{getD};
-ghost use Rattle.rules.specs.Log.{halfAt, wordAt, readAt, argumentBytes, argument, moveTo};
+ghost use Rattle.rules.specs.Log.{halfAt, wordAt, readAt, handedOut, argument, moveTo};
 
 pub mod reader;
 
@@ -71,15 +71,16 @@ pub fn read_at(log: &[u8], at: usize) -> Read
     }
 }
 
-// The sixteen argument bytes from `start` on, as that part of the log; fewer where the log ends.
+// The sixteen argument bytes from `start` on, as that part of the log; an empty part where sixteen are not there.
 pub fn arguments<'a>(log: &'a [u8], start: usize) -> &'a [u8]
-    ensures { λ r. ⌜ now r ≡ argumentBytes (now (log .entry)) start ⌝ }
+    ensures { λ r. ⌜ now r ≡ handedOut (now (log .entry)) start ⌝ }
 {
-    if log.len() <= start {
+    let len = log.len();
+    if len < start {
         return &log[..0];
     }
-    if log.len() - start < 16 {
-        return &log[start..];
+    if len - start < 16 {
+        return &log[len..];
     }
     let end = start + 16;
     &log[start..end]

@@ -1,8 +1,7 @@
-// The reader: it holds the lent log and its position. Each function over it is thin, above one on the slice and the position.
+// The reader: it holds the lent log and its position. Each function over it is thin, above one on the slice and a number.
 use rules::Read;
 ghost use mathlib.Core.Path.{_≡_};
-ghost use Prim.Native.Nat.{_+_};
-ghost use Rattle.rules.specs.Log.{readAt, argumentBytes, moveTo};
+ghost use Rattle.rules.specs.Log.{readAt, handedOut, moveTo};
 
 // What stands at a position, and the position after it.
 pub struct Step {
@@ -19,19 +18,6 @@ pub fn step_at(log: &[u8], at: usize) -> Step
         found: found,
         at: next,
     }
-}
-
-// The argument bytes of the record at a position; fewer where the log ends.
-pub fn arguments_at<'a>(log: &'a [u8], at: usize) -> &'a [u8]
-    ensures { λ r. ⌜ now r ≡ argumentBytes (now (log .entry)) (at + 4) ⌝ }
-{
-    if log.len() <= at {
-        return &log[..0];
-    }
-    if log.len() - at < 4 {
-        return &log[..0];
-    }
-    super::arguments(log, at + 4)
 }
 
 pub struct Reader<'a> {
@@ -56,15 +42,15 @@ impl<'a> Reader<'a> {
         step.found
     }
 
-    // The sixteen argument bytes of the record at the position, as that part of the log.
-    pub fn arguments(self) -> &'a [u8]
-        ensures { λ r. ⌜ now r ≡ argumentBytes (now (self .entry .log)) (self .entry .at + 4) ⌝ }
+    // The sixteen argument bytes of the record whose `start` was found, as that part of the log; an empty part where sixteen are not there.
+    pub fn arguments(self, start: usize) -> &'a [u8]
+        ensures { λ r. ⌜ now r ≡ handedOut (now (self .entry .log)) start ⌝ }
     {
-        arguments_at(self.log, self.at)
+        super::arguments(self.log, start)
     }
 }
 
-// ---- for callers that have the log and a position: no other function makes a reader or is passed one
+// ---- for callers that have the log and a number: they need no reader
 
 // The reader's step from a position.
 pub fn read_next(log: &[u8], at: usize) -> Step
@@ -78,9 +64,9 @@ pub fn read_next(log: &[u8], at: usize) -> Step
     }
 }
 
-// What the reader at a position hands out.
-pub fn read_arguments<'a>(log: &'a [u8], at: usize) -> &'a [u8]
-    ensures { λ r. ⌜ now r ≡ argumentBytes (now (log .entry)) (at + 4) ⌝ }
+// What a reader of the log hands out from `start` on.
+pub fn read_arguments<'a>(log: &'a [u8], start: usize) -> &'a [u8]
+    ensures { λ r. ⌜ now r ≡ handedOut (now (log .entry)) start ⌝ }
 {
-    Reader { log, at }.arguments()
+    Reader { log, at: 0 }.arguments(start)
 }

@@ -10,10 +10,10 @@ use lib.Dec.{eqb, ltb}
 use lib.ListN.{length, take, drop, getD, take-append-drop, length-append, length-drop}
 use lib.Seq.{drop-cons, drop-drop, getD-drop, take-at, length-take-le}
 use Rattle.fold.proofs.Laws.{same?, lt-or-le}
-use Rattle.rules.specs.Log.{halfAt, readAt, argumentBytes, argument, moveTo}
+use Rattle.rules.specs.Log.{halfAt, readAt, argumentBytes, handedOut, argument, moveTo}
 use Rattle.rules.specs.declared.Read.{Read}
 use Rattle.rules.specs.declared.Read.the-variants.{Record, End, Cut, Length, Version}
-use Rattle.demands.specs.Log.{LengthAt, RecordAt, StandsAt, LogLayout, BigEndian, OnlyRecordsMove}
+use Rattle.demands.specs.Log.{LengthAt, RecordAt, StandsAt, LogLayout, HandsOut, BigEndian, OnlyRecordsMove}
 
 module _ (s : List ℕ) (at : ℕ) where
   -- ---- the record's bytes
@@ -152,6 +152,12 @@ log-layout s at r = (λ e. subst (λ (x : Read). StandsAt s at x) e (stands s at
 
 pub big-endian : BigEndian
 big-endian bytes n = let e : n * 4 + 2 + 1 ≡ n * 4 + 3 = omega arith in rw e (omega arith)
+
+-- "it hands out each record's sixteen argument bytes as that part of the log": the sixteen of the layout
+pub record-hands-out : HandsOut
+unfolding handedOut
+record-hands-out s at number arguments r =
+    rw (le-ltb (length s) (at + 4 + 16) (omega (arith, whole s at number arguments r))) (arguments-are s at number arguments r)
 
 record-moves : (s : List ℕ) (at number start : ℕ) → readAt s at ≡ Record number start → moveTo (readAt s at) at ≡ at + 20
 unfolding moveTo

@@ -4,7 +4,7 @@ use mathlib.Core.Path.{_≡_}
 use mathlib.Core.Logic.{_≢_, _⊎_, _↔_}
 use mathlib.Core.List.{List, _∷_, _++_}
 use lib.ListN.{length, drop, getD}
-use Rattle.rules.specs.Log.{readAt, argumentBytes, argument, moveTo}
+use Rattle.rules.specs.Log.{readAt, argumentBytes, handedOut, argument, moveTo}
 use Rattle.rules.specs.declared.Read.{Read}
 use Rattle.rules.specs.declared.Read.the-variants.{Record, End, Cut, Length, Version}
 
@@ -30,6 +30,10 @@ StandsAt s at (Version n) = (n ≡ at) × (at + 20 ≤ length s) × LengthAt s a
 -- the demand: an answer is given exactly where it stands
 abbrev pub LogLayout : Type 0
 LogLayout = (s : List ℕ) (at : ℕ) (r : Read) → (readAt s at ≡ r) ↔ StandsAt s at r
+
+-- "it hands out each record's sixteen argument bytes as that part of the log"
+abbrev pub HandsOut : Type 0
+HandsOut = (s : List ℕ) (at number : ℕ) (arguments : List ℕ) → RecordAt s at number arguments → handedOut s (at + 4) ≡ arguments
 
 -- "four arguments of four big-endian bytes"
 abbrev pub BigEndian : Type 0

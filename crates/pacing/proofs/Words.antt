@@ -11,7 +11,7 @@ use lib.ListN.{length, getD, set, length-append}
 use lib.Seq.{sets}
 use borrow.Author.Tests.{leb-true, ltb-true}
 use Rattle.fold.proofs.Runs.{sets-append}
-use Rattle.rules.specs.Log.{argumentBytes, argument}
+use Rattle.rules.specs.Log.{handedOut, argument}
 use Rattle.pacing.specs.Pace.{recordWords, callWords, roundsBy, roundsFor}
 
 five-each : (n : ℕ) (s : List ℕ) → length (callWords n s) ≡ n * 5
@@ -34,7 +34,7 @@ stores cs p a b c d e =
     rw (e₁, e₂, e₃, e₄)
 
 module _ (s cs₀ cs : List ℕ) (k : ℕ) (i : cs ≡ sets cs₀ 0 (callWords k s)) where
-  pub next-words : {number a b c d : ℕ} {bytes : List ℕ} → number ≡ getD s (k * 20 + 3) 0 → bytes ≡ argumentBytes s (k * 20 + 4)
+  pub next-words : {number a b c d : ℕ} {bytes : List ℕ} → number ≡ getD s (k * 20 + 3) 0 → bytes ≡ handedOut s (k * 20 + 4)
       → a ≡ argument bytes 0 → b ≡ argument bytes 1 → c ≡ argument bytes 2 → d ≡ argument bytes 3
       → set (set (set (set (set cs (k * 5) number) (k * 5 + 1) a) (k * 5 + 2) b) (k * 5 + 3) c) (k * 5 + 4) d
       ≡ sets cs₀ 0 (callWords (k + 1) s)

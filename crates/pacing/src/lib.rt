@@ -40,7 +40,7 @@ pub fn as_calls(log: &Log, calls: &mut Calls, n: usize)
         if n <= k {
             return;
         }
-        let bytes = calllog::reader::read_arguments(log, k * 20);
+        let bytes = calllog::reader::read_arguments(log, k * 20 + 4);
         calls[k * 5] = wide(log[k * 20 + 3]);
         calls[k * 5 + 1] = calllog::argument(bytes, 0);
         calls[k * 5 + 2] = calllog::argument(bytes, 1);

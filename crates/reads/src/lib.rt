@@ -17,9 +17,8 @@ use text::Text;
 ghost use mathlib.Core.Path.{_≡_};
 ghost use mathlib.Core.Bool.{true};
 ghost use mathlib.Core.List.{_++_};
-ghost use Prim.Native.Nat.{_+_};
 ghost use lib.ListN.{length};
-ghost use Rattle.rules.specs.Log.{readAt, argumentBytes};
+ghost use Rattle.rules.specs.Log.{readAt, handedOut};
 ghost use Rattle.rules.specs.Tables.{tables};
 ghost use Rattle.rules.specs.Text.{lineText, lineFeed};
 ghost use Rattle.text.specs.Put.{Put};
@@ -27,11 +26,11 @@ ghost use Rattle.parts.specs.Part.{lastText};
 ghost use Rattle.kernel.specs.Safe.{Safe};
 ghost use Rattle.reads.specs.Done.{callIn, ranTo, oneFor, Went};
 
-// The call of the record that stands at a place of the log.
-fn record_call(log: &[u8], place: usize, number: u8) -> Call
-    ensures { λ r. ⌜ r ≡ callIn (argumentBytes (now (log .entry)) (place + 4)) number ⌝ }
+// The call of a record, by where its argument bytes start and its number.
+fn record_call(log: &[u8], start: usize, number: u8) -> Call
+    ensures { λ r. ⌜ r ≡ callIn (handedOut (now (log .entry)) start) number ⌝ }
 {
-    let bytes = calllog::reader::read_arguments(log, place);
+    let bytes = calllog::reader::read_arguments(log, start);
     Call {
         number: number as u32,
         a: calllog::argument(bytes, 0),
@@ -99,7 +98,7 @@ pub fn next_line(
 {
     let step = calllog::reader::read_next(log, ran.at);
     let found = step.found;
-    let Read::Record { number, start: _ } = found else {
+    let Read::Record { number, start } = found else {
         return ended_at(log, found, offset, ran, out);
     };
     let said = kernel::step(
@@ -112,7 +111,7 @@ pub fn next_line(
         clocks,
         heap,
         state,
-        record_call(log, ran.at, number),
+        record_call(log, start, number),
     );
     let n = std::num::wrapping_add_u64(ran.count, 1);
     let len = put_said(out, ran.len, n, said);

@@ -1,3 +1,4 @@
+-- `pacing::as_calls` meets its contract: after k turns the words of the first k records stand one behind the other.
 use Prim.Native.Nat.{_-_, _≤_}
 use mathlib.Core.Path.{_≡_}
 use mathlib.Core.Logic.{inl, inr}
@@ -22,6 +23,7 @@ as-calls-spec =
     μ-loop
     (λ c. (search needs, search needs, no-words (c .args .log .now) (c .args .calls .now)))
     (λ c. all-words (c .before .before .before .args .log .now) (c .before .before .before .args .calls .now) (c .before .before .loop .calls) (c .before .before .loop .k) (c .before .before .loop .inv .2) (c .before .before .loop .inv .1) (inl (c .if1 .taken)) (c .before .before .loop .inv .0))
+    (λ c. search needs)
     (λ c. search needs)
     (λ c κs. search needs)
     (λ c. search needs)

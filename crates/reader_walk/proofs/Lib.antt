@@ -1,0 +1,3 @@
+pub mod Calls
+pub mod Example
+pub mod Walking
