@@ -17,7 +17,7 @@ use prog.Wp.{Heap}
 use ghost.Atoms.{Atoms, sem}
 use contract.BorrowLft.{meet-⊑-right}
 use contract.Monad.{Fun, fact}
-use types.Kit.{Given, Item, ‵, raw, _⊛_, given, ⋆, mean, some, later, _$_, _∵_, !, qed, by, move, keep, drop, use0, use1, use2, use3, split, join, pick, rewrite, fsplit, fjoin, fpick, fpack, frame, await, updating, now as at-once, show, check, done}
+use types.Kit.{Given, Item, ‵, raw, _⊛_, given, ⋆, mean, some, later, _$_, _∵_, !, qed, move, keep, drop, use1, use2, use3, split, join, pick, rewrite, fsplit, fjoin, fpick, fpack, frame, await, updating, now as at-once, show, check, done}
 use types.SemTy.{Body}
 use types.Tokens.{lft-new}
 use borrow.Within.Token.{Rest, within-token, within-end}
@@ -25,10 +25,10 @@ use denote.RattleType.{RattleType, owns}
 use denote.Laws.{Is, Tells, shows}
 use denote.Lend.{lends-ref, ref-back}
 use denote.Memory.{mem, cellAt, partAt, partOf}
-use denote.Plain.{uint-makes, uint-vals, uint-tells}
+use denote.Plain.{uint-makes}
 use denote.Builtin.{u8, usize}
 use denote.Ref.{RefT, NamedLft, MutRef, now}
-use denote.Slice.{sliceVal, ShrSlice, slice-vals, shr-slice-tells}
+use denote.Slice.{sliceVal, ShrSlice, shr-slice-tells}
 use denote.Steps.{owned, peeks, heard, nothing}
 use denote.Enum.Laws as EL
 use denote.Struct.Laws as LL

@@ -1,6 +1,6 @@
 -- What the tests of the reader say of `readAt`, what is read past the end, where a record that was found lies, and what is handed out of it.
 use Prim.Native.Nat.{ℕ, _+_, _-_, _%_, _^_, _≤_, _<_}
-use mathlib.Core.Path.{_≡_, refl, sym, _∙_}
+use mathlib.Core.Path.{_≡_, refl, sym}
 use mathlib.Core.Bool.{Bool, true, false, cond as if}
 use mathlib.Core.List.{List, []}
 use native.Mathlib.Omega.{arith}

@@ -108,69 +108,11 @@ fn are(handed: Arguments, a: u32, b: u32) -> bool
 
 // 01's records 'create at 5' and 'pend on 0 without end', and its 'post 0' with version 2.
 fn main() {
-    let log = [
-        0x00,
-        0x12,
-        0x01,
-        0x00,
-        0x00,
-        0x00,
-        0x00,
-        0x05,
-        0x00,
-        0x00,
-        0x00,
-        0x00,
-        0x00,
-        0x00,
-        0x00,
-        0x00,
-        0x00,
-        0x00,
-        0x00,
-        0x00,
-        0x00,
-        0x12,
-        0x01,
-        0x22,
-        0x00,
-        0x00,
-        0x00,
-        0x00,
-        0xff,
-        0xff,
-        0xff,
-        0xff,
-        0x00,
-        0x00,
-        0x00,
-        0x00,
-        0x00,
-        0x00,
-        0x00,
-        0x00,
-        0x00,
-        0x12,
-        0x02,
-        0x23,
-        0x00,
-        0x00,
-        0x00,
-        0x00,
-        0x00,
-        0x00,
-        0x00,
-        0x00,
-        0x00,
-        0x00,
-        0x00,
-        0x00,
-        0x00,
-        0x00,
-        0x00,
-        0x00,
-    ];
-    let walked = walk(&log);
+    let log = b"\
+        \x00\x12\x01\x00\x00\x00\x00\x05\x00\x00\x00\x00\x00\x00\x00\x00\x00\x00\x00\x00\
+        \x00\x12\x01\x22\x00\x00\x00\x00\xff\xff\xff\xff\x00\x00\x00\x00\x00\x00\x00\x00\
+        \x00\x12\x02\x23\x00\x00\x00\x00\x00\x00\x00\x00\x00\x00\x00\x00\x00\x00\x00\x00";
+    let walked = walk(log);
     let first = walked.first;
     let one = walked.one;
     let second = walked.second;

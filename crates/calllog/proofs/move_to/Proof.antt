@@ -1,3 +1,4 @@
+-- `calllog::move_to` meets its contract: each arm answers by what its variant holds, and a position is below 2 to the 64.
 use Rattle.rules.specs.Log.{moveTo}
 use native.Mathlib.Omega.{arith}
 use borrow.Author.Needs.{needs}
