@@ -53,6 +53,9 @@ pub record Turned (l : Left) (t : Tables) (ps qs xs ys : List ℕ) (r : Progress
 abbrev pub had : Tables → Over → Over → Progress → Left
 had t part out p = leftOf t (now (part .entry)) (now (out .entry)) p
 
+abbrev pub has : Tables → Over → Over → Progress → Left
+has t part out p = leftOf t (now (part .exit)) (now (out .exit)) p
+
 abbrev pub came : Over → Progress → ℕ → List ℕ
 came part p more = behind (now (part .entry)) p more
 
