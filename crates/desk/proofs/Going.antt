@@ -1,13 +1,15 @@
 -- What the code of a replay has done so far, and what it leaves when it stops.
-use Prim.Native.Nat.{ℕ, _+_, _-_, _≤_, _<_}
+use Prim.Native.Nat.{ℕ, _+_, _-_, min, _≤_, _<_}
 use mathlib.Core.Path.{_≡_, refl, sym, ap, _∙_}
+use mathlib.Core.Logic.{⊎-elim}
 use mathlib.Core.Bool.{Bool, true, false, not, _&&_, cond as if, true≢false}
 use mathlib.Core.List.{List, [], _++_, append-nil, append-assoc}
 use native.Mathlib.Nat.{zero-add}
 use native.Mathlib.Omega.{arith}
 use lib.ListN.{length, take, drop, length-take}
-use lib.Seq.{sets, drop-length}
+use lib.Seq.{sets, sets-eq, take-all, take-add, take-append-seam, drop-length}
 use Rattle.fold.specs.Lists.{bit}
+use Rattle.fold.proofs.Laws.{lt-or-le}
 use Rattle.rules.specs.Log.{readAt}
 use Rattle.rules.specs.declared.Read.{Read}
 use Rattle.rules.specs.declared.Read.the-variants.{Record, End, Cut, Length, Version}
@@ -16,11 +18,11 @@ use Rattle.rules.proofs.Read as R
 use Rattle.text.specs.Put.{Put}
 use Rattle.text.proofs.Puts.{fits, put-none, put-more}
 use Rattle.calllog.proofs.Records.{record-fits}
-use Rattle.parts.specs.Part.{kept, Left, textBefore, waiting, readable, partOf}
+use Rattle.parts.specs.Part.{kept, Left, textBefore, waiting, readable, partOf, turn}
 use Rattle.reads.specs.declared.Ran.{Ran}
 use Rattle.desk.specs.declared.Progress.{Progress}
 use Rattle.reads.specs.Done.{ranTo, oneFor, Went}
-use Rattle.desk.specs.Done.{comeTo, Gone, Turned}
+use Rattle.desk.specs.Done.{comeTo, leftOf, progressOf, behind, Gone, Turned}
 use Rattle.parts.proofs.Steps.{partAt, part-whole, part-step}
 use Rattle.parts.proofs.Bounds.{part-bounded}
 
@@ -55,7 +57,7 @@ module _ (last : Bool) (s : List ℕ) (o n₀ : ℕ) (t₀ : Tables) (xs : List 
   pub sofar-none : {r : Ran} → r ≡ ranTo 0 n₀ 0 false → Sofar t₀ xs r
   sofar-none e =
       rw e
-      (record { text = []; put = put-none xs 0; whole = part-whole last s o n₀ t₀; inside = omega arith; over = λ h. absurd (true≢false (sym h)) })
+      (record { text = []; put = put-none 16384 xs 0; whole = part-whole last s o n₀ t₀; inside = omega arith; over = λ h. absurd (true≢false (sym h)) })
 
   -- a read, and what follows it
   read-last : (f : Read) (at n : ℕ) (t : Tables) → f ≡ readAt s at → readable last s at ≡ true
@@ -129,28 +131,47 @@ module _ (last : Bool) (s : List ℕ) (o n₀ : ℕ) (t₀ : Tables) (xs : List 
             (record { text = rw append-nil (w .put); rest = refl; inside = w .inside; offset = refl; count = refl; tables = refl; ended = refl })
 
 -- ---- a turn: the text fits, and the rest is in front
-module _ (last : Bool) (n o c : ℕ) (t₀ : Tables) (ps xs : List ℕ) (size : length ps ≡ 2560) where
-  pub turned : {s : List ℕ} → s ≡ take n ps → {t : Tables} {ys : List ℕ} (r : Ran) → Gone (partOf last s o c t₀) s o t xs ys r
+-- what is stored in front stands there
+front-is : (vs xs : List ℕ) → length vs ≤ length xs → take (length vs) (sets xs 0 vs) ≡ vs
+front-is vs xs h = rw (sets-eq vs xs 0 (omega arith)) (take-append-seam vs (drop (0 + length vs) xs))
+
+-- the bytes that waited, and more behind them, to where they end in the part
+both-are : (held more : ℕ) (ps : List ℕ) → length ps ≡ 2560 → take (min held 2560 + min more 2560) ps ≡ take held ps ++ take more (drop held ps)
+both-are held more ps size =
+    ⊎-elim
+    (λ (h : min held 2560 + min more 2560 < 2560).
+    let e : min held 2560 + min more 2560 ≡ held + more = omega arith in rw e (take-add held more ps))
+    (λ (h : 2560 ≤ min held 2560 + min more 2560).
+    take-all (min held 2560 + min more 2560) ps (omega arith) ∙ sym (take-all (held + more) ps (omega arith)) ∙ take-add held more ps)
+    (lt-or-le (min held 2560 + min more 2560) 2560)
+
+module _ (last : Bool) (p : Progress) (more : ℕ) (t₀ : Tables) (ps xs : List ℕ) (size : length ps ≡ 2560) (wide : length xs ≡ 16384) where
+  -- all bytes of the part, and what they leave
+  abbrev bytes : List ℕ
+  bytes = take (p .held) ps ++ behind ps p more
+
+  abbrev leaves : Left
+  leaves = turn last (behind ps p more) (leftOf t₀ ps xs p)
+
+  pub turned : {n : ℕ} → n ≡ min (p .held) 2560 + min more 2560 → {s : List ℕ} → s ≡ take n ps
+      → {t : Tables} {ys : List ℕ} (r : Ran) → Gone (partOf last s (p .offset) (p .count) t₀) s (p .offset) t xs ys r
       → {qs : List ℕ} {held : ℕ} → (qs ≡ sets ps 0 (drop (r .at) (take n ps))) × (held ≡ length (drop (r .at) (take n ps)))
-      → {q : Progress} → q ≡ comeTo o r held
-      → Turned (partOf last (take n ps) o c t₀) t ps qs xs ys q × ((q .held < 20) × (q .len ≤ 16384))
-  turned {s} e {t} {ys} r g {qs} {held} m f =
-      let h : Gone (partOf last (take n ps) o c t₀) (take n ps) o t xs ys r = rw e at g in
-      let b = part-bounded last (take n ps) o c t₀ in
-      let k : length (take n ps) ≤ 2560 = omega (arith, length-take n ps) in
-      let whole = fits 0 (partOf last (take n ps) o c t₀ .text) (omega (arith, b .text)) in
-      let len-is : r .len ≡ length (partOf last (take n ps) o c t₀ .text) = h .text .end ∙ rw (whole, zero-add) in
-      let held-is : held ≡ length (partOf last (take n ps) o c t₀ .rest) = m .1 ∙ ap length (h .rest) in
-      rw f (
-        record {
-          text = h .text .bytes ∙ rw whole;
-          len = len-is;
-          rest = m .0 ∙ rw (h .rest);
-          held = held-is;
-          offset = h .offset;
-          count = h .count;
-          tables = h .tables;
-          ended = h .ended;
-        },
-        (omega (arith, held-is, b .rest), omega (arith, len-is, b .text)),
-      )
+      → {q : Progress} → q ≡ comeTo (p .offset) r held
+      → Turned leaves t ps qs xs ys q
+  turned {n} e {s} f {t} {ys} r g {qs} {held} m {q} c =
+      let all : take n ps ≡ bytes = rw e (both-are (p .held) more ps size) in
+      let h : Gone leaves bytes (p .offset) t xs ys r = rw (f ∙ all) at g in
+      let b = part-bounded last bytes (p .offset) (p .count) t₀ in
+      let short : length bytes ≤ 2560 = omega (arith, ap length all, length-take n ps) in
+      let whole = fits 16384 0 (leaves .text) (omega (arith, b .text)) in
+      let text-is : ys ≡ sets xs 0 (leaves .text) = h .text .bytes ∙ rw whole in
+      let part-is : qs ≡ sets ps 0 (leaves .rest) = m .0 ∙ rw (all, h .rest) in
+      let progress-is : q ≡ progressOf leaves =
+      c ∙ rw (m .1, all, h .rest, h .offset, h .count, h .text .end, whole, zero-add, h .ended) in
+      let left-is : leftOf t qs ys q ≡ leaves =
+      rw (h .tables, part-is, text-is, progress-is)
+      (rw (
+        front-is (leaves .rest) ps (omega (arith, b .rest)),
+        front-is (leaves .text) xs (omega (arith, b .text)),
+      )) in
+      record { tables = h .tables; part = part-is; text = text-is; progress = progress-is; left = left-is }

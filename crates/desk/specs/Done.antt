@@ -2,9 +2,11 @@
 use Prim.Native.Nat.{ℕ, _+_, _≤_}
 use mathlib.Core.Path.{_≡_}
 use mathlib.Core.List.{List}
-use lib.ListN.{length, drop}
+use lib.ListN.{length, take, drop}
 use lib.Seq.{sets}
+use denote.Ref.{now}
 use Rattle.rules.specs.declared.Tables.{Tables}
+use Rattle.lent.specs.Lent.{Over}
 use Rattle.text.specs.Put.{Put}
 use Rattle.parts.specs.Part.{kept, Left}
 use Rattle.reads.specs.declared.Ran.{Ran}
@@ -24,13 +26,38 @@ pub record Gone (l : Left) (s : List ℕ) (o : ℕ) (t : Tables) (xs ys : List �
   pub tables : t ≡ l .tables
   pub ended : r .ended ≡ l .ended
 
--- the same with all of the text, and the bytes that wait in front of part ps, which is now qs
+-- ---- what is handed from turn to turn
+-- tables t, the bytes that wait in front of part ps, the text in front of buffer xs, and p, as one value
+abbrev pub leftOf : Tables → List ℕ → List ℕ → Progress → Left
+leftOf t ps xs p =
+    record { text = take (p .len) xs; rest = take (p .held) ps; offset = p .offset; count = p .count; tables = t; ended = p .ended }
+
+-- what l says beside its tables and its bytes
+abbrev pub progressOf : Left → Progress
+progressOf l = record { held = length (l .rest); offset = l .offset; count = l .count; len = length (l .text); ended = l .ended }
+
+-- the bytes that came: so many of part ps behind those that waited
+abbrev pub behind : List ℕ → Progress → ℕ → List ℕ
+behind ps p more = take more (drop (p .held) ps)
+
+-- a turn left l: tables t, the bytes that wait in front of part ps, which is now qs, the text in front of buffer xs, which is now ys; every
+-- other byte is as it was, and what the next turn is handed is l
 pub record Turned (l : Left) (t : Tables) (ps qs xs ys : List ℕ) (r : Progress) : Type 0 where
-  pub text : ys ≡ sets xs 0 (l .text)
-  pub len : r .len ≡ length (l .text)
-  pub rest : qs ≡ sets ps 0 (l .rest)
-  pub held : r .held ≡ length (l .rest)
-  pub offset : r .offset ≡ l .offset
-  pub count : r .count ≡ l .count
   pub tables : t ≡ l .tables
-  pub ended : r .ended ≡ l .ended
+  pub part : qs ≡ sets ps 0 (l .rest)
+  pub text : ys ≡ sets xs 0 (l .text)
+  pub progress : r ≡ progressOf l
+  pub left : leftOf t qs ys r ≡ l
+
+-- ---- the same of a part and a buffer that are lent
+abbrev pub had : Tables → Over → Over → Progress → Left
+had t part out p = leftOf t (now (part .entry)) (now (out .entry)) p
+
+abbrev pub has : Tables → Over → Over → Progress → Left
+has t part out p = leftOf t (now (part .exit)) (now (out .exit)) p
+
+abbrev pub came : Over → Progress → ℕ → List ℕ
+came part p more = behind (now (part .entry)) p more
+
+abbrev pub Turns : Left → Tables → Over → Over → Progress → Type 0
+Turns l t part out r = Turned l t (now (part .entry)) (now (part .exit)) (now (out .entry)) (now (out .exit)) r

@@ -14,13 +14,13 @@ use rules::Swis;
 use rules::Tasks;
 use text::Text;
 ghost use mathlib.Core.Path.{_≡_};
-ghost use Prim.Native.Nat.{_<_, _≤_};
+ghost use Prim.Native.Nat.{_+_, min};
 ghost use lib.ListN.{length, take, drop};
 ghost use lib.Seq.{sets};
-ghost use Rattle.rules.specs.Tables.{tables};
-ghost use Rattle.parts.specs.Part.{partOf};
+ghost use Rattle.lent.specs.Lent.{lent, before, leaves};
+ghost use Rattle.parts.specs.Part.{partOf, turn, start};
 ghost use Rattle.kernel.specs.Safe.{Safe};
-ghost use Rattle.desk.specs.Done.{comeTo, Gone, Turned};
+ghost use Rattle.desk.specs.Done.{comeTo, progressOf, Gone, had, came, Turns};
 
 // A part of a log: the bytes that waited, and those that came.
 pub type Part = [u8; 2560];
@@ -42,9 +42,9 @@ fn records(
     count: u64,
     out: &mut Text,
 ) -> Ran
-    requires { ⌜ Safe (tables (now tasks) (now lines) (now semaphores) (now events) (now mailboxes) (now swis) (now clocks) (now heap) (now state)) ⌝ }
-    ensures { λ r. ⌜ Gone (partOf last (now (log .entry)) offset count (tables (now (tasks .entry)) (now (lines .entry)) (now (semaphores .entry)) (now (events .entry)) (now (mailboxes .entry)) (now (swis .entry)) (now (clocks .entry)) (now (heap .entry)) (now (state .entry)))) (now (log .entry)) offset (tables (now (tasks .exit)) (now (lines .exit)) (now (semaphores .exit)) (now (events .exit)) (now (mailboxes .exit)) (now (swis .exit)) (now (clocks .exit)) (now (heap .exit)) (now (state .exit))) (now (out .entry)) (now (out .exit)) r ⌝ }
-    ensures { λ _. ⌜ Safe (tables (now (tasks .exit)) (now (lines .exit)) (now (semaphores .exit)) (now (events .exit)) (now (mailboxes .exit)) (now (swis .exit)) (now (clocks .exit)) (now (heap .exit)) (now (state .exit))) ⌝ }
+    requires { ⌜ Safe (lent tasks lines semaphores events mailboxes swis clocks heap state) ⌝ }
+    ensures { λ r. ⌜ Gone (partOf last (now (log .entry)) offset count (before tasks lines semaphores events mailboxes swis clocks heap state)) (now (log .entry)) offset (leaves tasks lines semaphores events mailboxes swis clocks heap state) (now (out .entry)) (now (out .exit)) r ⌝ }
+    ensures { λ _. ⌜ Safe (leaves tasks lines semaphores events mailboxes swis clocks heap state) ⌝ }
 {
     let mut ran = ran_to(0, count, 0, false);
     while !ran.ended & (last | (20 <= log.len() - ran.at)) {
@@ -106,7 +106,34 @@ fn come_to(offset: u64, ran: Ran, held: usize) -> Progress
     }
 }
 
-// One turn of a replay that has come to p: the first n bytes of the part are replayed, and those that wait are moved to its front.
+// Nothing is read yet.
+pub fn begun() -> Progress
+    ensures { λ r. ⌜ r ≡ progressOf start ⌝ }
+{
+    Progress {
+        held: 0,
+        offset: 0,
+        count: 0,
+        len: 0,
+        ended: false,
+    }
+}
+
+// Where the bytes of a part end: those that waited, and more behind them.
+fn end_of(held: usize, more: usize) -> usize
+    ensures { λ r. ⌜ r ≡ min held 2560 + min more 2560 ⌝ }
+{
+    rows::lines::least(held, 2560) + rows::lines::least(more, 2560)
+}
+
+// A buffer of text has its type's length. A reference to it does not tell a proof so, the buffer by value does; nothing is done, and nothing is left
+// of a call in a compiled program.
+fn sized(out: Text)
+    ensures { λ _. ⌜ length out ≡ 16384 ⌝ }
+{}
+
+// One turn of a replay that has come to p: more bytes stand in the part behind those that waited. All of them are replayed, and those that
+// wait then are moved to its front.
 pub fn replay_part(
     tasks: &mut Tasks,
     lines: &mut Lines,
@@ -118,15 +145,17 @@ pub fn replay_part(
     heap: &mut Heap,
     state: &mut State,
     part: &mut Part,
-    n: usize,
+    more: usize,
     last: bool,
     p: Progress,
     out: &mut Text,
 ) -> Progress
-    requires { ⌜ Safe (tables (now tasks) (now lines) (now semaphores) (now events) (now mailboxes) (now swis) (now clocks) (now heap) (now state)) ⌝ }
-    ensures { λ r. ⌜ Turned (partOf last (take n (now (part .entry))) (p .offset) (p .count) (tables (now (tasks .entry)) (now (lines .entry)) (now (semaphores .entry)) (now (events .entry)) (now (mailboxes .entry)) (now (swis .entry)) (now (clocks .entry)) (now (heap .entry)) (now (state .entry)))) (tables (now (tasks .exit)) (now (lines .exit)) (now (semaphores .exit)) (now (events .exit)) (now (mailboxes .exit)) (now (swis .exit)) (now (clocks .exit)) (now (heap .exit)) (now (state .exit))) (now (part .entry)) (now (part .exit)) (now (out .entry)) (now (out .exit)) r × ((r .held < 20) × (r .len ≤ 16384)) ⌝ }
-    ensures { λ _. ⌜ Safe (tables (now (tasks .exit)) (now (lines .exit)) (now (semaphores .exit)) (now (events .exit)) (now (mailboxes .exit)) (now (swis .exit)) (now (clocks .exit)) (now (heap .exit)) (now (state .exit))) ⌝ }
+    requires { ⌜ Safe (lent tasks lines semaphores events mailboxes swis clocks heap state) ⌝ }
+    ensures { λ r. ⌜ Turns (turn last (came part p more) (had (before tasks lines semaphores events mailboxes swis clocks heap state) part out p)) (leaves tasks lines semaphores events mailboxes swis clocks heap state) part out r ⌝ }
+    ensures { λ _. ⌜ Safe (leaves tasks lines semaphores events mailboxes swis clocks heap state) ⌝ }
 {
+    sized(*out);
+    let n = end_of(p.held, more);
     let log = text::front(part, n);
     let ran = records(
         tasks,

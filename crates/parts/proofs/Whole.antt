@@ -21,6 +21,7 @@ use Rattle.rules.specs.declared.Tables.{Tables}
 use Rattle.calllog.proofs.Records.{record-fits}
 use Rattle.parts.specs.Part.{kept, Left, textBefore, waiting, lastText, over, partFor, readable, partOf, turn, start, written}
 use Rattle.parts.proofs.Steps.{linesAt, lines-step, partAt, part-whole, part-step}
+use Rattle.parts.proofs.Bounds.{no-test}
 
 -- ---- what is read in a part is what is read in the log
 shifted : ℕ → Read → Read
@@ -170,10 +171,6 @@ line-alone x = sym (append-nil (x ++ lineFeed))
 test-of : (b c : Bool) → (b || c) ≡ true → (b ≡ true) ⊎ (c ≡ true)
 test-of true c e = inl refl
 test-of false c e = inr e
-
-no-test : (b c : Bool) → (b || c) ≡ false → b ≡ true → ⊥
-no-test true c e h = true≢false e
-no-test false c e h = false≢true h
 
 -- ---- one part of log w
 module _ (w : List ℕ) (small : length w < 2 ^ 64) where

@@ -2,7 +2,7 @@
 use Prim.Native.Nat.{ℕ, zero, suc, _+_, _-_, _/_, _%_, _^_}
 use mathlib.Core.Bool.{Bool, true, false, _||_, cond as if}
 use mathlib.Core.List.{List, [], _∷_, _++_}
-use lib.Dec.{leb}
+use lib.Dec.{leb, eqb}
 use lib.ListN.{length, drop}
 use Rattle.rules.specs.Fresh.{fresh}
 use Rattle.rules.specs.Log.{readAt, argumentBytes}
@@ -78,11 +78,20 @@ partOf last s o n t = partFrom (suc (length s / 20)) last s o 0 n t
 abbrev pub turn : Bool → List ℕ → Left → Left
 turn last came l = partOf last (l .rest ++ came) (l .offset) (l .count) (l .tables)
 
+-- a replay that begins with tables t: nothing is read yet
+abbrev pub begins : Tables → Left
+begins t = record { text = []; rest = []; offset = 0; count = 0; tables = t; ended = false }
+
 -- "Replay starts fresh"
 abbrev pub start : Left
-start = record { text = []; rest = []; offset = 0; count = 0; tables = fresh; ended = false }
+start = begins fresh
 
 -- all that is written for a log that comes in these parts, until it has ended
 unfoldable pub written : List (List ℕ) → Left → List ℕ
 written [] l = turn true [] l .text
 written (c ∷ cs) l = let m : Left = turn false c l in m .text ++ if (m .ended) [] (written cs m)
+
+-- what is left by reads that brought these bytes, one after the other, until it has ended; a read that brings none says that nothing follows
+unfoldable pub leftBy : List (List ℕ) → Left → Left
+leftBy [] l = l
+leftBy (c ∷ cs) l = let m : Left = turn (eqb (length c) 0) c l in if (m .ended) m (leftBy cs m)

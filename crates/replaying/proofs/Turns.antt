@@ -1,10 +1,139 @@
--- A turn that is made was left.
-use Prim.Native.Nat.{ℕ, zero, suc, _<_}
-use mathlib.Core.Path.{_≡_, sym}
-use mathlib.Core.Bool.{Bool, true, _&&_, true≢false}
+-- What is handed from turn to turn: what the reads so far leave, whether or not the replay was stopped.
+use Prim.Native.Nat.{ℕ, _-_, _≤_, _<_}
+use mathlib.Core.Path.{_≡_, refl, sym, ap, _∙_}
+use mathlib.Core.Logic.{_⊎_, inl, inr, ⊎-elim}
+use mathlib.Core.Bool.{Bool, true, false, not, _&&_, cond as if, true≢false, false≢true}
+use mathlib.Core.List.{List, [], _∷_, _++_}
 use native.Mathlib.Omega.{arith}
-use lib.Dec.{ltb}
+use lib.Dec.{ltb, eqb}
+use lib.ListN.{length, take, drop, length-take, length-drop}
+use lib.Seq.{length-take-le}
+use borrow.Author.Tests.{ltb-true, not-true}
+use Rattle.rules.specs.declared.Tables.{Tables}
+use Rattle.parts.specs.Part.{Left, turn, begins, start, leftBy}
+use Rattle.desk.specs.declared.Progress.{Progress}
+use Rattle.desk.specs.Done.{leftOf, progressOf, behind, Turned}
+use Rattle.replaying.specs.declared.Came.{Came}
+use Rattle.replaying.specs.Turns.{Behind, stopped, stop, HandedIf, Handed, Replayed}
 
-pub one-left : (n : ℕ) (b : Bool) → (ltb 0 n && b) ≡ true → 0 < n
-one-left zero b h = absurd (true≢false (sym h))
-one-left (suc n) b h = omega arith
+-- a turn that is made was left, and the replay had not ended
+both : (a b : Bool) → (a && b) ≡ true → (a ≡ true) × (b ≡ true)
+both true b h = (refl, h)
+both false b h = absurd (true≢false (sym h))
+
+pub goes-on : (n : ℕ) (b : Bool) → (ltb 0 n && not b) ≡ true → (0 < n) × (b ≡ false)
+goes-on n b h = let k = both (ltb 0 n) (not b) h in (ltb-true 0 n (k .0), not-true b (k .1))
+
+-- what a read counts has room behind the bytes that wait
+pub has-room : (held : ℕ) (qs : List ℕ) {more : ℕ} → more ≤ length (take (length qs - held) (drop held qs)) → more ≤ length qs - held
+has-room held qs h = omega (arith, length-take (length qs - held) (drop held qs))
+
+-- ---- a turn
+-- the read failed
+pub handed-none : (r : Came) (t : Tables) (ps xs c : List ℕ) (p : Progress) {q : Progress} → r .failed ≡ true → q ≡ stopped p
+    → Handed r c (leftOf t ps xs p) (leftOf t ps xs q)
+handed-none r t ps xs c p h e = rw (h, e)
+
+-- it did not: the text is written, or the replay is stopped
+pub handed-on : (r : Came) (l : Left) (c : List ℕ) {t : Tables} {ps qs xs ys : List ℕ} {p q : Progress} → r .failed ≡ false
+    → Turned (turn (r .last) c l) t ps qs xs ys p → (q ≡ p) ⊎ (q ≡ stopped p)
+    → Handed r c l (leftOf t qs ys q)
+handed-on r l c h g e =
+    rw h (⊎-elim (λ (f : _ ≡ _). inl (rw f (g .left))) (λ (f : _ ≡ _). inr (rw f (ap stop (g .left)))) e)
+
+-- ---- what reads leave
+if-same : (b : Bool) (l : Left) → if b l l ≡ l
+if-same true l = refl
+if-same false l = refl
+
+-- what has not ended goes on
+if-open : (b : Bool) (m l : Left) → m .ended ≡ b → if b m l .ended ≡ false → if b m l ≡ l × ((x : Left) → if b m x ≡ x)
+if-open true m l e h = absurd (true≢false (sym e ∙ h))
+if-open false m l e h = (refl, λ x. refl)
+
+-- one read more
+left-more : (cs : List (List ℕ)) (c : List ℕ) (l : Left) → leftBy cs l .ended ≡ false
+    → leftBy (cs ++ (c ∷ [])) l ≡ turn (eqb (length c) 0) c (leftBy cs l)
+unfolding leftBy
+left-more [] c l h = if-same (turn (eqb (length c) 0) c l .ended) (turn (eqb (length c) 0) c l)
+left-more (d ∷ cs) c l h =
+    let m : Left = turn (eqb (length d) 0) d l in
+    let (on, same) = if-open (m .ended) m (leftBy cs m) refl h in
+    same (leftBy (cs ++ (c ∷ [])) m)
+    ∙ left-more cs c m (sym (ap (λ (x : Left). x .ended) on) ∙ h)
+    ∙ ap (turn (eqb (length c) 0) c) (sym on)
+
+-- ---- the replay of tables t₀
+module _ (t₀ : Tables) where
+  -- it has come to what some reads leave, or was stopped there
+  pub record Sofar (t : Tables) (ps xs : List ℕ) (p : Progress) : Type 0 where
+    pub came : List (List ℕ)
+    pub left : (leftOf t ps xs p ≡ leftBy came (begins t₀)) ⊎ (leftOf t ps xs p ≡ stop (leftBy came (begins t₀)))
+
+  pub sofar-none : (ps xs : List ℕ) {p : Progress} → p ≡ progressOf start → Sofar t₀ ps xs p
+  unfolding leftBy
+  sofar-none ps xs e = rw e (record { came = []; left = inl refl })
+
+  module _ {t : Tables} {ps xs : List ℕ} {p : Progress} (v : Sofar t ps xs p) where
+    -- where it has not ended it was not stopped
+    going : p .ended ≡ false → leftOf t ps xs p ≡ leftBy (v .came) (begins t₀)
+    going h =
+        ⊎-elim
+        (λ (e : leftOf t ps xs p ≡ leftBy (v .came) (begins t₀)). e)
+        (λ (e : leftOf t ps xs p ≡ stop (leftBy (v .came) (begins t₀))). absurd (false≢true (sym h ∙ ap (λ (l : Left). l .ended) e)))
+        (v .left)
+
+    -- the tables are those
+    pub sofar-tables : Replayed t₀ t
+    sofar-tables =
+        record {
+          came = v .came;
+          tables =
+              ⊎-elim
+              (λ (e : leftOf t ps xs p ≡ leftBy (v .came) (begins t₀)). ap (λ (l : Left). l .tables) e)
+              (λ (e : leftOf t ps xs p ≡ stop (leftBy (v .came) (begins t₀))). ap (λ (l : Left). l .tables) e)
+              (v .left);
+        }
+
+    -- one turn more, by what a read brought
+    module _ (on : p .ended ≡ false) (r : Came) {qs : List ℕ} (b : Behind (p .held) ps qs r) where
+      abbrev bytes : List ℕ
+      bytes = behind qs p (r .more)
+
+      -- what waited is still there
+      before-is : leftOf t qs xs p ≡ leftBy (v .came) (begins t₀)
+      before-is = rw (b .waits) (going on)
+
+      not-over : leftBy (v .came) (begins t₀) .ended ≡ false
+      not-over = sym (ap (λ (l : Left). l .ended) (going on)) ∙ on
+
+      -- nothing follows where nothing came
+      last-is : r .failed ≡ false → r .last ≡ eqb (length bytes) 0
+      last-is h =
+          let all : length bytes ≡ r .more = length-take-le (r .more) (drop (p .held) qs) (omega (arith, b .room, length-drop (p .held) qs)) in
+          b .last ∙ rw (h, all)
+
+      next-is : r .failed ≡ false → turn (r .last) bytes (leftOf t qs xs p) ≡ leftBy (v .came ++ (bytes ∷ [])) (begins t₀)
+      next-is h =
+          ap (λ (z : Bool). turn z bytes (leftOf t qs xs p)) (last-is h)
+          ∙ ap (turn (eqb (length bytes) 0) bytes) before-is
+          ∙ sym (left-more (v .came) bytes (begins t₀) not-over)
+
+      pub sofar-next : {u : Tables} {qs′ ys : List ℕ} {q : Progress} → Handed r bytes (leftOf t qs xs p) (leftOf u qs′ ys q) → Sofar u qs′ ys q
+      sofar-next {u} {qs′} {ys} {q} = by-read (r .failed) refl
+        where
+          by-read : (f : Bool) → r .failed ≡ f → HandedIf f (leftOf t qs xs p) (turn (r .last) bytes (leftOf t qs xs p)) (leftOf u qs′ ys q) → Sofar u qs′ ys q
+          by-read true e h = record { came = v .came; left = inr (h ∙ ap stop before-is) }
+          by-read false e h =
+              record {
+                came = v .came ++ (bytes ∷ []);
+                left =
+                    ⊎-elim
+                    (λ (k : leftOf u qs′ ys q ≡ turn (r .last) bytes (leftOf t qs xs p)). inl (k ∙ next-is e))
+                    (λ (k : leftOf u qs′ ys q ≡ stop (turn (r .last) bytes (leftOf t qs xs p))). inr (k ∙ ap stop (next-is e)))
+                    h;
+              }
+
+-- the tables that it began with, by another name
+pub replayed-from : {t t₀ u : Tables} → t ≡ t₀ → Replayed t u → Replayed t₀ u
+replayed-from e r = rw e at r

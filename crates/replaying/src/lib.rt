@@ -12,40 +12,50 @@ use rules::Swis;
 use rules::Tables;
 use rules::Tasks;
 use text::Text;
-ghost use Rattle.rules.specs.Tables.{tables};
+ghost use mathlib.Core.Path.{_≡_};
+ghost use mathlib.Core.Logic.{_⊎_};
+ghost use Rattle.rules.specs.Fresh.{fresh};
 ghost use Rattle.rules.specs.Sound.{Sound};
+ghost use Rattle.lent.specs.Lent.{lent, before, leaves};
 ghost use Rattle.kernel.specs.Safe.{Safe};
+ghost use Rattle.desk.specs.Done.{had, has, came};
+ghost use Rattle.replaying.specs.Turns.{Behind, stopped, Handed, Replayed};
 
-// What a read left in a part: how many bytes are there now, whether nothing follows, whether it failed.
+// What a read brought: how many bytes, whether nothing follows, whether it failed.
 struct Came {
-    n: usize,
+    more: usize,
     last: bool,
     failed: bool,
 }
 
 // Reads behind the bytes that wait; `name` is told where the read fails. There is always room: fewer than 20 of them wait.
-fn read_behind(fd: i32, name: &[u8], part: &mut [u8], held: usize) -> Came {
+fn read_behind(fd: i32, name: &[u8], part: &mut [u8], held: usize) -> Came
+    ensures { λ r. ⌜ Behind held (now (part .entry)) (now (part .exit)) r ⌝ }
+{
     if part.len() <= held {
         return Came {
-            n: 0,
-            last: true,
+            more: 0,
+            last: false,
             failed: true,
         };
     }
     let got = libc::read(fd, &mut part[held..]);
-    if got < 0 {
+    let failed = got < 0;
+    if failed {
         os::fail(name);
     }
     let more = io::count(got, &part[held..]);
     Came {
-        n: held + more,
-        last: got == 0,
-        failed: got < 0,
+        more,
+        last: !failed & (more == 0),
+        failed,
     }
 }
 
 // The same on the whole part, which becomes a slice where it is passed on.
-fn read_part(fd: i32, name: &[u8], part: &mut Part, held: usize) -> Came {
+fn read_part(fd: i32, name: &[u8], part: &mut Part, held: usize) -> Came
+    ensures { λ r. ⌜ Behind held (now (part .entry)) (now (part .exit)) r ⌝ }
+{
     read_behind(fd, name, part, held)
 }
 
@@ -61,14 +71,18 @@ fn write_text(out: &[u8], len: usize) -> bool {
     false
 }
 
-fn stopped(p: Progress) -> Progress {
+fn stopped(p: Progress) -> Progress
+    ensures { λ r. ⌜ r ≡ stopped p ⌝ }
+{
     let mut over = p;
     over.ended = true;
     over
 }
 
 // Writes the text of a turn; the replay has ended where it cannot be written.
-fn written(out: &[u8], p: Progress) -> Progress {
+fn written(out: &[u8], p: Progress) -> Progress
+    ensures { λ r. ⌜ (r ≡ p) ⊎ (r ≡ stopped p) ⌝ }
+{
     if write_text(out, p.len) {
         return p;
     }
@@ -87,14 +101,15 @@ fn turn(
     heap: &mut Heap,
     state: &mut State,
     part: &mut Part,
-    came: Came,
+    read: Came,
     p: Progress,
     out: &mut Text,
 ) -> Progress
-    requires { ⌜ Safe (tables (now tasks) (now lines) (now semaphores) (now events) (now mailboxes) (now swis) (now clocks) (now heap) (now state)) ⌝ }
-    ensures { λ _. ⌜ Safe (tables (now (tasks .exit)) (now (lines .exit)) (now (semaphores .exit)) (now (events .exit)) (now (mailboxes .exit)) (now (swis .exit)) (now (clocks .exit)) (now (heap .exit)) (now (state .exit))) ⌝ }
+    requires { ⌜ Safe (lent tasks lines semaphores events mailboxes swis clocks heap state) ⌝ }
+    ensures { λ r. ⌜ Handed read (came part p (read .more)) (had (before tasks lines semaphores events mailboxes swis clocks heap state) part out p) (has (leaves tasks lines semaphores events mailboxes swis clocks heap state) part out r) ⌝ }
+    ensures { λ _. ⌜ Safe (leaves tasks lines semaphores events mailboxes swis clocks heap state) ⌝ }
 {
-    if came.failed {
+    if read.failed {
         return stopped(p);
     }
     let next = desk::replay_part(
@@ -108,23 +123,12 @@ fn turn(
         heap,
         state,
         part,
-        came.n,
-        came.last,
+        read.more,
+        read.last,
         p,
         out,
     );
     written(out, next)
-}
-
-// Nothing is read yet.
-fn begun() -> Progress {
-    Progress {
-        held: 0,
-        offset: 0,
-        count: 0,
-        len: 0,
-        ended: false,
-    }
 }
 
 // All turns.
@@ -142,15 +146,16 @@ fn all_turns(
     fd: i32,
     name: &[u8],
 )
-    requires { ⌜ Safe (tables (now tasks) (now lines) (now semaphores) (now events) (now mailboxes) (now swis) (now clocks) (now heap) (now state)) ⌝ }
-    ensures { λ _. ⌜ Safe (tables (now (tasks .exit)) (now (lines .exit)) (now (semaphores .exit)) (now (events .exit)) (now (mailboxes .exit)) (now (swis .exit)) (now (clocks .exit)) (now (heap .exit)) (now (state .exit))) ⌝ }
+    requires { ⌜ Safe (lent tasks lines semaphores events mailboxes swis clocks heap state) ⌝ }
+    ensures { λ _. ⌜ Replayed (before tasks lines semaphores events mailboxes swis clocks heap state) (leaves tasks lines semaphores events mailboxes swis clocks heap state) ⌝ }
+    ensures { λ _. ⌜ Safe (leaves tasks lines semaphores events mailboxes swis clocks heap state) ⌝ }
 {
     let mut part = [0u8; 2560];
     let mut out = [0u8; 16384];
-    let mut p = begun();
+    let mut p = desk::begun();
     let mut turns = u64::MAX;
     while (0 < turns) & !p.ended {
-        let came = read_part(fd, name, &mut part, p.held);
+        let read = read_part(fd, name, &mut part, p.held);
         p = turn(
             tasks,
             lines,
@@ -162,7 +167,7 @@ fn all_turns(
             heap,
             state,
             &mut part,
-            came,
+            read,
             p,
             &mut out,
         );
@@ -172,6 +177,7 @@ fn all_turns(
 
 // Replays what can be read at fd, and answers the tables that it came to; `name` is told where a read fails.
 pub fn replay_all(fd: i32, name: &[u8]) -> Tables
+    ensures { λ r. ⌜ Replayed fresh r ⌝ }
     ensures { λ r. ⌜ Sound r ⌝ }
 {
     let fresh = entries::fresh();

@@ -1,20 +1,22 @@
--- The laws of `Put`: nothing, one byte, one text after another; and a text that fits.
+-- The laws of `PutIn`: nothing, one byte, one text after another; and a text that fits.
 use Prim.Native.Nat.{ℕ, zero, suc, _+_, _-_, _/_, _%_, _≤_, _<_}
 use mathlib.Core.Path.{_≡_, refl, sym, ap, _∙_}
-use mathlib.Core.Bool.{cond as if}
+use mathlib.Core.Logic.{_⊎_, inl, inr, ⊎-elim}
+use mathlib.Core.Bool.{true, false, _&&_, cond as if, true≢false}
 use mathlib.Core.List.{List, [], _∷_, _++_, append-assoc}
 use native.Mathlib.Numerals.{add-one, sub-one}
 use native.Mathlib.Nat.{sub-zero, add-zero}
 use native.Mathlib.Omega.{arith}
 use lib.Dec.{ltb}
-use lib.ListN.{length, take, set, getD, length-append, length-take}
+use lib.ListN.{length, take, drop, set, getD, length-append, length-take, take-append-drop}
 use lib.Seq.{take-all, take-nil, take-suc}
-use borrow.Author.Tests.{lt-ltb, le-ltb}
+use borrow.Author.Tests.{lt-ltb, le-ltb, ltb-true, ltb-false}
+use Rattle.fold.proofs.Laws.{lt-or-le}
 use Rattle.fold.proofs.Runs.{sets-append}
 use Rattle.rules.specs.Text.{digits, decimal, space, lineFeed, threadText, lineText, wordText}
 use Rattle.rules.specs.declared.Answer.{Answer}
 use Rattle.rules.specs.declared.Thread.{Thread}
-use Rattle.text.specs.Put.{fitting, Put}
+use Rattle.text.specs.Put.{fitting, PutIn, Put}
 
 take-both : (n : ℕ) (t u : List ℕ) → take n (t ++ u) ≡ take n t ++ take (n - length t) u
 take-both n [] u = rw (sub-zero n, take-nil {A = ℕ} n)
@@ -22,55 +24,57 @@ take-both zero (x ∷ t) u = let e : 0 - suc (length t) ≡ 0 = omega arith in r
 take-both (suc n) (x ∷ t) u =
     let e : suc n - suc (length t) ≡ n - length t = omega arith in rw e (ap (λ (l : List ℕ). x ∷ l) (take-both n t u))
 
--- what fits of two texts is what fits of the first, and what fits of the second behind it
-fitting-both : (at : ℕ) (t u : List ℕ) → fitting at (t ++ u) ≡ fitting at t ++ fitting (at + length (fitting at t)) u
-unfolding fitting
-fitting-both at t u =
-    let e : 16384 - at - length t ≡ 16384 - (at + length (take (16384 - at) t)) = omega (arith, length-take (16384 - at) t) in
-    take-both (16384 - at) t u ∙ ap (λ (n : ℕ). take (16384 - at) t ++ take n u) e
+module _ (size : ℕ) where
+  -- what fits of two texts is what fits of the first, and what fits of the second behind it
+  fitting-both : (at : ℕ) (t u : List ℕ) → fitting size at (t ++ u) ≡ fitting size at t ++ fitting size (at + length (fitting size at t)) u
+  unfolding fitting
+  fitting-both at t u =
+      let e : size - at - length t ≡ size - (at + length (take (size - at) t)) = omega (arith, length-take (size - at) t) in
+      take-both (size - at) t u ∙ ap (λ (n : ℕ). take (size - at) t ++ take n u) e
 
--- a text that ends within the buffer fits
-pub fits : (at : ℕ) (t : List ℕ) → at + length t ≤ 16384 → fitting at t ≡ t
-unfolding fitting
-fits at t h = take-all (16384 - at) t (omega arith)
+  -- a text that ends within the buffer fits
+  pub fits : (at : ℕ) (t : List ℕ) → at + length t ≤ size → fitting size at t ≡ t
+  unfolding fitting
+  fits at t h = take-all (size - at) t (omega arith)
 
-past : (at : ℕ) (t : List ℕ) → 16384 ≤ at → fitting at t ≡ []
-unfolding fitting
-past at t h = let e : 16384 - at ≡ 0 = omega arith in rw e
+  past : (at : ℕ) (t : List ℕ) → size ≤ at → fitting size at t ≡ []
+  unfolding fitting
+  past at t h = let e : size - at ≡ 0 = omega arith in rw e
 
-none : (at : ℕ) → fitting at [] ≡ []
-unfolding fitting
-none at = take-nil (16384 - at)
+  none : (at : ℕ) → fitting size at [] ≡ []
+  unfolding fitting
+  none at = take-nil (size - at)
 
--- ---- one text
-module _ (xs : List ℕ) (at : ℕ) where
-  pub put-none : Put xs at [] xs at
-  put-none = record { bytes = rw (none at); end = rw (none at, add-zero at) }
+  -- ---- one text
+  module _ (xs : List ℕ) (at : ℕ) where
+    pub put-none : PutIn size xs at [] xs at
+    put-none = record { bytes = rw (none at); end = rw (none at, add-zero at) }
 
-  pub put-one : (b : ℕ) → at < 16384 → Put xs at (b ∷ []) (set xs at b) (at + 1)
-  put-one b h =
-      let e : fitting at (b ∷ []) ≡ b ∷ [] = fits at (b ∷ []) (omega arith) in record { bytes = rw e; end = rw e }
+    pub put-one : (b : ℕ) → at < size → PutIn size xs at (b ∷ []) (set xs at b) (at + 1)
+    put-one b h =
+        let e : fitting size at (b ∷ []) ≡ b ∷ [] = fits at (b ∷ []) (omega arith) in record { bytes = rw e; end = rw e }
 
-  pub put-out : (t : List ℕ) → 16384 ≤ at → Put xs at t xs at
-  put-out t h = record { bytes = rw (past at t h); end = rw (past at t h, add-zero at) }
+    pub put-out : (t : List ℕ) → size ≤ at → PutIn size xs at t xs at
+    put-out t h = record { bytes = rw (past at t h); end = rw (past at t h, add-zero at) }
 
 -- ---- a text, and then another where it ends
-module _ {xs ys zs : List ℕ} {at r q : ℕ} {t u : List ℕ} where
-  pub put-more : Put xs at t ys r → Put ys r u zs q → Put xs at (t ++ u) zs q
+module _ {size : ℕ} {xs ys zs : List ℕ} {at r q : ℕ} {t u : List ℕ} where
+  pub put-more : PutIn size xs at t ys r → PutIn size ys r u zs q → PutIn size xs at (t ++ u) zs q
   put-more p s =
       record {
         bytes =
             s .bytes
-            ∙ rw (p .bytes, p .end, fitting-both at t u)
-            (sym (sets-append (fitting at t) (fitting (at + length (fitting at t)) u) xs at));
+            ∙ rw (p .bytes, p .end, fitting-both size at t u)
+            (sym (sets-append (fitting size at t) (fitting size (at + length (fitting size at t)) u) xs at));
         end =
-            s .end ∙ rw (p .end, fitting-both at t u, length-append (fitting at t) (fitting (at + length (fitting at t)) u)) (omega arith);
+            s .end
+            ∙ rw (p .end, fitting-both size at t u, length-append (fitting size at t) (fitting size (at + length (fitting size at t)) u)) (omega arith);
       }
 
 -- ---- the digits
 pub put-digits-none : (xs : List ℕ) (at k n : ℕ) → k ≡ 0 → Put xs at (digits k n) xs at
 unfolding digits
-put-digits-none xs at k n e = rw e (put-none xs at)
+put-digits-none xs at k n e = rw e (put-none 16384 xs at)
 
 digits-step : (k n : ℕ) → (k ≡ 0 → ⊥) → digits k n ≡ if (ltb n 10) ((48 + n) ∷ []) (digits (k - 1) (n / 10) ++ ((48 + n % 10) ∷ []))
 unfolding digits
@@ -86,12 +90,29 @@ module _ {xs ys : List ℕ} {at r : ℕ} (k n : ℕ) (h : k ≡ 0 → ⊥) where
   put-digits-more l p s = rw (digits-step k n h, le-ltb n 10 l) (put-more p s)
 
 -- ---- a text by its bytes
-module _ {xs ys : List ℕ} {at r : ℕ} (t : List ℕ) (i : ℕ) where
-  pub put-next : {zs : List ℕ} {q : ℕ} → i < length t → Put xs at (take i t) ys r → Put ys r (getD t i 0 ∷ []) zs q → Put xs at (take (i + 1) t) zs q
+module _ {size : ℕ} {xs ys : List ℕ} {at r : ℕ} (t : List ℕ) (i : ℕ) where
+  pub put-next : {zs : List ℕ} {q : ℕ} → i < length t → PutIn size xs at (take i t) ys r → PutIn size ys r (getD t i 0 ∷ []) zs q
+      → PutIn size xs at (take (i + 1) t) zs q
   put-next h p s = rw (add-one, take-suc t i 0 h) (put-more p s)
 
-  pub put-whole : length t ≤ i → Put xs at (take i t) ys r → Put xs at t ys r
+  pub put-whole : length t ≤ i → PutIn size xs at (take i t) ys r → PutIn size xs at t ys r
   put-whole h p = rw (take-all i t h) at p
+
+  -- the buffer is full
+  pub put-full : size ≤ r → PutIn size xs at (take i t) ys r → PutIn size xs at t ys r
+  put-full h p = rw (take-append-drop i t) at (put-more p (put-out size ys r (drop i t) h))
+
+-- ---- a byte is left, and there is room for it; or not
+pub left-and-room : (a n b m : ℕ) → (ltb a n && ltb b m) ≡ true → (a < n) × (b < m)
+left-and-room a n b m h =
+    ⊎-elim
+    (λ (p : a < n). (p, ltb-true b m (rw (lt-ltb a n p) at h)))
+    (λ (p : n ≤ a). absurd (true≢false (sym h ∙ rw (le-ltb a n p))))
+    (lt-or-le a n)
+
+pub none-or-full : (a n b m : ℕ) → (ltb a n && ltb b m) ≡ false → (n ≤ a) ⊎ (m ≤ b)
+none-or-full a n b m h =
+    ⊎-elim (λ (p : a < n). inr (ltb-false b m (rw (lt-ltb a n p) at h))) (λ (p : n ≤ a). inl p) (lt-or-le a n)
 
 -- ---- a line, by its columns
 pub line-is : (n : ℕ) (r : Answer) (x : Thread)

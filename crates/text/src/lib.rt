@@ -3,9 +3,9 @@ use rules::Answer;
 use rules::Thread;
 ghost use mathlib.Core.Path.{_≡_};
 ghost use mathlib.Core.List.{_∷_, [], _++_};
-ghost use lib.ListN.{take};
+ghost use lib.ListN.{length, take};
 ghost use Rattle.rules.specs.Text.{digits, decimal, space, lineFeed, threadText, lineText, wordText};
-ghost use Rattle.text.specs.Put.{Put};
+ghost use Rattle.text.specs.Put.{PutIn, Put};
 
 // A buffer of text.
 pub type Text = [u8; 16384];
@@ -88,6 +88,20 @@ pub fn put_text(out: &mut Text, at: usize, text: &[u8]) -> usize
     let mut i = 0;
     while i < text.len() {
         p = put_byte(out, p, text[i]);
+        i += 1;
+    }
+    p
+}
+
+// A text in a buffer of any length.
+pub fn put_in(out: &mut [u8], at: usize, text: &[u8]) -> usize
+    ensures { λ r. ⌜ PutIn (length (now (out .entry))) (now (out .entry)) at (now (text .entry)) (now (out .exit)) r ⌝ }
+{
+    let mut p = at;
+    let mut i = 0;
+    while (i < text.len()) & (p < out.len()) {
+        out[p] = text[i];
+        p += 1;
         i += 1;
     }
     p

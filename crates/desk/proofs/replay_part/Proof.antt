@@ -1,8 +1,46 @@
-use Rattle.rules.specs.Tables.{tables}
-use Rattle.desk.proofs.Going.{turned}
+-- `desk::replay_part` meets its contract: the records of all bytes leave what the turn's definition says, their text fits, and the rest is in front.
 use borrow.Author.Needs.{needs}
+use Rattle.lent.specs.Lent.{lent}
+use Rattle.desk.proofs.Going.{turned}
 use Rattle.desk.proofs.replay_part.Statement.{statement}
 use Rattle.desk.proofs.replay_part.Tie as tie
+
+-- ---- the places where something is known
+abbrev at-records : tie.After-come-to → tie.After-records
+at-records c = c .before .before .before
+
+abbrev at-front : tie.After-records → tie.After-front
+at-front c = c .before .before .before .before .before .before .before .before .before .before .before
+
+abbrev at-end : tie.After-front → tie.After-end-of
+at-end c = c .before .before .before
+
+abbrev at-start : tie.After-end-of → tie.Start
+at-start c = c .before .before .before
+
+returns : tie.Need-returns
+returns c =
+    let ran = at-records c .records in
+    let read = at-front (at-records c) in
+    let end = at-end read in
+    let a = at-start end .args in (
+      turned
+          (a .last)
+          (a .p)
+          (a .more)
+          (lent (a .tasks) (a .lines) (a .semaphores) (a .events) (a .mailboxes) (a .swis) (a .clocks) (a .heap) (a .state))
+          (a .part .now)
+          (a .out .now)
+          (read .before .front-arg2 .given .0)
+          (end .before .sized .ensures)
+          (end .end-of .ensures)
+          (read .front .ensures)
+          (ran .result)
+          (ran .ensures .0)
+          (c .before .to-front .ensures)
+          (c .come-to .ensures),
+      ran .ensures .1,
+    )
 
 pub replay-part-spec : {M : Type 1} → statement M
 replay-part-spec =
@@ -12,4 +50,6 @@ replay-part-spec =
     (λ c κs. search needs)
     (λ c κs. search needs)
     (λ c κs. search needs)
-    (λ c. let a = c .before .before .before .before .before .before .before .before .before .before .before .before .before .before .before .before .before .args in (turned (a .last) (a .n) (a .p .offset) (a .p .count) (tables (a .tasks .now) (a .lines .now) (a .semaphores .now) (a .events .now) (a .mailboxes .now) (a .swis .now) (a .clocks .now) (a .heap .now) (a .state .now)) (a .part .now) (a .out .now) (c .before .before .before .before .before .before .before .before .before .before .before .before .before .before .before .front-arg2 .given .0) (c .before .before .before .before .before .before .before .before .before .before .before .before .before .before .front .ensures) (c .before .before .before .records .result) (c .before .before .before .records .ensures .0) (c .before .to-front .ensures) (c .come-to .ensures), c .before .before .before .records .ensures .1)))
+    (λ c κs. search needs)
+    (λ c κs. search needs)
+    returns)

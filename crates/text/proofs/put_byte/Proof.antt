@@ -9,5 +9,5 @@ put-byte-spec =
     (tie.spec
     (λ c. search needs)
     (λ c. search needs)
-    (λ c. let b = c .before in put-one (b .args .out .now) (b .args .at) (b .args .b) (c .if1 .taken))
-    (λ c. let b = c .before in put-out (b .args .out .now) (b .args .at) _ (c .if1 .left)))
+    (λ c. let b = c .before in put-one 16384 (b .args .out .now) (b .args .at) (b .args .b) (c .if1 .taken))
+    (λ c. let b = c .before in put-out 16384 (b .args .out .now) (b .args .at) _ (c .if1 .left)))

@@ -18,7 +18,7 @@ put-text-spec =
     (tie.spec
     Inv-loop
     μ-loop
-    (λ c. let b = c .before in (search needs, put-none (b .args .out .now) (b .args .at)))
+    (λ c. let b = c .before in (search needs, put-none 16384 (b .args .out .now) (b .args .at)))
     (λ c. search needs)
     (λ c κs. search needs)
     (λ c. search needs)

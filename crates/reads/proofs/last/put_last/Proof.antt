@@ -25,7 +25,7 @@ put-last-spec =
     (λ c. search needs)
     (λ c κs. search needs)
     (λ c κs. search needs)
-    (λ c. rw (c .enum-told .given .1) (put-none _ _))
+    (λ c. rw (c .enum-told .given .1) (put-none _ _ _))
     (λ c. rw (c .before .before .before .enum-told2 .given .1) (c .put-word .ensures))
     (λ c. rw (c .before .before .before .before .before .found .given .1, ← c .before .wrapping-add-u64 .ensures) (c .put-word2 .ensures))
     (λ c. rw (c .before .before .before .before .before .found2 .given .1, ← c .before .wrapping-add-u642 .ensures) (c .put-word3 .ensures))

@@ -1,0 +1,16 @@
+-- `replaying::replay_all` meets its contract: it begins with fresh tables, and hands back those that all turns left.
+use borrow.Author.Needs.{needs}
+use Rattle.replaying.proofs.Turns.{replayed-from}
+use Rattle.replaying.proofs.replay_all.Statement.{statement}
+use Rattle.replaying.proofs.replay_all.Tie as tie
+
+abbrev at-fresh : tie.After-all-turns → tie.After-fresh
+at-fresh c =
+    c .before .before .before .before .before .before .before .before .before .before .before .before .before .before .before .before .before .before .before
+
+returns : tie.Need-returns
+returns c =
+    let left = c .all-turns .ensures in (replayed-from (at-fresh c .fresh .ensures .0) (left .0), left .1 .sound)
+
+pub replay-all-spec : {M : Type 1} → statement M
+replay-all-spec = tie.close (tie.spec (λ c κs. search needs) (λ c κs. search needs) returns)

@@ -1,0 +1,40 @@
+-- What is handed from turn to turn, whatever is read and whether or not it can be written.
+use Prim.Native.Nat.{ℕ, _-_, _≤_}
+use mathlib.Core.Path.{_≡_}
+use mathlib.Core.Logic.{_⊎_}
+use mathlib.Core.Bool.{Bool, true, false, not, _&&_}
+use mathlib.Core.List.{List}
+use lib.Dec.{eqb}
+use lib.ListN.{length, take}
+use Rattle.rules.specs.declared.Tables.{Tables}
+use Rattle.parts.specs.Part.{Left, turn, begins, leftBy}
+use Rattle.desk.specs.declared.Progress.{Progress}
+use Rattle.replaying.specs.declared.Came.{Came}
+
+-- a read behind the first bytes of part ps, which is now qs: those stay, what came has room, and nothing follows where a read that did not fail
+-- brought nothing
+pub record Behind (held : ℕ) (ps qs : List ℕ) (r : Came) : Type 0 where
+  pub waits : take held qs ≡ take held ps
+  pub room : r .more ≤ length qs - held
+  pub last : r .last ≡ (not (r .failed) && eqb (r .more) 0)
+
+-- a replay that is stopped has ended, and all else is as it was
+abbrev pub stopped : Progress → Progress
+stopped p = record { held = p .held; offset = p .offset; count = p .count; len = p .len; ended = true }
+
+abbrev pub stop : Left → Left
+stop l = record { text = l .text; rest = l .rest; offset = l .offset; count = l .count; tables = l .tables; ended = true }
+
+-- by the bytes c that a read brought a turn comes from l to m: where the read failed it stops at l; else it goes on, or stops there where its text
+-- cannot be written
+abbrev pub HandedIf : Bool → Left → Left → Left → Type 0
+HandedIf true l next m = m ≡ stop l
+HandedIf false l next m = (m ≡ next) ⊎ (m ≡ stop next)
+
+abbrev pub Handed : Came → List ℕ → Left → Left → Type 0
+Handed r c l m = HandedIf (r .failed) l (turn (r .last) c l) m
+
+-- tables u are what a replay that begins with tables t comes to by reads that brought some bytes, one after the other
+pub record Replayed (t u : Tables) : Type 0 where
+  pub came : List (List ℕ)
+  pub tables : u ≡ leftBy came (begins t) .tables
