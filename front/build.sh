@@ -45,7 +45,7 @@ keep_telling() { # WHAT PARTS SINCE
 
 # One builds at a time. The kernel holds the lock for as long as `tebalung` or the rt that it started lives: none can be left behind.
 take_lock() {
-    command exec 9>>"$here/target/front.lock" || die "$here/target/front.lock: cannot be written"
+    { command exec 9>>"$here/target/front.lock"; } 2>/dev/null || die "$here/target/front.lock: cannot be written"
     trap 'end_progress; exit 130' INT
     turn=0
     until fault=$(flock -n 9 2>&1); do
@@ -101,7 +101,7 @@ check_kit() { # WHY
         [ -w "$here/$folder" ] || { [ $folder != target ] && [ ! -e "$here/$folder" ]; } || die "$1, and $(absolute) cannot be written: ask its owner to run 'tebalung build'"
     done
     find_kit || die "$1, and building needs the Rattle kit: put its rt on the PATH, or set RATTLE_HOME"
-    pinned=$(cat "$here/KIT") || die "$1, and the file KIT, which names the kit, is not there"
+    pinned=$(cat "$here/KIT" 2>/dev/null) || die "$1, and the file KIT, which names the kit, is not there"
     there=$("$rt" version 2>&1 </dev/null) || die "$1, and $rt does not say which kit it is of: $there"
     [ "$there" = "$pinned" ] || die "$1, and the kit at $kit is '$there', not '$pinned' as in the file KIT: put that one's rt on the PATH, or set RATTLE_HOME"
 }
