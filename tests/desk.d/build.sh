@@ -116,7 +116,7 @@ fi
 # Ended in the middle: what is proved is kept, and neither a process nor a lock is left.
 ended() { # SIGNAL STATUS
     fresh
-    DESK_PAUSE=1 timeout --preserve-status -s "$1" 1.5 "$b/replay" "$sample" >"$room/out" 2>"$room/err"
+    DESK_STICK=rules timeout --preserve-status -s "$1" 2 "$b/replay" "$sample" >"$room/out" 2>"$room/err"
     status=$? err=$(cat "$room/err")
     check "$1 during a build: status $2" [ "$status" = "$2" ]
     check "$1 during a build: said" like "$err" '*tebalung: stopped; what is proved so far is kept'
