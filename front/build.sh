@@ -32,8 +32,8 @@ end_progress() { ! terminal || printf '\r\033[K' >&2; }
 
 # Tells it each second on a terminal, else each minute, until it is ended or `tebalung` is gone.
 keep_telling() { # WHAT PARTS SINCE
-    trap 'kill "$nap" 2>/dev/null; exit 0' TERM
-    turn=0
+    nap='' turn=0
+    trap 'kill ${nap:+"$nap"} 2>/dev/null; exit 0' TERM
     while kill -0 $$ 2>/dev/null; do
         if terminal || [ $((turn % 60)) -eq 0 ]; then tell_progress "$@"; fi
         sleep 1 &

@@ -1,9 +1,6 @@
 # shellcheck shell=sh disable=SC2154
 # Building, with a stand-in for rt: what is said, the lock, Ctrl-C, failures, and when it is done again.
 
-fake_kit kit
-export DESK_BIN="$bin" PATH="$room/kit/bin:$PATH"
-unset RATTLE_HOME
 b=$room/b
 fresh() { # a checkout that is not built, of six parts
     rm -rf "$b"
@@ -11,7 +8,6 @@ fresh() { # a checkout that is not built, of six parts
     printf '%s\n' '# six parts' 'fold:' 'rules: fold' 'text: rules' 'replaying: rules text io' 'replay: replaying io libc os' 'trace: rules text io libc os' >"$b/crates.txt"
     : >"$room/kit/calls"
 }
-calls() { grep -c '' "$room/kit/calls"; }
 later() { touch -d '+2 seconds' "$1"; } # saved after all that is there
 soon() { # WORD..: waits until it is true, ten seconds at most
     for _ in 1 2 3 4 5 6 7 8 9 10 11 12 13 14 15 16 17 18 19 20 21 22 23 24 25 26 27 28 29 30 31 32 33 34 35 36 37 38 39 40 41 42 43 44 45 46 47 48 49 50; do
@@ -164,15 +160,15 @@ echo '// changed' >>"$b/crates/fold/src/lib.rt"
 later "$b/crates/fold/src/lib.rt"
 row 'a change is not proved: the old program is not run' 2 '' '*tebalung: replay could not be built: FAILED: rules *' env DESK_FAIL=rules "$b/replay" "$sample"
 fresh
-row 'no kit' 2 '' 'tebalung: replay is not built yet, and building needs the Rattle kit: put its rt on the PATH, or set RATTLE_HOME' env PATH=/usr/bin:/bin "$b/replay" "$sample"
+row 'no kit' 2 '' 'tebalung: replay is not built yet, and building needs the Rattle kit: put its rt on the PATH, or set RATTLE_HOME' env PATH="$room/tools" "$b/replay" "$sample"
 row 'RATTLE_HOME names no kit' 2 '' 'tebalung: replay is not built yet, and building needs the Rattle kit: *' env RATTLE_HOME="$room/nosuch" "$b/replay" "$sample"
 cp -R "$room/kit" "$room/other"
 echo 'another kit' >"$room/other/KIT-ID"
 row 'another kit' 2 '' "tebalung: replay is not built yet, and the kit at $room/other is 'another kit', not '$(cat "$top/KIT")' as in the file KIT: *" env PATH="$room/other/bin:$PATH" "$b/replay" "$sample"
 row 'another kit by RATTLE_HOME' 2 '' "tebalung: replay is not built yet, and the kit at $room/other is *" env RATTLE_HOME="$room/other" "$b/replay" "$sample"
-row 'the right kit by RATTLE_HOME' 0 "$told" '?*' env RATTLE_HOME="$room/kit" PATH=/usr/bin:/bin "$b/replay" "$sample"
+row 'the right kit by RATTLE_HOME' 0 "$told" '?*' env RATTLE_HOME="$room/kit" PATH="$room/tools" "$b/replay" "$sample"
 row 'another kit, and all is built with the right one' 0 "$told" '' env PATH="$room/other/bin:$PATH" "$b/replay" "$sample"
 later "$b/crates.txt"
-row 'no kit, and the program is old' 2 '' 'tebalung: replay is older than the sources, and building needs the Rattle kit: *' env PATH=/usr/bin:/bin "$b/replay" "$sample"
+row 'no kit, and the program is old' 2 '' 'tebalung: replay is older than the sources, and building needs the Rattle kit: *' env PATH="$room/tools" "$b/replay" "$sample"
 rm "$b/KIT"
 row 'no file KIT' 2 '' 'tebalung: replay is older than the sources, and the file KIT, which names the kit, is not there' "$b/replay" "$sample"

@@ -45,10 +45,18 @@ sleep 3
 check 'a log without end ends with its reader' [ -f "$room/over" ]
 wait
 
-# A program that is killed has not done it.
-(sleep 3 | "$desk/replay" >"$room/out" 2>"$room/err"; echo $? >"$room/status") &
-sleep 1
-for process in $(left_running desk/target/bin | sed 's,/proc/\([0-9]*\)/.*,\1,'); do kill -KILL "$process"; done
-wait
-check 'a program that is killed: status 2' [ "$(cat "$room/status")" = 2 ]
-check 'a program that is killed: said' like "$(cat "$room/err")" 'tebalung: replay was ended*'
+# Who is killed has not done it: the program, the view, or the program with what waits for it.
+killed() { # CHECK COMMAND FOLDER: the process that has FOLDER in its words and, with a fourth word, its parent
+    (sleep 3 | "$desk/tebalung" "$2" >"$room/out" 2>"$room/err"; echo $? >"$room/status") &
+    sleep 1
+    for process in $(left_running "$3"); do
+        [ $# -eq 3 ] || kill -KILL "$(sed -n 's/^PPid:.//p' "${process%/cmdline}/status")"
+        kill -KILL "$(echo "$process" | cut -d / -f 3)"
+    done
+    wait
+    check "$1 is killed: status 2" [ "$(cat "$room/status")" = 2 ]
+    check "$1 is killed: said" like "$(cat "$room/err")" '*tebalung: * was ended*'
+}
+killed 'the program' replay desk/target/bin
+killed 'the view' explain desk/view
+killed 'the program, with what waits for it,' replay desk/target/bin both

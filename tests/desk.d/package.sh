@@ -12,11 +12,11 @@ touch "$desk/target/stamp/replay" "$desk/target/stamp/trace"
 commit=$(git -C "$desk" rev-parse --short=12 HEAD)
 version="tebalung $commit (kit $(cat "$top/KIT"), package for x86-64 Linux)"
 row '--version in a checkout' 0 "tebalung $commit (kit *)" '' "$t" --version
-if ! command -v rt >/dev/null && [ -z "${RATTLE_HOME:-}" ]; then
+if [ ! -d "$room/kit/on" ]; then
     missing 'the kit'
     return 0
 fi
-row 'without the kit' 2 '' 'tebalung: package: the loader and the C library are those of the Rattle kit: *' env -i PATH=/usr/bin:/bin "$t" package -o "$room/p.tar"
+row 'without the kit' 2 '' 'tebalung: package: the loader and the C library are those of the Rattle kit: *' env -i PATH="$room/tools" "$t" package -o "$room/p.tar"
 row 'package -o' 0 '' '' "$t" package -o "$room/p.tar"
 "$t" package >"$room/q.tar"
 check 'package to standard output: the same bytes' cmp -s "$room/p.tar" "$room/q.tar"

@@ -41,7 +41,7 @@ with_output() { # FILE WORD..
 
 without_kit() {
     rm -rf "$desk/target"
-    env -i PATH=/usr/bin:/bin "$desk/tebalung" "$@"
+    env -i PATH="$room/tools" "$desk/tebalung" "$@"
 }
 
 for command in replay explain summary timeline; do
