@@ -1,0 +1,131 @@
+# Proving and building programs, once: read by `tebalung` where one is not built. Of `tebalung` it uses here, programs, find_kit, find_stale, say, die.
+# shellcheck shell=sh disable=SC2034,SC2154
+
+terminal() { [ -t 2 ] && [ "${TERM:-dumb}" != dumb ]; }
+joined() { printf %s "$*" | sed 's/ / and /g'; }
+
+# How many crates programs are made of, themselves too.
+parts_of() { # PROGRAM..
+    awk -v wanted="$*" '
+        { sub(/#.*/, "") }
+        split($0, half, ":") == 2 { gsub(/[ \t]/, "", half[1]); below[half[1]] = half[2] }
+        END {
+            n = split(wanted, todo, " ")
+            for (i = 1; i <= n; i++) {
+                if (todo[i] in seen || !(todo[i] in below)) continue
+                seen[todo[i]]; parts++
+                m = split(below[todo[i]], more, " ")
+                for (k = 1; k <= m; k++) todo[++n] = more[k]
+            }
+            print parts + 0
+        }' "$here/crates.txt"
+}
+
+# How far a build is, by what rt has said so far: on a terminal one line that is rewritten.
+tell_progress() { # WHAT PARTS SINCE
+    ready=$(grep -c '^rt: [A-Za-z0-9_]* proved' "$here/target/front.out" 2>/dev/null)
+    passed=$(($(date +%s) - $3))
+    line=$(printf '%s: %d of %d parts, %d:%02d' "$1" "${ready:-0}" "$2" $((passed / 60)) $((passed % 60)))
+    if terminal; then printf '\r\033[Ktebalung: %s' "$line" >&2; else say "$line"; fi
+}
+end_progress() { ! terminal || printf '\r\033[K' >&2; }
+
+# Tells it each second on a terminal, else each minute, until it is ended or `tebalung` is gone.
+keep_telling() { # WHAT PARTS SINCE
+    nap='' turn=0
+    trap 'kill ${nap:+"$nap"} 2>/dev/null; exit 0' TERM
+    while kill -0 $$ 2>/dev/null; do
+        if terminal || [ $((turn % 60)) -eq 0 ]; then tell_progress "$@"; fi
+        sleep 1 &
+        nap=$!
+        wait "$nap"
+        turn=$((turn + 1))
+    done
+}
+
+# One builds at a time. The kernel holds the lock for as long as `tebalung` or the rt that it started lives: none can be left behind.
+take_lock() {
+    { command exec 9>>"$here/target/front.lock"; } 2>/dev/null || die "$here/target/front.lock: cannot be written"
+    trap 'end_progress; exit 130' INT
+    turn=0
+    until fault=$(flock -n 9 2>&1); do
+        [ -z "$fault" ] || die "building needs a lock, and there is none to be had: $fault (flock is part of util-linux)"
+        if terminal || [ $((turn % 60)) -eq 0 ]; then
+            read -r who since parts names <"$here/target/front.lock" && tell_progress "waiting for process $who, which is building $names" "$parts" "$since"
+        fi
+        sleep 1
+        turn=$((turn + 1))
+    done
+    trap - INT
+    [ "$turn" -eq 0 ] || end_progress
+}
+
+# Ends rt and all that it started, which are a session of their own. What is proved stays proved.
+stop_building() { # STATUS
+    trap '' INT TERM HUP
+    kill ${teller:+"$teller"} ${builder:+"$builder" "-$builder"} 2>/dev/null
+    wait
+    kill -KILL ${builder:+"-$builder"} 2>/dev/null
+    end_progress
+    say "stopped; what is proved so far is kept"
+    exit "$1"
+}
+
+# Has rt prove and build them, and leaves its status. A source that is saved meanwhile is newer than the start, so the next call builds again.
+prove() { # WHAT PROGRAM..
+    what=$1
+    shift
+    parts=$(parts_of "$@") since=$(date +%s) teller='' builder=''
+    echo "$$ $since $parts $(joined "$@")" >"$here/target/front.lock"
+    : >"$here/target/front.begun"
+    : >"$here/target/front.out"
+    trap 'stop_building 130' INT
+    trap 'stop_building 143' TERM
+    trap 'stop_building 129' HUP
+    (cd -- "${here:-/}" && exec setsid "$rt" check "$@") >"$here/target/front.out" 2>&1 </dev/null &
+    builder=$!
+    keep_telling "$what" "$parts" "$since" 9>&- &
+    teller=$!
+    wait "$builder"
+    status=$?
+    kill "$teller"
+    wait "$teller"
+    trap - INT TERM HUP
+    end_progress
+}
+
+# Says why it cannot be done, or which kit does it.
+check_kit() { # WHY
+    mkdir -p "$here/target" 2>/dev/null
+    for folder in target target/bin target/log target/obj target/rlib target/stamp; do
+        [ -w "$here/$folder" ] || { [ $folder != target ] && [ ! -e "$here/$folder" ]; } || die "$1, and $(absolute) cannot be written: ask its owner to run 'tebalung build'"
+    done
+    find_kit || die "$1, and building needs the Rattle kit: put its rt on the PATH, or set RATTLE_HOME"
+    pinned=$(cat "$here/KIT" 2>/dev/null) || die "$1, and the file KIT, which names the kit, is not there"
+    there=$("$rt" version 2>&1 </dev/null) || die "$1, and $rt does not say which kit it is of: $there"
+    [ "$there" = "$pinned" ] || die "$1, and the kit at $kit is '$there', not '$pinned' as in the file KIT: put that one's rt on the PATH, or set RATTLE_HOME"
+}
+
+build() { # PROGRAM..
+    what="$(joined "$@") is"
+    [ $# -eq 1 ] || what="$(joined "$@") are"
+    how='proved and built anew, for sources are newer' why="$what older than the sources"
+    for program; do
+        [ -x "$programs/$program" ] || how='proved and built, this once' why="$what not built yet"
+    done
+    check_kit "$why"
+    take_lock
+    # shellcheck disable=SC2086
+    if find_stale "$@"; then
+        set -- $stale
+        [ "$how" != 'proved and built, this once' ] || say "$why; that takes some minutes, this once"
+        for program; do [ -x "$programs/$program" ] || rm -f "$here/target/stamp/$program"; done
+        prove "$what $how" "$@"
+        if [ "$status" -ne 0 ]; then
+            die "$(joined "$@") could not be built: $(sed -n '/./h
+                $ { g; s/^rt: //; p; }' "$here/target/front.out") (all that rt said is in $(absolute)/target/front.out)"
+        fi
+        for program; do touch -r "$here/target/front.begun" "$here/target/stamp/$program"; done
+    fi
+    exec 9>&-
+}

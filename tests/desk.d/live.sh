@@ -1,0 +1,62 @@
+# shellcheck shell=sh disable=SC2154
+# A log that is still being written, and a reader that goes away.
+
+# Two records, a pause, the rest: what is there before the pause is over.
+slowly() { head -c 40 "$sample"; sleep 2; tail -c +41 "$sample"; }
+at_once() { # LINES WORD..: that many lines are there a second after the start
+    lines=$1
+    shift
+    slowly | "$@" >"$room/live" 2>&1 &
+    sleep 1
+    early=$(grep -c '' "$room/live")
+    wait
+    [ "$early" = "$lines" ]
+}
+check 'replay tells each record as it comes' at_once 2 "$desk/replay"
+check 'replay: and then the rest' [ "$(cat "$room/live")" = "$told" ]
+for awk in mawk gawk original-awk; do
+    command -v $awk >/dev/null || { missing $awk; continue; }
+    mkdir -p "$room/awk"
+    ln -sf "$(command -v $awk)" "$room/awk/awk"
+    check "explain tells each record as it comes, by $awk" at_once 2 env PATH="$room/awk:$PATH" "$desk/explain"
+    check "explain, by $awk: and then the rest" [ "$(tail -n 1 "$room/live")" = 'end of the log: 5 records' ]
+done
+mkfifo "$room/fifo"
+slowly >"$room/fifo" &
+"$desk/explain" "$room/fifo" >"$room/live" 2>&1 &
+sleep 1
+check 'explain of a named pipe tells each record as it comes' [ "$(grep -c '' "$room/live")" = 2 ]
+wait
+
+# A reader that goes away: nothing is said, the status is 0, and no process stays.
+gone() { # WORD..: its status where the reader takes one line
+    { "$@" 2>"$room/said"; echo $? >"$room/status"; } | head -n 1 >/dev/null
+    [ "$(cat "$room/status")" = 0 ] && [ ! -s "$room/said" ]
+}
+ignoring() { (trap '' PIPE; "$@"); }
+for command in replay explain summary timeline; do
+    check "$command: a reader that goes" gone "$desk/tebalung" $command "$room/long.log"
+    check "$command: a reader that goes, and SIGPIPE is ignored" ignoring gone "$desk/tebalung" $command "$room/long.log"
+done
+check 'no process stays' none_running desk
+endless() { while cat "$sample"; do :; done 2>/dev/null; }
+(endless | timeout 20 "$desk/replay" | head -n 3 >"$room/three"; echo over >"$room/over") &
+sleep 3
+check 'a log without end ends with its reader' [ -f "$room/over" ]
+wait
+
+# Who is killed has not done it: the program, the view, or the program with what waits for it.
+killed() { # CHECK COMMAND FOLDER: the process that has FOLDER in its words and, with a fourth word, its parent
+    (sleep 3 | "$desk/tebalung" "$2" >"$room/out" 2>"$room/err"; echo $? >"$room/status") &
+    sleep 1
+    for process in $(left_running "$3"); do
+        [ $# -eq 3 ] || kill -KILL "$(sed -n 's/^PPid:.//p' "${process%/cmdline}/status")"
+        kill -KILL "$(echo "$process" | cut -d / -f 3)"
+    done
+    wait
+    check "$1 is killed: status 2" [ "$(cat "$room/status")" = 2 ]
+    check "$1 is killed: said" like "$(cat "$room/err")" '*tebalung: * was ended*'
+}
+killed 'the program' replay desk/target/bin
+killed 'the view' explain desk/view
+killed 'the program, with what waits for it,' replay desk/target/bin both
