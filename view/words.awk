@@ -79,7 +79,7 @@ function readTasks(text,   f, n, i, t) {
         noteUse("task", t, f[i + 1] != 0)
         mode[t] = f[i + 1]; priority[t] = f[i + 2]; taskObject[t] = f[i + 3]; left[t] = f[i + 4]; leftAt[t] = tickNow
         taskOutcome[t] = f[i + 5]; taskValue[t] = f[i + 6]
-        if (mode[t] == 4) { andMask[t] = given[2]; orMask[t] = given[3] }
+        if (mode[t] == 4 && modeWas[t] != 4) { andMask[t] = given[2]; orMask[t] = given[3] }
     }
 }
 # An object changed; when it went out of use, by whom is kept.
@@ -162,10 +162,10 @@ function round32(n) { return sprintf("%.0f", n >= 4294967296 ? n - 4294967296 : 
 function plural(n, word) { return n " " word (n == 1 ? "" : "s") }
 function signed(n) { return n == 4294967295 ? "-1" : n }
 function threadName(t) { return t == "I" ? "the interrupt" : (substr(t, 1, 1) == "T" ? "task " : "Swi ") substr(t, 2) }
-# Numbers parted by spaces as 'task 3', 'tasks 3, 4 and 5'; of more than eight the first seven.
+# Numbers parted by spaces as 'task 3', 'tasks 3, 4 and 5'; of more than six the first five.
 function taskList(numbers,   n, p, i, told, text) {
     n = split(numbers, p, " ")
-    told = n > 8 ? 7 : n
+    told = n > 6 ? 5 : n
     for (i = 1; i <= told; i++) text = text (i == 1 ? "" : i == n ? " and " : ", ") p[i]
     return (n == 1 ? "task " : "tasks ") text (told < n ? " and " n - told " more" : "")
 }
@@ -215,7 +215,11 @@ function placeInWords(place) {
     if (place == "swis") return "Swis are off" sinceInWords(swisSince, swisBy)
     return offInWords()
 }
-function untilInWords(t) { return left[t] == 0 ? "" : " until tick " round32(tickNow + left[t]) }
+# Until when the wait goes that the task began with this call; the count of ticks may go round before.
+function untilInWords(t) {
+    if (left[t] == 0) return ""
+    return tickNow + left[t] < 4294967296 ? " until tick " round32(tickNow + left[t]) : " for " plural(left[t], "tick")
+}
 function sinceInWords(since, by) { return " since record " since " (" threadName(by) ")" }
 function offInWords() {
     if (swisOn) return "tasks are off" sinceInWords(tasksSince, tasksBy)
