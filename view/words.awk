@@ -242,12 +242,6 @@ function largestRun(   u, run, most) {
     }
     return most
 }
-function isActive(swi,   p, n, i) {
-    n = split(part[7], p, " ")
-    for (i = 1; i <= n; i++) if (p[i] == swi) return 1
-    return 0
-}
-
 # ---- tasks and objects in words
 
 function taskInWords(t) { return modeName[mode[t]] (modeObject[mode[t]] == "" ? "" : " " modeObject[mode[t]] " " taskObject[t]) }
@@ -305,7 +299,6 @@ function holds(test) {
     if (test == "terminated") return mode[numberNamed] == 7
     if (test == "current") return numberNamed == current
     if (test == "posted") return posted[numberNamed] == 1
-    if (test == "active") return isActive(numberNamed)
     if (test == "waiter") return waitersAt[kindNamed, numberNamed] > 0
     print "words.awk: view/names has a test that is not known: " test > "/dev/stderr"
     exit 2
@@ -358,13 +351,13 @@ function postsInWords(   i, c, text) {
 function objectsInWords(   i, k, n, same, text) {
     text = ""
     if (made != "") return ""
-    same = ", as before"
+    same = outcome == 1 || kindNamed == "Swi" ? "" : ", as before"
     for (i = 1; i <= changedObjects; i++) {
         k = changedKind[i]; n = changedNumber[i]
         if (k == kindNamed && n == numberNamed) same = ""
         else if (k != "Swi" && k != "clock") text = joined(text, k " " n ": " objectInWords(k, n))
     }
-    if (inUse[kindNamed, numberNamed] && kindNamed != "task") text = joined(objectInWords(kindNamed, numberNamed) (outcome == 1 ? "" : same), text)
+    if (inUse[kindNamed, numberNamed] && kindNamed != "task") text = joined(objectInWords(kindNamed, numberNamed) same, text)
     if (heapChanged) text = joined(text, heapInWords())
     return text
 }
