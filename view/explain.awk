@@ -4,10 +4,12 @@
 #   object           s0 e1 m2 w3 c4 h (semaphore, event, mailbox, Swi, clock, heap): calls that name it or changed it
 #   refused, notmet  1: refused calls, calls that were not met; both: either
 function bad(text) { print "explain: " text > "/dev/stderr"; status = 2; exit 2 }
+# Did the call change the object? A Swi changes too when it is posted, starts or ends.
 function isIn(kind, number,   i) {
     for (i = 1; i <= changedObjects; i++) if (changedKind[i] == kind && changedNumber[i] == number) return 1
-    if (kind == "Swi") for (i = 2; i <= 3 * posts; i += 3) if (post[i] == number) return 1
-    return 0
+    if (kind != "Swi") return 0
+    for (i = 2; i <= 3 * posts; i += 3) if (post[i] == number) return 1
+    return started == number && started != "" || caller == "S" number && index(" " part[7], " " number " ") == 0
 }
 function isOfThread(   i) {
     if (caller == thread) return 1

@@ -30,11 +30,16 @@ function noteAnswer(   key) {
     misses[key]++; missLast[key] = record; missesOf[code]++
     if (code == 0 && kindNamed == "mailbox" && verb() == "post") noteDrop(key)
 }
-# A message was dropped: what did the mailbox's reader do at that time?
-function noteDrop(key,   doing, seen) {
-    doing = numberNamed in reader ? "its reader, task " reader[numberNamed] ", " chainInWords(reader[numberNamed], 4, 0) : "no task had read it before"
-    seen = ++drops[key, doing]
-    if (seen > dropsMost[key]) { dropsMost[key] = seen; dropDoing[key] = doing }
+# A message was dropped: what kept the mailbox's reader at that time? Kept is the most frequent wait; a reader that is ready or runs was only late.
+function noteDrop(key,   doing, r) {
+    if (!(key in dropsMost)) dropsMost[key] = 0
+    if (numberNamed in reader) {
+        r = reader[numberNamed]
+        if (mode[r] == 1) return
+        doing = "its reader, task " r ", " chainInWords(r, 4, 0)
+    }
+    else doing = "no task had read it before"
+    if (++drops[key, doing] > dropsMost[key]) { dropsMost[key] = drops[key, doing]; dropDoing[key] = doing }
 }
 # Who ran: the calls that each thread made, the ticks that came while it ran, and since when a ready task does not run.
 function noteRunning(   i, t) {
@@ -68,6 +73,7 @@ function noteObjects(   what, where, n) {
     if (code != 0) return
     if (made != "") noteMade(made, made == "task" ? changedTask[1] : changedNumber[1])
     n = numberNamed
+    if (kindNamed == "clock" && changedObjects > 0) { if (clockLeft[n] == 0) { stoppedAt[n] = record; stoppedBy[n] = caller } else delete stoppedAt[n] }
     if (kindNamed != "semaphore" && kindNamed != "event" && kindNamed != "mailbox") return
     what = verb(); where = kindNamed " " n
     if (what == "post" && outcome != 1) {
@@ -215,9 +221,9 @@ function findWaits(   t, h, where) {
         h = holderOf(t)
         if (h != "") findHeld(t, h)
         else if (mode[t] == 3 && isLock(taskObject[t]) && substr(taker[taskObject[t]], 1, 1) == "D") finding(3, waitSince[t], ranked(t) " " chainInWords(t, 1, 1), "that task went without posting it")
-        else if (overtaken[t] > 2) finding(2, overtakenFirst, ranked(t) " waits at " where " " span(waitSince[t], waitTick[t]) "; it is served by priority", "served instead, though they came later: " overtakersInWords(t))
-        else if (isQuiet(where)) finding(1, postLast[where], ranked(t) " waits at " where " " span(waitSince[t], waitTick[t]) ", and posts there have stopped", \
-            "the last came at record " postLast[where] " by " threadName(postBy[where]) "; until then there was one in " int((postLast[where] - postFirst[where]) / (postCount[where] - 1)) " records")
+        else if (overtaken[t] > 2) finding(2, overtakenFirst, ranked(t) " " taskInWords(t) " " span(waitSince[t], waitTick[t]) "; it is served by priority", "served instead, though they came later: " overtakersInWords(t))
+        else if (isQuiet(where)) finding(1, postLast[where], ranked(t) " " taskInWords(t) " " span(waitSince[t], waitTick[t]) ", and posts there have stopped", \
+            "the last came at record " postLast[where] " by " threadName(postBy[where]) ", until then one in " int((postLast[where] - postFirst[where]) / (postCount[where] - 1)) " records" stoppedInWords(postBy[where]))
     }
     for (t = 1; t < 32; t++) if (worst[t] > 4 && worst[t] > overtaken[t] + 0 && worstTo[t] - worstFrom[t] > record / 10)
         finding(2, overtakenFirst, ranked(t) " waited at semaphore " worstAt[t] " from record " worstFrom[t] " to " worstTo[t] " (" plural(worstTicks[t], "tick") "); it is served by priority", "served instead, though they came later: " worstBy[t])
@@ -232,6 +238,12 @@ function findHeld(t, h) {
 # Posts came often and have stopped: none for a fifth of the log, and for ten times as long as between them before.
 function isQuiet(where) {
     return postCount[where] > 4 && record - postLast[where] > record / 5 && (record - postLast[where]) * (postCount[where] - 1) > 10 * (postLast[where] - postFirst[where])
+}
+# The clock that posts a Swi and was stopped, if there is one.
+function stoppedInWords(who,   c) {
+    if (substr(who, 1, 1) == "S") for (c = 0; c < tableSize["clock"]; c++)
+        if (inUse["clock", c] && clockSwi[c] == substr(who, 2) && clockLeft[c] == 0 && (c in stoppedAt)) return "; clock " c ", which posts " threadName(who) ", was stopped at record " stoppedAt[c] " by " threadName(stoppedBy[c])
+    return ""
 }
 # A Swi that does not end; a Swi that is posted faster than it ends; ready tasks that do not run. The first that is there is the cause of the next ones.
 function findStarved(   starved, storm, n, p, swi) {
@@ -299,8 +311,8 @@ function findMisses(   i, key, c, n, text) {
 }
 function missTimes(key) { return times(misses[key]) (misses[key] > 1 && missKind[key] != "" && missNumber[key] + 0 >= tableSize[missKind[key]] + 0 ? " with such numbers" : "") }
 function findDrops(key, n) {
-    finding(misses[key] > 2 && dropDoing[key] !~ /is ready$/ ? 2 : 1, missFirst[key], plural(misses[key], "message") " dropped at mailbox " n ", which was full: first at record " missFirst[key] " by " threadName(missBy[key]) (misses[key] > 1 ? ", last at " missLast[key] : ""), \
-        (dropsMost[key] == misses[key] ? "then " : "at " dropsMost[key] " of them ") dropDoing[key])
+    finding(misses[key] > 2 && dropsMost[key] * 4 >= misses[key] ? 2 : 1, missFirst[key], plural(misses[key], "message") " dropped at mailbox " n ", which was full: first at record " missFirst[key] " by " threadName(missBy[key]) (misses[key] > 1 ? ", last at " missLast[key] : ""), \
+        dropsMost[key] * 4 < misses[key] ? "its reader was ready, but came too late" : "at " dropsMost[key] " of them " dropDoing[key])
 }
 function findBadNumber(key, n, text,   kindOf) {
     kindOf = missKind[key]
