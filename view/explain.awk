@@ -9,7 +9,7 @@ function isIn(kind, number,   i) {
     for (i = 1; i <= changedObjects; i++) if (changedKind[i] == kind && changedNumber[i] == number) return 1
     if (kind != "Swi") return 0
     for (i = 2; i <= 3 * posts; i += 3) if (post[i] == number) return 1
-    return started == number && started != "" || caller == "S" number && index(" " part[7], " " number " ") == 0
+    return caller == "S" number && index(part[7], " " number " ") == 0
 }
 function isOfThread(   i) {
     if (caller == thread) return 1

@@ -38,7 +38,7 @@ function noteDrop(key,   doing, r) {
         if (mode[r] == 1) return
         doing = "its reader, task " r ", " chainInWords(r, 4, 0)
     }
-    else doing = "no task had read it before"
+    else doing = "no task had read it"
     if (++drops[key, doing] > dropsMost[key]) { dropsMost[key] = drops[key, doing]; dropDoing[key] = doing }
 }
 # Who ran: the calls that each thread made, the ticks that came while it ran, and since when a ready task does not run.
@@ -312,7 +312,7 @@ function findMisses(   i, key, c, n, text) {
 function missTimes(key) { return times(misses[key]) (misses[key] > 1 && missKind[key] != "" && missNumber[key] + 0 >= tableSize[missKind[key]] + 0 ? " with such numbers" : "") }
 function findDrops(key, n) {
     finding(misses[key] > 2 && dropsMost[key] * 4 >= misses[key] ? 2 : 1, missFirst[key], plural(misses[key], "message") " dropped at mailbox " n ", which was full: first at record " missFirst[key] " by " threadName(missBy[key]) (misses[key] > 1 ? ", last at " missLast[key] : ""), \
-        dropsMost[key] * 4 < misses[key] ? "its reader was ready, but came too late" : "at " dropsMost[key] " of them " dropDoing[key])
+        dropsMost[key] * 4 < misses[key] ? "its reader was ready, but came too late" : (dropsMost[key] == misses[key] ? "at that time " : "at " dropsMost[key] " of them ") dropDoing[key])
 }
 function findBadNumber(key, n, text,   kindOf) {
     kindOf = missKind[key]
