@@ -3,7 +3,7 @@
 #   thread           T3, S2 or I: calls that it made or that changed it
 #   object           s0 e1 m2 w3 c4 h (semaphore, event, mailbox, Swi, clock, heap): calls that name it or changed it
 #   refused, notmet  1: refused calls, calls that were not met; both: either
-function bad(text) { print "explain: " text > "/dev/stderr"; status = 2; exit 2 }
+function bad(text) { print "explain: " text > "/dev/stderr"; exit 2 }
 # Did the call change the object? A Swi changes too when it is posted, starts or ends.
 function isIn(kind, number,   i) {
     for (i = 1; i <= changedObjects; i++) if (changedKind[i] == kind && changedNumber[i] == number) return 1
@@ -19,7 +19,7 @@ function isOfThread(   i) {
     return 0
 }
 function isOfObject() {
-    if (object == "h") return heapChanged || index(callWords[call], "heap") > 0
+    if (object == "h") return heapChanged || (call in callWords) && index(callWords[call], "heap") > 0
     return kindNamed == objectKind && numberNamed == objectNumber || isIn(objectKind, objectNumber)
 }
 function isChosen() {
@@ -36,11 +36,8 @@ function readOptions(   k) {
     objectNumber = substr(object, 2) + 0
     from += 0
 }
-BEGIN {
-    readNames(names)
-    readOptions()
-    printf "%7s %7s %-3s   %s\n", "record", "tick", "by", "the call: what came of it; the object now; who runs now"
-}
+BEGIN { readNames(names); readOptions() }
+NR == 1 { printf "%7s %7s %-3s   %s\n", "record", "tick", "by", "the call: what came of it; the object now; who runs now" }
 isLast() { print lastInWords(); next }
 to != "" && $1 > to + 0 { next }
 {

@@ -428,7 +428,8 @@ isLast() { last = lastInWords(); next }
     noteAnswer(); noteObjects(); noteTasks(); noteRunning(); noteHeap(); notePosts(); noteSwitches()
 }
 END {
-    print last ", " plural(ticks, "tick")
+    if (namesMissing || NR == 0) exit 2
+    print (last == "" ? "the trace breaks off after record " record : last) ", " plural(ticks, "tick")
     if (record == 0) exit
     tellFindings(); tellMisses(); tellWaits(); tellShares(); tellHeap(); tellRest()
 }

@@ -3,8 +3,8 @@
 
 # ---- the names
 
-function readNames(file,   line, kind, key, p) {
-    while ((getline line < file) > 0) {
+function readNames(file,   line, kind, key, p, got) {
+    while ((got = (getline line < file)) > 0) {
         if (line == "" || substr(line, 1, 1) == "#") continue
         kind = substr(line, 1, index(line, " ") - 1)
         split(substr(line, length(kind) + 2), p, "|")
@@ -19,6 +19,7 @@ function readNames(file,   line, kind, key, p) {
         else if (kind == "kind") kindName[key] = p[2]
         else if (kind == "fault") faultName[key] = p[2]
     }
+    if (got < 0) { print "views: " file " cannot be read" > "/dev/stderr"; namesMissing = 1; exit 2 }
     close(file)
     freshTables()
 }
@@ -122,7 +123,7 @@ function readMailboxes(text,   f, n, i, m, at) {
         m = f[i]
         at = i + 3 + f[i + 2]
         noteChange("mailbox", m, f[i + 1] != 0)
-        capacity[m] = f[i + 1]; messages[m] = f[i + 2]; messageWords[m] = listed(f, i + 3, f[i + 2])
+        capacity[m] = f[i + 1]; messages[m] = f[i + 2]
         waitersAt["mailbox", m] = f[at]; lineAt["mailbox", m] = listed(f, at + 1, f[at])
     }
 }
@@ -131,7 +132,7 @@ function readSwis(text,   f, n, i, s) {
     for (i = 1; i < n; i += 7) {
         s = f[i]
         noteChange("Swi", s, f[i + 1] + 0)
-        swiPriority[s] = f[i + 2]; initial[s] = f[i + 3]; trigger[s] = f[i + 4]; posted[s] = f[i + 5]; taken[s] = f[i + 6]
+        trigger[s] = f[i + 4]; posted[s] = f[i + 5]; taken[s] = f[i + 6]
     }
 }
 function readClocks(text,   f, n, i, c) {
@@ -139,7 +140,7 @@ function readClocks(text,   f, n, i, c) {
     for (i = 1; i < n; i += 6) {
         c = f[i]
         noteChange("clock", c, f[i + 1] + 0)
-        clockSwi[c] = f[i + 2]; firstTicks[c] = f[i + 3]; period[c] = f[i + 4]; clockLeft[c] = f[i + 5]; clockAt[c] = tickNow
+        clockSwi[c] = f[i + 2]; period[c] = f[i + 4]; clockLeft[c] = f[i + 5]; clockAt[c] = tickNow
     }
 }
 # The heap's blocks by their offsets: taken by a call that gave an offset, given back by one that named it.
@@ -242,6 +243,7 @@ function largestRun(   u, run, most) {
     }
     return most
 }
+
 # ---- tasks and objects in words
 
 function taskInWords(t) { return modeName[mode[t]] (modeObject[mode[t]] == "" ? "" : " " modeObject[mode[t]] " " taskObject[t]) }
@@ -300,7 +302,7 @@ function holds(test) {
     if (test == "current") return numberNamed == current
     if (test == "posted") return posted[numberNamed] == 1
     if (test == "waiter") return waitersAt[kindNamed, numberNamed] > 0
-    print "words.awk: view/names has a test that is not known: " test > "/dev/stderr"
+    print "views: the table of names has a test that is not known: " test > "/dev/stderr"
     exit 2
 }
 # Not met is a call that was accepted and has outcome 1; call 06 tells of an earlier one.
