@@ -221,12 +221,12 @@ function findWaits(   t, h, where) {
         h = holderOf(t)
         if (h != "") findHeld(t, h)
         else if (mode[t] == 3 && isLock(taskObject[t]) && substr(taker[taskObject[t]], 1, 1) == "D") finding(3, waitSince[t], ranked(t) " " chainInWords(t, 1, 1), "that task went without posting it")
-        else if (overtaken[t] > 2) finding(2, overtakenFirst, ranked(t) " " taskInWords(t) " " span(waitSince[t], waitTick[t]) "; it is served by priority", "served instead, though they came later: " overtakersInWords(t))
+        else if (overtaken[t] > 2) finding(2, overtakenFirst, ranked(t) " " taskInWords(t) ", which is served by priority, " span(waitSince[t], waitTick[t]), "served instead, though they came later: " overtakersInWords(t))
         else if (isQuiet(where)) finding(1, postLast[where], ranked(t) " " taskInWords(t) " " span(waitSince[t], waitTick[t]) ", and posts there have stopped", \
             "the last came at record " postLast[where] " by " threadName(postBy[where]) ", until then one in " int((postLast[where] - postFirst[where]) / (postCount[where] - 1)) " records" stoppedInWords(postBy[where]))
     }
     for (t = 1; t < 32; t++) if (worst[t] > 4 && worst[t] > overtaken[t] + 0 && worstTo[t] - worstFrom[t] > record / 10)
-        finding(2, overtakenFirst, ranked(t) " waited at semaphore " worstAt[t] " from record " worstFrom[t] " to " worstTo[t] " (" plural(worstTicks[t], "tick") "); it is served by priority", "served instead, though they came later: " worstBy[t])
+        finding(2, overtakenFirst, ranked(t) " waited at semaphore " worstAt[t] ", which is served by priority, from record " worstFrom[t] " to " worstTo[t] " (" plural(worstTicks[t], "tick") ")", "served instead, though they came later: " worstBy[t])
 }
 # A task waits long for a lock that another holds.
 function findHeld(t, h) {
@@ -372,7 +372,7 @@ function tellWaits(   t, told, text) {
     for (t = 1; t < 32; t++) if (mode[t] >= 2 && mode[t] <= 6) {
         if (told++ == 0) section("Waiting at the end:")
         text = ranked(t) " " taskInWords(t) (mode[t] == 4 ? masksInWords(t) : "") " " span(waitSince[t], waitTick[t]) (left[t] == 0 ? ", without end" : ", " ticksLeft(t) " left")
-        if (passed[t] > 0) text = text "; " plural(passed[t], "post") " went to others"
+        if (passed[t] > 0) text = text "; " plural(passed[t], "post") " went to others" (overtaken[t] > 0 ? ", to later ones: " overtakersInWords(t) : "")
         if (mode[t] == 3 && taker[taskObject[t]] != "") text = text "; last taken by " takerInWords(taskObject[t]) " (record " takenAt[taskObject[t]] ")"
         print "  " text
     }
