@@ -57,14 +57,15 @@ class Growing {
 
 // ---- a lane of bars: stretches, each from `at` to the next one's; a code is the class, and above four bits what its label tells
 function barLane(lane) {
-  return { lane, bars: true, at: new Growing(Uint32Array), code: new Growing(Uint16Array), changed: new Growing(Uint32Array), marks: new Growing(Uint32Array), last: -1 };
+  return { lane, bars: true, at: new Growing(Uint32Array), code: new Growing(Uint16Array), changed: new Growing(Uint32Array), marks: new Growing(Uint32Array), last: FRESH };
 }
+const FRESH = -1, ANEW = -2;             // as the last code: no stretch yet; the next one is new even if it is like the last
 function putBar(lane, k, code) {
   if (code === lane.last) return;
-  if (lane.last < 0 && k > 0) { lane.at.push(0); lane.code.push(NONE); }
+  if (lane.last === FRESH && k > 0) { lane.at.push(0); lane.code.push(NONE); }
   lane.at.push(k); lane.code.push(code); lane.last = code;
 }
-// ---- a lane of steps: a value from `at` to the next one's, and how many wait (128 and more: in use)
+// ---- a lane of steps: a value from `at` to the next one's, and how many wait (128 and more: in use); before the first change it is not in use
 function stepLane(lane, most) {
   return { lane, bars: false, at: new Growing(Uint32Array), value: new Growing(Uint32Array), waiting: new Growing(Uint8Array), most, mostWaiting: 0, size: 0 };
 }
@@ -86,7 +87,7 @@ function readLog(shared, data) {
     n, shared, data, texts: shared.texts.map(readText), rowAt: new Uint32Array(n), thread: new Uint8Array(n), state: new Uint8Array(n), tick: new Uint32Array(n),
     text: new (shared.texts.length > 65535 ? Uint32Array : Uint16Array)(n), object: new Uint8Array(n), lanes: new Array(LANES).fill(null), kinds: barLane(-1),
     refused: new Growing(Uint32Array), notMet: new Growing(Uint32Array), lost: new Growing(Uint32Array), ticks: 0,
-    modes: new Uint16Array(32), posted: new Uint8Array(16), active: new Uint8Array(16),
+    modes: new Uint16Array(32), posted: new Uint8Array(16), active: new Uint8Array(16), started: -1,
   };
   log.modes[0] = 1;
   bytes = data; at = 0;
@@ -104,13 +105,14 @@ function readRecord(log, k) {
   for (const slot of log.texts[text].slots) skipNumber(slot);
   log.object[k] = next();
   let swis = k === 0 || thread !== log.thread[k - 1];
-  for (let part = next(); part; part = next()) { takePart(log, k, part, next()); if (part === 6 || part === 7) swis = true; }
+  log.started = -1;
+  for (let part = next(); part; part = next()) { takePart(log, k, part, next()); if (part >= 5 && part <= 7) swis = true; }
   if (log.texts[text].code) log.refused.push(k); else if (log.texts[text].mark) log.notMet.push(k);
   putThreads(log, k, thread, state, swis);
 }
 function skipNumber(slot) { const length = next(); if (slot === "$") at += length; }
 function takePart(log, k, part, count) {
-  if (part === 5) { for (let i = 0; i < count; i++) next(); return; }
+  if (part === 5) { log.started = next(); return; }
   if (part === 6) { log.posted.fill(0); for (let i = 0; i < count; i++) log.posted[next()] = 1; return; }
   if (part === 7) { log.active.fill(0); for (let i = 0; i < count; i++) log.active[next()] = 1; return; }
   for (let read = 0; read < count;) {
@@ -155,17 +157,19 @@ function putThreads(log, k, thread, state, swis) {
   if (off || log.lanes[SWITCHES]) putBar(laneOf(log, SWITCHES), k, off ? OFF | off << 4 : NONE);
   if (swis) for (let i = 0; i < 16; i++) putSwi(log, k, i, thread);
 }
-// A Swi's code: its class, above it whether it is posted while it is active.
+// A Swi's code: its class, above it whether it is posted while it is active. One that ended and was started anew has a new stretch.
 function putSwi(log, k, i, thread) {
+  if (log.started === i && log.lanes[SWI + i] && log.lanes[SWI + i].last !== FRESH) log.lanes[SWI + i].last = ANEW;
   const cls = thread === SWI + i ? RUN : log.active[i] ? READY : log.posted[i] ? POSTED : NONE;
   if (cls !== NONE || log.lanes[SWI + i]) putBar(laneOf(log, SWI + i), k, cls | (log.posted[i] && cls !== POSTED ? 16 : 0));
 }
 // All lists in their last length, and sums for each block of records.
 function finish(log) {
   for (const lane of [...log.lanes, log.kinds]) if (lane) {
-    if (lane.bars && lane.last < 0) putBar(lane, 0, NONE);
+    if (lane.bars && lane.last === FRESH) putBar(lane, 0, NONE);
     for (const key of Object.keys(lane)) if (lane[key] instanceof Growing) lane[key] = lane[key].done();
     if (lane.bars) blocksOfBars(lane, log.n); else blocksOfSteps(lane, log.n);
+    if (!lane.bars) lane.changed = lane.at.subarray(lane.waiting[0] & 128 ? 0 : 1);
   }
   for (const key of ["refused", "notMet", "lost"]) log[key] = log[key].done();
   log.troubles = joined(log.refused, log.notMet);
@@ -313,10 +317,10 @@ function changesOf(log, k) {
 }
 // The row of a task or object as record k left it: [record at which it came to be, fields]; null where there is none yet.
 function rowAt(log, lane, k) {
-  const changed = lane.bars ? lane.changed : lane.at, j = below(changed, k + 1) - 1;
+  const j = below(lane.changed, k + 1) - 1;
   if (j < 0) return null;
-  const parts = changesOf(log, changed[j]);
-  for (const part in FIRST_LANE) for (const row of parts[part] || []) if (row[0] === lane.lane) return [changed[j], row.slice(1)];
+  const parts = changesOf(log, lane.changed[j]);
+  for (const part in FIRST_LANE) for (const row of parts[part] || []) if (row[0] === lane.lane) return [lane.changed[j], row.slice(1)];
   return null;
 }
 // A list of Swis (part 6 posted, 7 active) as record k left it.
@@ -341,7 +345,7 @@ function lastTaken(log, lane, k) {
 function chosen(log, thread, object, result) {
   const marks = new Uint8Array(log.n), asked = (thread >= 0) + (object >= 0) + (result !== "");
   const count = (k, bit) => { marks[k] |= bit; };
-  const changes = (lane, bit) => { if (lane) for (const k of lane.bars ? lane.changed : lane.at) count(k, bit); };
+  const changes = (lane, bit) => { if (lane) for (const k of lane.changed) count(k, bit); };
   if (thread >= 0) { changes(log.lanes[thread], 1); for (let k = 0; k < log.n; k++) if (callerOf(log, k) === thread || log.object[k] === thread + 1) count(k, 1); }
   if (object >= 0) { changes(log.lanes[object], 2); for (let k = 0; k < log.n; k++) if (log.object[k] === object + 1) count(k, 2); }
   if (result !== "") for (const k of resultList(log, result)) count(k, 4);

@@ -17,11 +17,12 @@ function keepAddress() {                 // a key that is held down would change
 }
 // Goes to a record and sees it closely.
 function goTo(k) {
-  if (perPixel() > 1 / 3) { const span = Math.max(leastSpan(), wide / 8); show(k + .5 - span / 2, span); }
+  if (perPixel() > 1 / 3) { const span = Math.max(leastSpan(), wide / 10); show(k + .5 - span / 2, span); }
   pick(k);
 }
 function openAddress() {
-  const what = decodeURIComponent(location.hash.slice(1));
+  let what = location.hash.slice(1);
+  try { what = decodeURIComponent(what); } catch { /* it is taken as it is */ }
   if (!what) return;
   if (/^\d+$/.test(what) && Number(what) === view.picked + 1) return;
   find(what, false);
@@ -36,13 +37,15 @@ function step(by) {
   if (listRows()) pick(recordOfRow(Math.min(Math.max(to, 0), listRows() - 1)));
 }
 function stepIn(list, by, name) {
-  if (!list.length) { say("no record is " + name, true); return; }
+  if (!list.length) { say("no record " + (view.chosen ? "in the list " : "") + "is " + name, true); return; }
   const at = by > 0 ? below(list, view.picked + 1) : below(list, Math.max(view.picked, 0)) - 1;
   const round = at < 0 || at >= list.length, to = round ? (by > 0 ? 0 : list.length - 1) : at;
   pick(list[to]);
   say(`${name}: ${(to + 1).toLocaleString("en")} of ${list.length.toLocaleString("en")}` + (round && list.length > 1 ? by > 0 ? ", from the start again" : ", from the end again" : ""));
 }
-const trouble = by => stepIn(log.troubles, by, "refused or not met");
+const trouble = by => stepIn(amongChosen(log.troubles), by, "refused or not met");
+// Those of a sorted list that are in the list of records.
+function amongChosen(list) { return view.chosen ? list.filter(k => view.chosen[below(view.chosen, k)] === k) : list; }
 
 // ---- search: a number, tick N, a thread, an object, or words
 let searched = "", search = null;
@@ -70,8 +73,9 @@ function laneAsked(text) {
   if (kind.startsWith("sem")) return i < 16 ? SEMAPHORE + i : -1;
   return i < size ? first + i : -1;
 }
-function foundAll(list) {
-  view.found = list; showMarks();
+function foundAll(all) {
+  const list = view.found = amongChosen(all);
+  showMarks();
   if (list.length) stepIn(list, 1, "found"); else { say("nothing found", true); draw(); }
 }
 // Looks at the records a part at a time, so that the page stays awake.
@@ -118,7 +122,8 @@ function showMarks() {
   $("marks").replaceChildren(...shownMarks().map(mark => {
     const button = element("button"), list = mark.list();
     button.type = "button"; button.title = "Next one";
-    button.append(element("span", mark.name), element("i", list.length.toLocaleString("en")));
+    const narrow = $("names").clientWidth < 120;
+    button.append(element("span", mark.name), element("i", list.length.toLocaleString("en", narrow ? { notation: "compact" } : {})));
     button.onclick = e => stepIn(mark.list(), e.shiftKey ? -1 : 1, mark.name.toLowerCase());
     return button;
   }));
@@ -190,10 +195,12 @@ function hover(event) {
   if (x < 0 || x > wide) { leave(); return; }
   $("cursor").hidden = false; $("cursor").style.left = $("view").offsetLeft + x + "px";
   if (k >= n) { tellTip([[shared.last, "no"]], event.clientX, event.clientY); return; }
-  const per = perPixel(), mark = event.target === $("ruler") ? markUnder(event) : -1, lane = laneUnder(event);
+  const mark = event.target === $("ruler") ? markUnder(event) : -1, lane = laneUnder(event);
   if (mark >= 0) tellTip(recordTip(mark, null), event.clientX, event.clientY);
-  else if (per <= 1) tellTip(recordTip(k, lane), event.clientX, event.clientY);
-  else tellTip(rangeTip(k, Math.min(n, Math.max(k + 1, Math.floor(recordAt(x + 1)))), lane), event.clientX, event.clientY);
+  else {
+    const end = Math.min(n, Math.max(k + 1, Math.floor(recordAt(x + 1))));
+    tellTip(end - k === 1 ? recordTip(k, lane) : rangeTip(k, end, lane), event.clientX, event.clientY);
+  }
 }
 function leave() { $("tip").hidden = true; $("cursor").hidden = true; }
 function wheel(event) {
@@ -290,8 +297,7 @@ function afterPrint() {
 
 // ---- the start
 function emptyLog() {
-  $("strip").hidden = true; $("legend").hidden = true;
-  for (const control of document.querySelectorAll("header input, header select, header button:not(#theme):not(#ask)")) control.disabled = true;
+  for (const part of [$("strip"), $("legend"), $("sum"), ...document.querySelectorAll("header form, header .group[role]")]) part.hidden = true;
   const told = element("div", shared.whole ? "The log is empty: it has no records." : "No record could be read: " + shared.last + ".", "empty" + (shared.whole ? "" : " bad"));
   document.querySelector("main").replaceChildren(told);
 }
@@ -311,7 +317,7 @@ function listen() {
   for (const id of ["byThread", "byObject", "byResult"]) $(id).addEventListener("change", choose);
   $("back").onclick = () => trouble(-1); $("forward").onclick = () => trouble(1);
   $("in").onclick = () => zoomPicked(1 / 1.6); $("out").onclick = () => zoomPicked(1.6); $("all").onclick = () => show(0, END);
-  addEventListener("keydown", pressKey); addEventListener("resize", () => { layList(); draw(); }); addEventListener("hashchange", openAddress);
+  addEventListener("keydown", pressKey); addEventListener("resize", () => { layList(); showMarks(); draw(); }); addEventListener("hashchange", openAddress);
   addEventListener("beforeprint", beforePrint); addEventListener("afterprint", afterPrint);
 }
 function start() {

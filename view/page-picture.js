@@ -88,6 +88,7 @@ function draw() {
 function drawNow() {
   const begun = performance.now();
   wide = Math.max(1, $("view").clientWidth);
+  MARK = parseFloat(getComputedStyle(document.documentElement).getPropertyValue("--mark"));
   view.span = Math.min(Math.max(view.span, leastSpan()), Math.max(END, 1));
   drawOverview(); drawRuler(); drawLanes(); tellShares(); followPicture();
   view.drawn = performance.now() - begun;
@@ -143,9 +144,11 @@ function markColumns(list, from, per, columns) {
 }
 
 // ---- the ruler: records and ticks, then the marks
-const MARK = 18, RULER = 36;
+const RULER = 36;
+let MARK = 18;
 function drawRuler() {
   const marks = shownMarks(), h = RULER + marks.length * MARK, ctx = fitted($("ruler"), wide, h);
+  $("ruler").style.width = wide + "px";       // the lanes may have a scroll bar beside them
   ctx.fillStyle = colour.paper; ctx.fillRect(0, 0, wide, h);
   ctx.font = "11px system-ui, sans-serif"; ctx.textBaseline = "middle";
   for (const k of gridRecords()) {
@@ -158,7 +161,7 @@ function drawRuler() {
   drawFault(ctx, h, 18);
   drawPicked(ctx, h);
   ctx.fillStyle = colour.soft; ctx.globalAlpha = .8;
-  if (view.listTo > view.listFrom) ctx.fillRect(xOf(view.listFrom), RULER - 3, Math.max(3, (view.listTo - view.listFrom) / perPixel()), 3);
+  ctx.fillRect(xOf(view.listFrom), RULER - 3, Math.max(3, (view.listTo + 1 - view.listFrom) / perPixel()), 3);
   ctx.globalAlpha = 1;
 }
 // The records that get a line and a number: each step is 1, 2 or 5 times a power of ten.
@@ -265,7 +268,7 @@ function barColumns(lane, from, per, W) {
 }
 // Steps: below the value (full up to the least of the column, light up to the greatest, a line at the mean), above, hanging, how many wait.
 function paintSteps(W, H, lane, per, top, bottom) {
-  stepShares(lane, n, view.from, per, W, shares);
+  if (per > 1) stepShares(lane, n, view.from, per, W, shares); else stepColumns(lane, view.from, per, W);
   const room = bottom - top, waits = lane.mostWaiting ? Math.round(room * .36) : 0, high = room - waits - (waits ? 1 : 0);
   const put = (x, from, to, value) => { for (let y = Math.max(from, 0); y < Math.min(to, H); y++) pixels[y * W + x] = value; };
   const height = v => v > 0 ? Math.max(2, Math.round(v / lane.most * high)) : 0;
@@ -279,6 +282,16 @@ function paintSteps(W, H, lane, per, top, bottom) {
     if (mean) put(x, bottom - mean, bottom - mean + 2, pixel.step);
     const waiting = shares[base + 3];
     if (waiting > 0) put(x, top, top + Math.max(1, Math.round(waiting / lane.mostWaiting * waits)), pixel.wait);
+  }
+}
+function stepColumns(lane, from, per, W) {
+  shares.fill(0, 0, W * STEP_NUMBERS);
+  let j = stretchAt(lane, Math.max(0, Math.floor(from)));
+  for (let x = 0; x < W; x++) {
+    const k = from + (x + .5) * per, base = x * STEP_NUMBERS;
+    if (k >= n) return;
+    while (j + 1 < lane.at.length && lane.at[j + 1] <= k) j++;
+    shares[base] = shares[base + 1] = shares[base + 2] = lane.value[j]; shares[base + 3] = lane.waiting[j] & 127; shares[base + 4] = lane.waiting[j] >> 7;
   }
 }
 // ---- labels: every stretch that is so wide holds one of the places that are looked at
@@ -297,6 +310,12 @@ function drawOnLane(ctx, row, top) {
   if (lane.bars) eachWide(lane, 22, (j, from, to) => drawLabel(ctx, barLabels(lane, lane.code[j]), from, to, top + row.height / 2 + .5, (lane.code[j] & 15) === RUN ? colour["on-run"] : inkOn(lane.code[j] & 15)));
   else eachWide(lane, 18, (j, from, to) => drawStepLabels(ctx, row, j, from, to, top));
   if (lane.bars && lane.marks.length) drawLaneMarks(ctx, lane, top, row.height);
+  if (lane.lane >= SWI && lane.lane < INTERRUPT && perPixel() < 1 / 4) drawBreaks(ctx, lane, top, row.height);
+}
+// A gap where a Swi ended and was started anew.
+function drawBreaks(ctx, lane, top, height) {
+  ctx.fillStyle = colour.paper;
+  for (let j = Math.max(1, stretchAt(lane, Math.max(0, Math.floor(view.from)))); j < lane.at.length && lane.at[j] < view.from + view.span; j++) if (lane.code[j] === lane.code[j - 1]) ctx.fillRect(xOf(lane.at[j]) - 1, top + 4, 2, height - 8);
 }
 const inkOn = c => c === POSTED || c === WAIT || c === SLEEP || c === OFF ? "#16202b" : colour["on-light"];
 // The first of some texts that has room; none where none has.
@@ -331,7 +350,7 @@ function drawCallers(ctx, seen, scroll) {
     const row = seen.find(r => r.lane && r.lane.lane === callerOf(log, k));
     if (!row) continue;
     const x = xOf(k), y = row.top - scroll + row.height / 2;
-    ctx.beginPath(); ctx.moveTo(x - 4, y - 5); ctx.lineTo(x + 2, y); ctx.lineTo(x - 4, y + 5); ctx.fill();
+    ctx.beginPath(); ctx.moveTo(x - 3, y - 4); ctx.lineTo(x + 2, y); ctx.lineTo(x - 3, y + 4); ctx.fill();
   }
 }
 

@@ -52,7 +52,7 @@ function laneWords(lane, k) {
   return row ? objectWords(lane, k, row[1], row[0]) : "";
 }
 function taskWords(lane, k, row, since) {
-  const [record, f] = row || [0, [1, 0, 0, 0, 0, 0]], [mode, priority, object, left] = f;
+  const [record, f] = row || [0, [lane.lane ? 0 : 1, 0, 0, 0, 0, 0]], [mode, priority, object, left] = f;      // task 0 is there from the start
   if (!mode) return "";
   const c = lane.code[stretchAt(lane, k)] & 15, waits = mode >= 2 && mode <= 6;
   let text = c === RUN ? "runs" : shared.modeName[mode] + (shared.modeObject[mode] ? " " + shared.modeObject[mode] + " " + object : "");
@@ -62,9 +62,9 @@ function taskWords(lane, k, row, since) {
 }
 function swiWords(lane, k, row) {
   const code = lane.code[stretchAt(lane, k)], c = code & 15;
-  if (row && !row[1][0]) return "";
+  if (!row || !row[1][0]) return "";
   const state = c === RUN ? "runs" : c === READY ? "is active, another runs first" : c === POSTED ? "is posted" : "is not posted";
-  return state + (c !== POSTED && code >> 4 ? ", posted again" : "") + (row ? ", priority " + row[1][1] + ", trigger " + hex(row[1][3]) : "");
+  return state + (c !== POSTED && code >> 4 ? ", posted again" : "") + ", priority " + row[1][1] + ", trigger " + hex(row[1][3]);
 }
 function objectWords(lane, k, f, record) {
   if (lane.lane === HEAP) return many(f[1], "unit") + " of 256 in " + many(f[0], "block");
@@ -184,6 +184,7 @@ function followPicture() {
   const key = view.from + " " + view.span;
   if (key !== followed) {
     followed = key;
+    $("view").setAttribute("aria-label", `Lanes of threads and objects, records ${plain(Math.floor(view.from))} to ${plain(Math.min(n, Math.ceil(view.from + view.span)) - 1)}; the list tells the same in words`);
     const k = view.picked, inSight = k >= view.from - 1 && k < view.from + view.span;
     if (k >= 0 && inSight) seeRow(rowOfRecord(k)); else scrollToRow(rowOfRecord(Math.min(Math.floor(view.from), n - 1)));
   }
@@ -228,10 +229,11 @@ function withLinks(words) {
 // ---- the colours in words, and the keys
 const LEGEND = [["run", "runs"], ["ready", "ready; a Swi: active below another"], ["posted", "Swi posted"], ["wait", "blocked, waits there"], ["sleep", "asleep"], ["ended", "terminated"], ["step", "an object's value"], ["band", "from its least to its greatest"]];
 const RUNNERS = [["by-interrupt", "interrupt"], ["by-swi", "Swis"], ["by-task", "tasks"], ["idle", "idle"]];
-const SHAPES = [["\u25bc", "refused", "refused"], ["\u25c6", "not-met", "not met"]];
+const SHAPES = [["\u25b8", "ink", "makes the call (close up)"], ["\u25bc", "refused", "refused"], ["\u25c6", "not-met", "not met"]];
 function legendKey(name, words, shape) {
   const key = element("span", "", "key"), mark = element(shape ? "b" : "i", shape || "");
   if (shape) mark.style.color = "var(--" + name + ")"; else mark.style.background = "var(--" + name + ")";
+  if (name === "ended") mark.className = "line";
   key.append(mark, words);
   return key;
 }

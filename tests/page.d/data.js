@@ -143,11 +143,11 @@ function checkChoosing(log, trace) {
     const is = core.chosen(log, lane, -1, "");
     check(`records of lane ${lane}`, [...is].filter(k => log.object[k] !== lane + 1), where((r, k) => log.object[k] !== lane + 1 && (r.caller === lane || r.changed.has(lane))));
   }
-  for (const lane of [49, 50, 65, 73, 81, 97]) {
-    const is = core.chosen(log, -1, lane, ""), number = lane - [81, 73, 65, 49].find(f => lane >= f);
-    if (lane < 97) for (const k of where(r => r.changed.has(lane))) check(`record ${k + 1} is of lane ${lane}`, is.includes(k), true);
-    if (lane === 49) for (const k of where(r => r.call >= 33 && r.call <= 36)) check(`record ${k + 1} names semaphore ${number}`, log.object[k] === 50, /\bsemaphore 0\b/.test(core.wordsOf(log, k)[0]));
+  for (const lane of [49, 50, 64, 65, 73, 81, 97]) {
+    const is = core.chosen(log, -1, lane, "");
+    check(`records of lane ${lane}`, [...is].filter(k => log.object[k] !== lane + 1), where((r, k) => log.object[k] !== lane + 1 && r.changed.has(lane)));
   }
+  for (const k of where(r => r.call >= 33 && r.call <= 36)) check(`record ${k + 1} names its semaphore`, log.object[k] - 50, Number(/\bsemaphore (\d+)/.exec(core.wordsOf(log, k)[0])[1]) > 15 ? -50 : Number(/\bsemaphore (\d+)/.exec(core.wordsOf(log, k)[0])[1]));
   for (const code of [3, 5]) check(`records with code ${code}`, [...core.chosen(log, -1, -1, String(code))], where(r => r.code === code));
   for (let k = 0; k < log.n; k += 37) for (let s = 0; s < 16; s++) if (log.lanes[49 + s]) {
     const is = core.lastTaken(log, log.lanes[49 + s], k), used = trace.steps.get(49 + s)[k];
