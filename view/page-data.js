@@ -110,7 +110,7 @@ function readRecord(log, k) {
   if (log.texts[text].code) log.refused.push(k); else if (log.texts[text].mark) log.notMet.push(k);
   putThreads(log, k, thread, state, swis);
 }
-function skipNumber(slot) { const length = next(); if (slot === "$") at += length; }
+function skipNumber(slot) { const length = next(); if (slot !== "#") at += length; }
 function takePart(log, k, part, count) {
   if (part === 5) { log.started = next(); return; }
   if (part === 6) { log.posted.fill(0); for (let i = 0; i < count; i++) log.posted[next()] = 1; return; }
@@ -286,9 +286,9 @@ function stepShares(lane, n, from, per, columns, out) {
   }
 }
 
-// ---- words: a text has '#' for each number in it, and '$' for each hexadecimal one
+// ---- words: a text has '#' for each number in it, '$' for each hexadecimal one, '@' for words that are written out
 function readText([call, code, outcome, mark, before, after]) {
-  return { call, code, outcome, mark, before, after, sought: soughtForm(before + ": " + after), slots: (before + after).replace(/[^#$]/g, "") };
+  return { call, code, outcome, mark, before, after, sought: soughtForm(before + ": " + after), slots: (before + after).replace(/[^#$@]/g, "") };
 }
 // Words as they are searched: small letters, and no commas or colons between them.
 function soughtForm(words) { return words.toLowerCase().replace(/[:;,]?\s+/g, " "); }
@@ -297,7 +297,7 @@ function wordsOf(log, k) {
   bytes = log.data; at = log.rowAt[k];
   next(); next();
   const text = log.texts[next()];
-  return [text.before, text.after].map(words => words.replace(/[#$]/g, slot => slot === "#" ? next() : "0x" + taken(next())));
+  return [text.before, text.after].map(words => words.replace(/[#$@]/g, slot => slot === "#" ? next() : (slot === "$" ? "0x" : "") + taken(next())));
 }
 function taken(length) { at += length; return String.fromCharCode(...bytes.subarray(at - length, at)); }
 
@@ -362,7 +362,7 @@ function resultList(log, result) {
 // ---- searching by words: all records whose words hold the text. A text that cannot hold it, whatever its numbers are, is left out at once.
 function wordSearch(log, asked) {
   const sought = soughtForm(asked).trim(), form = sought.replace(/[0-9]+/g, "#");
-  const verdict = log.texts.map(text => /[#$]/.test(sought) || text.sought.includes("$") ? "look" : text.sought.includes(sought) ? "yes" : form.includes("#") && text.sought.includes(form) ? "look" : "no");
+  const verdict = log.texts.map(text => /[#$@]/.test(sought + text.sought.replace(/#/g, "")) ? "look" : text.sought.includes(sought) ? "yes" : form.includes("#") && text.sought.includes(form) ? "look" : "no");
   const list = new Growing(Uint32Array);
   return { list, k: 0, done: false, step(most) {                 // looks at so many records
     for (const end = Math.min(log.n, this.k + most); this.k < end; this.k++) {

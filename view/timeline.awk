@@ -31,31 +31,33 @@ function makeEscapes(   i) {
     for (i = 1; i < 32; i++) escaped[sprintf("%c", i)] = sprintf("\\u%04x", i)
     escaped["\\"] = "\\\\"; escaped["\""] = "\\\""; escaped["<"] = "\\u003c"; escaped["\177"] = "\\u007f"
 }
-function namesOf(names,   key, i, text) {
+function namesOf(names,   i, text) {
     text = ""
     for (i = 0; i < 64; i++) if (i in names) text = text (text == "" ? "" : ",") "\"" i "\":" quoted(names[i])
     return "{" text "}"
 }
-# A record's words: its text's number and the numbers in it. In a text '#' stands for a number and '$' for a hexadecimal one.
-function wordsShown(text,   form, numbers, token) {
-    form = ""; numbers = ""
-    while (match(text, /0x[0-9a-f]+|[1-9][0-9]*|0/)) {
-        token = substr(text, RSTART, RLENGTH)
-        if (RLENGTH > 2 && substr(token, 2, 1) == "x") { form = form substr(text, 1, RSTART - 1) "$"; numbers = numbers shown(RLENGTH - 2) substr(token, 3) }
-        else { form = form substr(text, 1, RSTART - 1) "#"; numbers = numbers shown(token) }
-        text = substr(text, RSTART + RLENGTH)
+# A record's words: its text's number and the numbers in it. In a text '#' stands for a number, '$' for a hexadecimal one (its length and its digits).
+# There is room for so many texts; after that new words are written as they are, where '@' stands (the length and the words).
+function wordsShown(words,   rest, form, numbers, token, kind) {
+    rest = words; form = ""; numbers = ""; kind = call " " code " " outcome " " (mark() == "!") " "
+    while (match(rest, /0x[0-9a-f]+|[1-9][0-9]*|0/)) {
+        token = substr(rest, RSTART, RLENGTH)
+        if (RLENGTH > 2 && substr(token, 2, 1) == "x") { form = form substr(rest, 1, RSTART - 1) "$"; numbers = numbers shown(RLENGTH - 2) substr(token, 3) }
+        else { form = form substr(rest, 1, RSTART - 1) "#"; numbers = numbers shown(token) }
+        rest = substr(rest, RSTART + RLENGTH)
     }
-    return shown(textNumber(call " " code " " outcome " " (mark() == "!") " " form text)) numbers
+    form = kind form rest
+    if (form in textOf || texts < mostTexts) return shown(textNumber(form)) numbers
+    rest = index(words, ": ")
+    return shown(textNumber(kind "@: @")) shown(rest - 1) substr(words, 1, rest - 1) shown(length(words) - rest - 1) substr(words, rest + 2)
 }
 function textNumber(key) {
     if (!(key in textOf)) { textOf[key] = texts; textKey[texts++] = key }
     return textOf[key]
 }
-function recordShown(   before, named, i, row) {
-    before = callInWords()
+function recordShown(   named, i, row) {
     named = kindNamed in tableLetter ? tableLetter[kindNamed] numberNamed : ""
-    row = shown(lane[runs]) shown(depth * 8 + swisOn * 4 + tasksOn * 2 + (tick != tickNow)) wordsShown(before "\t" substr(recordInWords(), length(before) + 3))
-    row = row shown(named in lane ? lane[named] + 1 : 0)
+    row = shown(lane[runs]) shown(depth * 8 + swisOn * 4 + tasksOn * 2 + (tick != tickNow)) wordsShown(recordInWords()) shown(named in lane ? lane[named] + 1 : 0)
     for (i = 3; i <= 13; i++) {
         if (i == 6 || i == 7) { if (part[i] "" != listBefore[i]) row = row listShown(i); listBefore[i] = part[i] "" }
         else if (length(part[i]) > 1) row = row listShown(i)
@@ -68,17 +70,19 @@ function listShown(i,   p, n, j, text) {
     for (j = 1; j <= n; j++) text = text shown(p[j])
     return text
 }
-# A text as [call, code, outcome, whether it is marked, words of the call, words of what came of it].
+# A text as [call, code, outcome, whether it is marked, words of the call, words of what came of it]; the words have a colon between the two.
 function textShown(key,   p, words) {
     split(key, p, " "); words = substr(key, length(p[1] p[2] p[3] p[4]) + 5)
-    return "[\"" p[1] "\"," p[2] "," p[3] "," p[4] "," quoted(substr(words, 1, index(words, "\t") - 1)) "," quoted(substr(words, index(words, "\t") + 1)) "]"
+    return "[\"" p[1] "\"," p[2] "," p[3] "," p[4] "," quoted(substr(words, 1, index(words, ": ") - 1)) "," quoted(substr(words, index(words, ": ") + 2)) "]"
 }
 # Copies the page, and each file that a line of it names, up to the place of the data or to the end.
-function copy(file,   line) {
-    while ((getline line < file) > 0 && line != "@DATA@") if (line ~ /^@page-?[a-z]*\.[a-z]+@$/) copy(folder substr(line, 2, length(line) - 2)); else print line
+function copy(file,   line, got) {
+    while ((got = (getline line < file)) > 0 && line != "@DATA@") if (line ~ /^@page-?[a-z]*\.[a-z]+@$/) copy(folder substr(line, 2, length(line) - 2)); else print line
+    if (got < 0) { print "timeline: " file ": cannot be read" > "/dev/stderr"; unread = 1; exit 2 }
 }
 BEGIN {
     makeSymbols(); makeLanes(); makeEscapes(); readNames(names)
+    if (mostTexts == "") mostTexts = 16384
     texts = 0; records = 0; lastWords = ""; whole = 0; listBefore[6] = " "; listBefore[7] = " "
     folder = page; sub(/[^\/]*$/, "", folder)
     copy(page)
@@ -91,6 +95,7 @@ isLast() { lastWords = lastInWords(); whole = $0 ~ /^end/; next }
     records++
 }
 END {
+    if (unread) exit 2
     if (lastWords == "") { print "timeline: the trace has no last line" > "/dev/stderr"; exit 2 }
     if (records) print "</script>"
     print "<script type=\"application/json\" id=\"log\">{\"title\":" quoted(title) ",\"records\":" records ",\"last\":" quoted(lastWords) ",\"whole\":" (whole ? "true" : "false") ","
