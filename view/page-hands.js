@@ -108,10 +108,11 @@ const value = id => $(id).value === "" ? -1 : Number($(id).value);
 function choose() {
   view.chosen = chosen(log, value("byThread"), value("byObject"), $("byResult").value);
   for (const id of ["byThread", "byObject", "byResult"]) $(id).classList.toggle("set", $(id).value !== "");
-  for (const row of rows) if (row.lane) row.item.classList.toggle("set", [value("byThread"), value("byObject")].includes(row.lane.lane));
+  markChosenLanes();
   say(view.chosen ? many(view.chosen.length, "record") + " in the list" : "", view.chosen && !view.chosen.length);
   layList(); showMarks(); followed = ""; draw();
 }
+function markChosenLanes() { for (const row of rows) if (row.lane) row.item.classList.toggle("set", [value("byThread"), value("byObject")].includes(row.lane.lane)); }
 function chooseLane(lane) {
   const id = lane < SEMAPHORE ? "byThread" : "byObject";
   if (lane === SWITCHES) return;
@@ -311,7 +312,7 @@ function listen() {
   $("overview").addEventListener("wheel", event => { event.preventDefault(); zoom(Math.exp(Math.max(-240, Math.min(240, event.deltaY)) * .0022), xOf(event.offsetX / $("overview").clientWidth * END)); }, { passive: false });
   $("lanes").addEventListener("scroll", draw); $("list").addEventListener("scroll", drawList);
   $("rows").addEventListener("click", event => { const row = event.target.closest(".r"); if (row && row.shows !== "end") pick(row.shows); });
-  $("names").addEventListener("click", event => { const row = rows.find(r => r.item && r.item === event.target.closest("button")); if (row) chooseLane(row.lane.lane); });
+  $("names").addEventListener("click", event => { const row = rows.find(r => r.item === event.target.closest("button")); if (row && row.title) openOrClose(row.title); else if (row) chooseLane(row.lane.lane); });
   $("find").addEventListener("submit", event => { event.preventDefault(); find($("what").value, false); });
   $("what").addEventListener("keydown", event => { if (event.key === "Enter" && event.shiftKey) { event.preventDefault(); find($("what").value, true); } });
   for (const id of ["byThread", "byObject", "byResult"]) $(id).addEventListener("change", choose);

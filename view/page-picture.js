@@ -48,15 +48,16 @@ function zoom(factor, x = wide / 2) {
   show(k - x / wide * span, span);
 }
 
-// ---- rows of the picture: threads, then objects; each has its lane, its place and its height
-const rows = [];
+// ---- rows of the picture: threads, then objects; each has its lane, its place and its height. A group that is closed has its title only.
+const rows = [], closed = new Set();
 let tall = 0;
 function layRows() {
   const range = (from, to) => log.lanes.slice(from, to).filter(lane => lane);
   const groups = [["Threads", [...range(INTERRUPT, INTERRUPT + 1), ...range(SWI, INTERRUPT), ...range(0, SWI), ...range(SWITCHES, SWITCHES + 1)]], ["Objects", range(SEMAPHORE, SWITCHES)]];
+  rows.length = 0; tall = 0;
   for (const [title, lanes] of groups) if (lanes.length) {
-    rows.push({ title, top: tall, height: 20 }); tall += 20;
-    for (const lane of lanes) { const height = lane.bars ? 24 : lane.mostWaiting ? 42 : 32; rows.push({ lane, top: tall, height }); tall += height; }
+    rows.push({ title, top: tall, height: 24 }); tall += 24;
+    if (!closed.has(title)) for (const lane of lanes) { const height = lane.bars ? 24 : lane.mostWaiting ? 42 : 32; rows.push({ lane, top: tall, height }); tall += height; }
   }
   tall += 6;
 }
@@ -358,13 +359,18 @@ function drawCallers(ctx, seen, scroll) {
 function makeNames() {
   const names = $("names");
   names.style.height = tall + "px";
-  for (const row of rows) {
-    const item = document.createElement(row.title ? "h2" : "button");
-    item.style.top = row.top + "px"; item.style.height = row.height + "px";
-    if (row.title) item.textContent = row.title;
-    else { item.type = "button"; item.append(document.createElement("span"), document.createElement("i")); item.title = "Only the records of " + laneName(row.lane.lane, true); row.item = item; }
-    names.append(item);
-  }
+  names.replaceChildren(...rows.map(row => {
+    const item = row.item = document.createElement("button");
+    item.type = "button"; item.style.top = row.top + "px"; item.style.height = row.height + "px";
+    item.append(document.createElement("span"), document.createElement("i"));
+    if (row.title) { item.className = "title"; item.firstChild.textContent = row.title; item.lastChild.textContent = closed.has(row.title) ? "\u25b8" : "\u25be"; item.setAttribute("aria-expanded", !closed.has(row.title)); item.title = "Show or hide these lanes"; }
+    else item.title = "Only the records of " + laneName(row.lane.lane, true);
+    return item;
+  }));
+}
+function openOrClose(title) {
+  if (!closed.delete(title)) closed.add(title);
+  layRows(); makeNames(); markChosenLanes(); draw();
 }
 function tellShares() {
   const narrow = $("names").clientWidth < 120;

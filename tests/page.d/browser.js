@@ -36,6 +36,11 @@ async function wheelAndDrag() {
   check("the ruler stays while the lanes scroll", (await place("ruler")).y === top && await get("$('lanes').scrollTop") > 0);
   await get("$('lanes').scrollTop = 0");
   await chrome.key("0");
+  const names = await place("names"), lanes = await get("rows.length");
+  await chrome.click(names.x + 30, names.y + 12);
+  check("a group of lanes closes", await get("rows.length") < lanes && await get("rows[1].title === 'Objects'"));
+  await chrome.click(names.x + 30, names.y + 12);
+  check("and opens", await get("rows.length") === lanes);
 }
 async function hoverAndClick() {
   await get("show(100, 60)"); await chrome.frames(3);
