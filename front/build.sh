@@ -56,8 +56,23 @@ take_lock() {
         sleep 1
         turn=$((turn + 1))
     done
-    trap - INT
     [ "$turn" -eq 0 ] || end_progress
+    turn=0
+    while find_rt; do
+        [ $((turn % 60)) -ne 0 ] || say "waiting for process $who, an rt that was called by hand"
+        sleep 1
+        turn=$((turn + 1))
+    done
+    trap - INT
+}
+
+# An rt that was called by hand takes no lock. Two at once in a checkout break each other, so it is waited for.
+find_rt() {
+    # shellcheck disable=SC2013
+    for process in $(grep -l -a -z '/rt$' /proc/[0-9]*/cmdline 2>/dev/null); do
+        case $(readlink "${process%cmdline}cwd")/ in "$(absolute)"/*) who=${process%/cmdline} who=${who#/proc/} && return ;; esac
+    done
+    return 1
 }
 
 # Ends rt and all that it started, which are a session of their own. What is proved stays proved.
@@ -125,7 +140,10 @@ build() { # PROGRAM..
             die "$(joined "$@") could not be built: $(sed -n '/./h
                 $ { g; s/^rt: //; p; }' "$here/target/front.out") (all that rt said is in $(absolute)/target/front.out)"
         fi
-        for program; do touch -r "$here/target/front.begun" "$here/target/stamp/$program"; done
+        for program; do
+            [ -x "$programs/$program" ] || die "$program could not be built: rt says that it is proved, and left no $(absolute)/target/bin/$program"
+            touch -c -r "$here/target/front.begun" "$here/target/stamp/$program"
+        done
     fi
     exec 9>&-
 }

@@ -92,6 +92,13 @@ check 'a touched source, two at once: the first' [ "$(tail -n 6 "$room/out1")" =
 check 'a touched source, two at once: the second' [ "$(tail -n 6 "$room/out2")" = "$told" ]
 check 'a touched source, two at once: never two rts at once' not grep -q 'two at once' "$room/kit/calls"
 
+fresh
+(cd "$b" && DESK_PAUSE=0.5 rt check trace >"$room/out1" 2>&1) &
+soon [ -s "$room/kit/calls" ]
+row 'an rt that was called by hand is waited for' 0 "$told" '*tebalung: waiting for process [0-9]*, an rt that was called by hand*' "$b/replay" "$sample"
+wait
+check 'an rt that was called by hand: never two at once' [ "$(cat "$room/kit/calls")" = "check trace${nl}check replay" ]
+
 # How far it is: on a terminal one line, rewritten; else a line a minute. (Seconds are short here.)
 mkdir "$room/quick"
 # shellcheck disable=SC2016
@@ -155,6 +162,7 @@ row 'a lock of the dead is taken over' 0 "$told" 'tebalung: replay is not built 
 fresh
 row 'a crate is not proved' 2 '' '*tebalung: replay could not be built: FAILED: text (all that rt said is in */target/front.out)' env DESK_FAIL=text "$b/replay" "$sample"
 check 'a crate is not proved: no lock' unlocked
+row 'rt leaves no program' 2 '' '*tebalung: replay could not be built: rt says that it is proved, and left no *' env DESK_BIN="$room/nosuch" "$b/replay" "$sample"
 row 'a crate is not proved: mended' 0 "$told" '?*' "$b/replay" "$sample"
 echo '// changed' >>"$b/crates/fold/src/lib.rt"
 later "$b/crates/fold/src/lib.rt"
