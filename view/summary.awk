@@ -314,11 +314,13 @@ function findDrops(key, n) {
     finding(misses[key] > 2 && dropsMost[key] * 4 >= misses[key] ? 2 : 1, missFirst[key], plural(misses[key], "message") " dropped at mailbox " n ", which was full: first at record " missFirst[key] " by " threadName(missBy[key]) (misses[key] > 1 ? ", last at " missLast[key] : ""), \
         dropsMost[key] * 4 < misses[key] ? "its reader was ready, but came too late" : (dropsMost[key] == misses[key] ? "at that time " : "at " dropsMost[key] " of them ") dropDoing[key])
 }
+# The object was not made so far, and was made after the last of these calls.
+function isMadeLater(key) { return missCode[key] == 3 && !missGone[key] && madeAt[missKind[key], missNumber[key]] > missLast[key] + 0 }
 function findBadNumber(key, n, text,   kindOf) {
     kindOf = missKind[key]
     if (n + 0 >= tableSize[kindOf] + 0) finding(2, missFirst[key], text, "no create gave that number: it came from outside, such as a packet, or from memory that was spoilt")
     else if (missGone[key]) finding(2, missFirst[key], text, "it was deleted while it was still used")
-    else if (madeAt[kindOf, n] > missLast[key] + 0) finding(0, missFirst[key], text, "")
+    else if (isMadeLater(key)) finding(0, missFirst[key], text, "")
     else finding(1, missFirst[key], text, "")
 }
 # Blocks that have lived longer than any block that was given back: who took them; and who gives blocks back.
@@ -363,7 +365,7 @@ function tellMisses(   i, c, key, told) {
         section((c == 0 ? "Not met: " : "Refused with code " c " (" codeName[c] "): ") times(missesOf[c]))
         told = 0
         for (i = 1; i <= missMany; i++) if (missCode[key = missKeys[i]] == c && ++told <= 5)
-            print "  " missName[key] ", " missTimes(key) ", first at record " missFirst[key] " by " threadName(missBy[key]) (misses[key] > 1 ? ", last at " missLast[key] : "") ": " missWhy[key]
+            print "  " missName[key] ", " missTimes(key) ", first at record " missFirst[key] " by " threadName(missBy[key]) (misses[key] > 1 ? ", last at " missLast[key] : "") ": " missWhy[key] (isMadeLater(key) ? "; made later, at record " madeAt[missKind[key], missNumber[key]] : "")
         if (told > 5) print "  and " plural(told - 5, "other call")
     }
 }
