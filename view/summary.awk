@@ -1,5 +1,5 @@
-# Tells what stands out in a trace: what is most likely the cause first, then what was refused or not met, who waits, who is ready and does not run, the heap, the switches.
-# words.awk reads the records and keeps the tables; beside them this keeps what happened to them. Times are records and ticks from the log's start.
+# Tells what stands out in a trace: what is most likely the cause first, then what was refused or not met, who waits, who is ready and does
+# not run, the heap, the switches. words.awk reads the records and keeps the tables; beside them this keeps what happened to them.
 
 function times(n) { return n == 1 ? "once" : n " times" }
 function percent(n, all) { return int(100 * n / all + .5) "%" }
@@ -7,7 +7,8 @@ function listing(text, more) { return text == "" ? more : text ", " more }
 function isTask(t) { return substr(t, 1, 1) == "T" }
 # 'task 3 (priority 5)'
 function ranked(t) { return "task " t " (priority " signed(priority[t]) ")" }
-function span(since, tickThen) { return "since record " since " (" plural(record - since, "record") ", " plural(ticks - tickThen, "tick") ")" }
+function lasting(since, tickThen) { return "(" plural(record - since, "record") ", " plural(ticks - tickThen, "tick") ")" }
+function span(since, tickThen) { return "since record " since " " lasting(since, tickThen) }
 # The first word of the call: 'pend', 'post', 'restore' ..
 function verb(   words) { words = callWords[call]; sub(/[ ,].*/, "", words); return words }
 
@@ -61,11 +62,17 @@ function noteRunning(   i, t) {
 function noteHungry(t,   i) {
     if (t == 0) return
     hungrySince[t] = record; hungryTick[t] = ticks
-    for (i = 1; i <= threadMany; i++) { callsThen[t, threadKeys[i]] = calls[threadKeys[i]]; ticksThen[t, threadKeys[i]] = tickOf[threadKeys[i]] }
+    for (i = 1; i <= threadMany; i++) {
+        callsThen[t, threadKeys[i]] = calls[threadKeys[i]]
+        ticksThen[t, threadKeys[i]] = tickOf[threadKeys[i]]
+    }
 }
 function noteFed(t) {
     if (!(t in hungrySince)) return
-    if (record - hungrySince[t] > hungerLong + 0) { hungerLong = record - hungrySince[t]; hungerTask = t; hungerFrom = hungrySince[t]; hungerTo = record; hungerTicks = ticks - hungryTick[t] }
+    if (record - hungrySince[t] > hungerLong + 0) {
+        hungerLong = record - hungrySince[t]; hungerTicks = ticks - hungryTick[t]
+        hungerTask = t; hungerFrom = hungrySince[t]; hungerTo = record
+    }
     delete hungrySince[t]
 }
 # Who posts and takes semaphores, who reads mailboxes, when an object was made and posted.
@@ -161,7 +168,10 @@ function noteSwitches(   name) {
 function noteSwitch(name, on) {
     if (!on && !(name in offSince)) { offSince[name] = record; offTick[name] = ticks; offBy[name] = caller }
     if (on && (name in offSince)) {
-        if (record - offSince[name] > offLong[name] + 0) { offLong[name] = record - offSince[name]; offFrom[name] = offSince[name]; offTo[name] = record; offLongBy[name] = offBy[name] }
+        if (record - offSince[name] > offLong[name] + 0) {
+            offLong[name] = record - offSince[name]
+            offFrom[name] = offSince[name]; offTo[name] = record; offLongBy[name] = offBy[name]
+        }
         delete offSince[name]
     }
 }
@@ -177,7 +187,8 @@ function holderOf(t,   s) {
 }
 # What a task does; at a semaphore who took it last, and what that one does, and so on for so many steps. Records are told if asked for.
 function chainInWords(t, steps, withRecords,   s, text) {
-    if (mode[t] == 1) return runs == "T" t ? "runs" : "is ready" (withRecords && (t in hungrySince) ? " and has not run since record " hungrySince[t] : "")
+    if (mode[t] == 1 && runs == "T" t) return "runs"
+    if (mode[t] == 1) return "is ready" (withRecords && (t in hungrySince) ? " and has not run since record " hungrySince[t] : "")
     s = taskObject[t]
     if (mode[t] != 3 || taker[s] == "" || taker[s] == "T" t) return taskInWords(t)
     text = "waits at semaphore " s ", last taken by " takerInWords(s) (withRecords ? " (record " takenAt[s] ")" : "")
@@ -189,7 +200,8 @@ function circleInWords(t,   u, h, text, n) {
     for (n = 0; n < 32; n++) {
         h = holderOf(u)
         if (h == "") return ""
-        text = text (n == 0 ? "task " u : ", which") " waits for semaphore " taskObject[u] (h == u ? ", which it took itself" : ", last taken by task " h) " (record " takenAt[taskObject[u]] ")"
+        text = text (n == 0 ? "task " u : ", which") " waits for semaphore " taskObject[u] \
+            (h == u ? ", which it took itself" : ", last taken by task " h) " (record " takenAt[taskObject[u]] ")"
         inCircle[u] = t
         if (waitSince[u] + 0 > circleSince) circleSince = waitSince[u] + 0
         if (left[u] > 0) circleLimited = 1
@@ -199,7 +211,8 @@ function circleInWords(t,   u, h, text, n) {
     return ""
 }
 
-# ---- findings. A finding has a rank (3 nothing goes on past it, 2 strong, 1 worth a look, 0 not told on top) and the record where it began: of one rank the earliest is told first.
+# ---- findings. A finding has a rank (3 nothing goes on past it, 2 strong, 1 worth a look, 0 not told on top) and the record where it began:
+# of one rank the earliest is told first.
 
 function finding(rank, since, text, more) {
     findings++
@@ -212,37 +225,47 @@ function findCircles(   t, u, text) {
         split("", inCircle)
         if ((text = circleInWords(t)) == "") continue
         for (u in inCircle) closed[u] = 1
-        finding(3, circleSince, "a circle of waits: " text, "nobody in it can go on" (circleLimited ? " before a limit runs out" : "") "; it closed at record " circleSince)
+        finding(3, circleSince, "a circle of waits: " text,
+            "nobody in it can go on" (circleLimited ? " before a limit runs out" : "") "; it closed at record " circleSince)
     }
 }
-function findWaits(   t, h, where) {
+function findWaits(   t, h) {
     for (t = 1; t < 32; t++) if (mode[t] >= 3 && mode[t] <= 6 && !(t in closed) && isLong(waitSince[t])) {
-        where = modeObject[mode[t]] " " taskObject[t]
         h = holderOf(t)
         if (h != "") findHeld(t, h)
-        else if (mode[t] == 3 && isLock(taskObject[t]) && substr(taker[taskObject[t]], 1, 1) == "D") finding(3, waitSince[t], ranked(t) " " chainInWords(t, 1, 1), "that task went without posting it")
-        else if (overtaken[t] > 2) finding(2, overtakenFirst, ranked(t) " " taskInWords(t) ", which is served by priority, " span(waitSince[t], waitTick[t]), "served instead, though they came later: " overtakersInWords(t))
-        else if (isQuiet(where)) finding(1, postLast[where], ranked(t) " " taskInWords(t) " " span(waitSince[t], waitTick[t]) ", and posts there have stopped", \
-            "the last came at record " postLast[where] " by " threadName(postBy[where]) ", until then one in " int((postLast[where] - postFirst[where]) / (postCount[where] - 1)) " records" stoppedInWords(postBy[where]))
+        else if (mode[t] == 3 && isLock(taskObject[t]) && substr(taker[taskObject[t]], 1, 1) == "D")
+            finding(3, waitSince[t], ranked(t) " " chainInWords(t, 1, 1), "that task went without posting it")
+        else if (overtaken[t] > 2)
+            finding(2, overtakenFirst, ranked(t) " " taskInWords(t) ", which is served by priority, " span(waitSince[t], waitTick[t]),
+                "served instead, though they came later: " overtakersInWords(t))
+        else findQuiet(t, modeObject[mode[t]] " " taskObject[t])
     }
     for (t = 1; t < 32; t++) if (worst[t] > 4 && worst[t] > overtaken[t] + 0 && worstTo[t] - worstFrom[t] > record / 10)
-        finding(2, overtakenFirst, ranked(t) " waited at semaphore " worstAt[t] ", which is served by priority, from record " worstFrom[t] " to " worstTo[t] " (" plural(worstTicks[t], "tick") ")", "served instead, though they came later: " worstBy[t])
+        finding(2, overtakenFirst, ranked(t) " waited at semaphore " worstAt[t] ", which is served by priority, from record " worstFrom[t] " to " \
+            worstTo[t] " (" plural(worstTicks[t], "tick") ")", "served instead, though they came later: " worstBy[t])
 }
 # A task waits long for a lock that another holds.
-function findHeld(t, h) {
-    if (h in closed) finding(1, waitSince[t], ranked(t) " " chainInWords(t, 2, 1), "that one stands in the circle")
-    else if (mode[h] == 7) finding(3, waitSince[t], ranked(t) " " chainInWords(t, 6, 1), "that task ended without posting it")
-    else if ((h in hungrySince) && isLong(hungrySince[h])) finding(2, hungrySince[h] - 1, ranked(t) " " chainInWords(t, 6, 1), ranked(h) " does not come to run; since then ran " sharesSince(h))
-    else finding(1, waitSince[t], ranked(t) " " chainInWords(t, 6, 1), "it waits " span(waitSince[t], waitTick[t]))
+function findHeld(t, h,   text) {
+    text = ranked(t) " " chainInWords(t, h in closed ? 2 : 6, 1)
+    if (h in closed) finding(1, waitSince[t], text, "that one stands in the circle")
+    else if (mode[h] == 7) finding(3, waitSince[t], text, "that task ended without posting it")
+    else if ((h in hungrySince) && isLong(hungrySince[h]))
+        finding(2, hungrySince[h] - 1, text, ranked(h) " does not come to run; since then ran " sharesSince(h))
+    else finding(1, waitSince[t], text, "it waits " span(waitSince[t], waitTick[t]))
 }
-# Posts came often and have stopped: none for a fifth of the log, and for ten times as long as between them before.
-function isQuiet(where) {
-    return postCount[where] > 4 && record - postLast[where] > record / 5 && (record - postLast[where]) * (postCount[where] - 1) > 10 * (postLast[where] - postFirst[where])
+# A task waits long where posts came often and have stopped: none for a fifth of the log, and for ten times as long as between them before.
+function findQuiet(t, where,   quiet, often) {
+    if (postCount[where] < 5) return
+    quiet = record - postLast[where]; often = (postLast[where] - postFirst[where]) / (postCount[where] - 1)
+    if (quiet > record / 5 && quiet > 10 * often)
+        finding(1, postLast[where], ranked(t) " " taskInWords(t) " " span(waitSince[t], waitTick[t]) ", and posts there have stopped",
+            "the last came at record " postLast[where] " by " threadName(postBy[where]) ", until then one in " int(often) " records" stoppedInWords(postBy[where]))
 }
 # The clock that posts a Swi and was stopped, if there is one.
 function stoppedInWords(who,   c) {
-    if (substr(who, 1, 1) == "S") for (c = 0; c < tableSize["clock"]; c++)
-        if (inUse["clock", c] && clockSwi[c] == substr(who, 2) && clockLeft[c] == 0 && (c in stoppedAt)) return "; clock " c ", which posts " threadName(who) ", was stopped at record " stoppedAt[c] " by " threadName(stoppedBy[c])
+    if (substr(who, 1, 1) != "S") return ""
+    for (c = 0; c < tableSize["clock"]; c++) if (inUse["clock", c] && clockSwi[c] == substr(who, 2) && clockLeft[c] == 0 && (c in stoppedAt))
+        return "; clock " c ", which posts " threadName(who) ", was stopped at record " stoppedAt[c] " by " threadName(stoppedBy[c])
     return ""
 }
 # A Swi that does not end; a Swi that is posted faster than it ends; ready tasks that do not run. The first that is there is the cause of the next ones.
@@ -251,10 +274,11 @@ function findStarved(   starved, storm, n, p, swi) {
     n = split(part[7], p, " ")
     swi = n > 0 ? p[n] : ""
     if (swi != "" && isLong(swiStart[swi]) && (calls["S" swi] - swiCalls[swi]) * 4 > record - swiStart[swi])
-        finding(3, swiStart[swi], "Swi " swi " started at record " swiStart[swi] " and has not ended since (" plural(record - swiStart[swi], "record") ", " plural(ticks - swiTick[swi], "tick") ")", starved)
+        finding(3, swiStart[swi], "Swi " swi " started at record " swiStart[swi] " and has not ended since " lasting(swiStart[swi], swiTick[swi]), starved)
     else if ((storm = worstStorm()) != "") finding(2, swiLostFirst[storm], stormInWords(storm), starved)
     else if (starved != "") finding(2, starvedSince, starved, "")
-    else if (hungerLong > record / 5 && hungerLong > 20) finding(1, hungerFrom, ranked(hungerTask) " was ready and did not run from record " hungerFrom " to " hungerTo " (" plural(hungerTicks, "tick") ")", "")
+    else if (hungerLong > record / 5 && hungerLong > 20)
+        finding(1, hungerFrom, ranked(hungerTask) " was ready and did not run from record " hungerFrom " to " hungerTo " (" plural(hungerTicks, "tick") ")", "")
 }
 # Of the Swis that were posted already at a fifth of their posts, and ten times at least, the one that ran most.
 function worstStorm(   i, key, p, best, most) {
@@ -269,7 +293,9 @@ function worstStorm(   i, key, p, best, most) {
 function stormInWords(key,   p, c) {
     split(key, p, SUBSEP)
     c = substr(p[1], 7)
-    return (p[1] == "calls" ? "calls post" : p[1] " (period " period[c] ") posts") " Swi " p[2] " faster than it ends: " swiLost[key] " of " plural(swiPosts[key], "post") " found it posted already, first at record " swiLostFirst[key] "; it made " percent(calls["S" p[2]], record) " of the calls"
+    return (p[1] == "calls" ? "calls post" : p[1] " (period " period[c] ") posts") " Swi " p[2] " faster than it ends: " \
+        swiLost[key] " of " plural(swiPosts[key], "post") " found it posted already, first at record " swiLostFirst[key] \
+        "; it made " percent(calls["S" p[2]], record) " of the calls"
 }
 # Ready tasks that have not run for a fifth of the log, and what ran since the first of them stopped.
 function starvedInWords(   t, text, oldest) {
@@ -302,25 +328,33 @@ function findMisses(   i, key, c, n, text) {
     for (i = 1; i <= missMany; i++) {
         key = missKeys[i]; c = missCode[key]; n = missNumber[key]
         if (c == 0) { if (key in dropsMost) findDrops(key, n); continue }
-        text = missName[key] ", by " threadName(missBy[key]) " at record " missFirst[key] ": refused with code " c ": " missWhy[key] (misses[key] > 1 ? " (" missTimes(key) ", last at record " missLast[key] ")" : "")
+        text = missName[key] ", by " threadName(missBy[key]) " at record " missFirst[key] ": refused with code " c ": " missWhy[key]
+        if (misses[key] > 1) text = text " (" missTimes(key) ", last at record " missLast[key] ")"
         if (c == 3) findBadNumber(key, n, text)
-        else if (c == 9) finding(2, missFirst[key], text, key in missRestored ? "both switches were on again at record " missRestored[key] : "")
-        else if (c == 8) finding(2, missFirst[key], text, missFree[key] + 0 >= missAsked[key] + 0 ? missFree[key] " bytes were free then, but in pieces" : oldBlocksInWords())
-        else finding(c == 6 || c == 7 ? 2 : 1, missFirst[key], text, "")
+        else finding(c > 5 && c < 10 ? 2 : 1, missFirst[key], text, c == 8 ? roomInWords(key) : restoredInWords(key))
     }
 }
-function missTimes(key) { return times(misses[key]) (misses[key] > 1 && missKind[key] != "" && missNumber[key] + 0 >= tableSize[missKind[key]] + 0 ? " with such numbers" : "") }
-function findDrops(key, n) {
-    finding(misses[key] > 2 && dropsMost[key] * 4 >= misses[key] ? 2 : 1, missFirst[key], plural(misses[key], "message") " dropped at mailbox " n ", which was full: first at record " missFirst[key] " by " threadName(missBy[key]) (misses[key] > 1 ? ", last at " missLast[key] : ""), \
-        dropsMost[key] * 4 < misses[key] ? "its reader was ready, but came too late" : (dropsMost[key] == misses[key] ? "at that time " : "at " dropsMost[key] " of them ") dropDoing[key])
+function restoredInWords(key) { return key in missRestored ? "both switches were on again at record " missRestored[key] : "" }
+function isOutOfRange(key) { return missKind[key] != "" && missNumber[key] + 0 >= tableSize[missKind[key]] + 0 }
+function missTimes(key) { return times(misses[key]) (misses[key] > 1 && isOutOfRange(key) ? " with such numbers" : "") }
+# Messages were dropped at a full mailbox: strong, where its reader was kept from reading at a quarter of them.
+function findDrops(key, n,   kept, more) {
+    kept = dropsMost[key] * 4 >= misses[key]
+    more = (dropsMost[key] == misses[key] ? "at that time " : "at " dropsMost[key] " of them ") dropDoing[key]
+    finding(kept && misses[key] > 2 ? 2 : 1, missFirst[key], plural(misses[key], "message") " dropped at mailbox " n ", which was full: first at record " \
+        missFirst[key] " by " threadName(missBy[key]) (misses[key] > 1 ? ", last at " missLast[key] : ""),
+        kept ? more : "its reader was ready, but came too late")
 }
-function findBadNumber(key, n, text,   kindOf) {
-    kindOf = missKind[key]
-    if (n + 0 >= tableSize[kindOf] + 0) finding(2, missFirst[key], text, "no create gave that number: it came from outside, such as a packet, or from memory that was spoilt")
+# The object was not made so far, and was made after the last of these calls.
+function isMadeLater(key) { return missCode[key] == 3 && !missGone[key] && madeAt[missKind[key], missNumber[key]] > missLast[key] + 0 }
+function findBadNumber(key, n, text) {
+    if (isOutOfRange(key)) finding(2, missFirst[key], text, "no create gave that number: it came from outside, such as a packet, or from memory that was spoilt")
     else if (missGone[key]) finding(2, missFirst[key], text, "it was deleted while it was still used")
-    else if (madeAt[kindOf, n] > missLast[key] + 0) finding(0, missFirst[key], text, "")
+    else if (isMadeLater(key)) finding(0, missFirst[key], text, "")
     else finding(1, missFirst[key], text, "")
 }
+# Why there was no room: the heap was in pieces, or old blocks do not come back.
+function roomInWords(key) { return missFree[key] + 0 >= missAsked[key] + 0 ? missFree[key] " bytes were free then, but in pieces" : oldBlocksInWords() }
 # Blocks that have lived longer than any block that was given back: who took them; and who gives blocks back.
 function oldBlocksInWords(   o, i, x, old, by, text, gave) {
     old = 0
@@ -331,26 +365,35 @@ function oldBlocksInWords(   o, i, x, old, by, text, gave) {
         if (x in gaveMany) gave = listing(gave, threadName(x) " gave back " gaveMany[x])
     }
     if (old < 2) return heapInWords() " taken at the end, " plural(largestRun() * 8, "byte") " the largest free run"
-    return old " of " plural(blocks, "block") " at the end are older than any that came back was (" plural(longLife, "record") "): " text (gave == "" ? ", none came back" : "; in all " gave)
+    return old " of " plural(blocks, "block") " at the end are older than any that came back was (" plural(longLife, "record") "): " text \
+        (gave == "" ? ", none came back" : "; in all " gave)
 }
 function oldBlocks(   o, old) { old = 0; for (o in liveAt) if (record - liveAt[o] > longLife) old++; return old }
-function findHeap() { if (!(8 in missesOf) && units > 128 && oldBlocks() > 2) finding(1, record, "the heap fills: " heapInWords() " taken at the end", oldBlocksInWords()) }
+function findHeap() {
+    if (!(8 in missesOf) && units > 128 && oldBlocks() > 2) finding(1, record, "the heap fills: " heapInWords() " taken at the end", oldBlocksInWords())
+}
+function offSpan(name) { return name " are off " span(offSince[name], offTick[name]) ", by " threadName(offBy[name]) }
 function findSwitches(   i, name) {
     for (i = 1; i <= 2; i++) {
         name = i == 1 ? "Swis" : "tasks"
-        if ((name in offSince) && isLong(offSince[name])) finding(3, offSince[name], name " are off " span(offSince[name], offTick[name]) ", by " threadName(offBy[name]) ", and were not restored", "")
-        else if (!(name in offSince) && offs[name] > restores[name] + 0 && !(9 in missesOf)) finding(1, offFrom[name], name " were switched off " times(offs[name]) " and restored " times(restores[name] + 0), "they were off longest from record " offFrom[name] " to " offTo[name] " (" threadName(offLongBy[name]) ")")
+        if (name in offSince) {
+            if (isLong(offSince[name])) finding(3, offSince[name], offSpan(name) ", and were not restored", "")
+        }
+        else if (offs[name] > restores[name] + 0 && !(9 in missesOf))
+            finding(1, offFrom[name], name " were switched off " times(offs[name]) " and restored " times(restores[name] + 0),
+                "they were off longest from record " offFrom[name] " to " offTo[name] " (" threadName(offLongBy[name]) ")")
     }
 }
 
 # ---- telling
 
 function section(name) { print ""; print name }
+function isBefore(i, j) { return findingRank[i] != findingRank[j] ? findingRank[i] > findingRank[j] : findingSince[i] < findingSince[j] }
 function tellFindings(   i, best, told) {
     findCircles(); findWaits(); findStarved(); findMisses(); findSwitches(); findHeap()
     for (told = 0; told < 6; told++) {
         best = 0
-        for (i = 1; i <= findings; i++) if (findingRank[i] > 0 && (!best || findingRank[i] > findingRank[best] || (findingRank[i] == findingRank[best] && findingSince[i] < findingSince[best]))) best = i
+        for (i = 1; i <= findings; i++) if (findingRank[i] > 0 && (!best || isBefore(i, best))) best = i
         if (!best) break
         findingRank[best] = 0
         if (told < 2) section(told == 0 ? "Most likely the cause:" : "Also stands out:")
@@ -363,7 +406,9 @@ function tellMisses(   i, c, key, told) {
         section((c == 0 ? "Not met: " : "Refused with code " c " (" codeName[c] "): ") times(missesOf[c]))
         told = 0
         for (i = 1; i <= missMany; i++) if (missCode[key = missKeys[i]] == c && ++told <= 5)
-            print "  " missName[key] ", " missTimes(key) ", first at record " missFirst[key] " by " threadName(missBy[key]) (misses[key] > 1 ? ", last at " missLast[key] : "") ": " missWhy[key]
+            print "  " missName[key] ", " missTimes(key) ", first at record " missFirst[key] " by " threadName(missBy[key]) \
+                (misses[key] > 1 ? ", last at " missLast[key] : "") ": " missWhy[key] \
+                (isMadeLater(key) ? "; made later, at record " madeAt[missKind[key], missNumber[key]] : "")
         if (told > 5) print "  and " plural(told - 5, "other call")
     }
 }
@@ -371,7 +416,8 @@ function tellWaits(   t, told, text) {
     told = 0
     for (t = 1; t < 32; t++) if (mode[t] >= 2 && mode[t] <= 6) {
         if (told++ == 0) section("Waiting at the end:")
-        text = ranked(t) " " taskInWords(t) (mode[t] == 4 ? masksInWords(t) : "") " " span(waitSince[t], waitTick[t]) (left[t] == 0 ? ", without end" : ", " ticksLeft(t) " left")
+        text = ranked(t) " " taskInWords(t) (mode[t] == 4 ? masksInWords(t) : "") " " span(waitSince[t], waitTick[t])
+        text = text (left[t] == 0 ? ", without end" : ", " ticksLeft(t) " left")
         if (passed[t] > 0) text = text "; " plural(passed[t], "post") " went to others" (overtaken[t] > 0 ? ", to later ones: " overtakersInWords(t) : "")
         if (mode[t] == 3 && taker[taskObject[t]] != "") text = text "; last taken by " takerInWords(taskObject[t]) " (record " takenAt[taskObject[t]] ")"
         print "  " text
@@ -415,8 +461,8 @@ function tellRest(   i, key, p, told) {
         if (told <= 8) print "  Swi " p[2] " by " p[1] ", " swiLost[key] " of " plural(swiPosts[key], "post") ", first at record " swiLostFirst[key]
     }
     if (told > 8) print "  and " told - 8 " more"
-    if ("Swis" in offSince) section("Swis are off " span(offSince["Swis"], offTick["Swis"]) ", by " threadName(offBy["Swis"]))
-    if ("tasks" in offSince) section("Tasks are off " span(offSince["tasks"], offTick["tasks"]) ", by " threadName(offBy["tasks"]))
+    if ("Swis" in offSince) section(offSpan("Swis"))
+    if ("tasks" in offSince) section("T" substr(offSpan("tasks"), 2))
     if (depth > 0) section("The log ends in an interrupt, at depth " depth)
 }
 

@@ -1,5 +1,5 @@
-# Reads a trace (docs/TRACE.md) record by record, keeps the tables that it tells of, and puts a record into words. The names and words are those of view/names.
-# It runs with mawk, gawk and busybox's awk: numbers of the trace are kept as they are written, and no number above 2,147,483,647 goes through a format.
+# Reads a trace (docs/TRACE.md) record by record, keeps the tables that it tells of, and puts a record into words. The words are those of view/names.
+# It runs with mawk, gawk and busybox's awk: numbers of the trace are kept as they are written, and none above 2,147,483,647 goes through %d or %x.
 
 # ---- the names
 
@@ -257,7 +257,7 @@ function waitersInWords(kind, n,   doing, front) {
 # What an object has after the call.
 function objectInWords(kindOf, n) {
     if (kindOf == "semaphore") return "count " semaphoreCount[n] atInWords(kindOf, n)
-    if (kindOf == "event") return "bits " hexWord(eventBits[n]) atInWords(kindOf, n) (waitersAt[kindOf, n] + 0 == 0 || outcome == 2 ? "" : masksInWords(lineAt[kindOf, n]))
+    if (kindOf == "event") return "bits " hexWord(eventBits[n]) atInWords(kindOf, n) (waitersAt[kindOf, n] > 0 && outcome != 2 ? masksInWords(lineAt[kindOf, n]) : "")
     if (kindOf == "mailbox") return messages[n] " of " plural(capacity[n], "message") atInWords(kindOf, n)
     if (kindOf == "Swi") return "trigger " hexWord(trigger[n])
     if (kindOf == "clock") return clockLeft[n] == 0 ? "stopped" : plural(clockTicks(n), "tick") " left"
@@ -265,7 +265,8 @@ function objectInWords(kindOf, n) {
 }
 function atInWords(kindOf, n) { return waitersAt[kindOf, n] + 0 == 0 ? "" : ", " waitersInWords(kindOf, n) }
 function masksInWords(t) {
-    return " for " (andMask[t] == 0 ? "" : "all of " hexWord(andMask[t])) (andMask[t] == 0 || orMask[t] == 0 ? "" : " or ") (orMask[t] == 0 ? "" : "any of " hexWord(orMask[t]))
+    if (orMask[t] == 0) return " for all of " hexWord(andMask[t])
+    return " for " (andMask[t] == 0 ? "" : "all of " hexWord(andMask[t]) " or ") "any of " hexWord(orMask[t])
 }
 # A clock's ticks left now: the trace told them when they were set, and each tick since took one.
 function clockTicks(c) { return round32(clockLeft[c] - round32(tickNow - clockAt[c])) }
@@ -332,20 +333,22 @@ function tasksInWords(   i, t, text, woken, late, slept) {
         }
         else if (modeWas[t] == 2) slept = slept " " t
         else if (taskOutcome[t] == 1) late = late (late == "" ? "" : ", ") "task " t " at " modeObject[modeWas[t]] " " objectWas[t]
-        else woken = "woke task " t (modeWas[t] == 4 ? " with bits " hexWord(taskValue[t]) : modeWas[t] == 5 ? " with the word" : modeWas[t] == 6 ? ", its word joins" : "")
+        else woken = "woke task " t wokenWith(t)
     }
     text = joined(text, woken)
     if (late != "") text = joined(text, "timed out: " late)
     if (slept != "") text = joined(text, "slept enough: " taskList(slept))
     return text
 }
+function wokenWith(t) { return modeWas[t] == 4 ? " with bits " hexWord(taskValue[t]) : modeWas[t] == 5 ? " with the word" : modeWas[t] == 6 ? ", its word joins" : "" }
 # The posts of Swis that the call made: its own, or those of the clocks that ran out.
 function postsInWords(   i, c, text) {
     if (kindNamed == "Swi" && posts == 0 && index(callWords[call], "post") > 0) return "not posted"
     for (i = 1; i <= 3 * posts; i += 3) {
         c = post[i]
         if (c == 16) text = post[i + 2] == 1 ? "it was posted already" : "posted"
-        else text = joined(text, "clock " c " posts Swi " post[i + 1] (post[i + 2] == 1 ? " (posted already)" : "") (clockLeft[c] == 0 ? " and stops" : ", next in " clockLeft[c]))
+        else text = joined(text, "clock " c " posts Swi " post[i + 1] (post[i + 2] == 1 ? " (posted already)" : "") \
+            (clockLeft[c] == 0 ? " and stops" : ", next in " clockLeft[c]))
     }
     return text
 }
