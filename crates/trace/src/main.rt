@@ -299,7 +299,7 @@ fn trace_all(fd: i32, name: &[u8]) {
         going: true,
     };
     let mut turns = u64::MAX;
-    while (0 < turns) & c.going {
+    while 0 < turns && c.going {
         c = read_then_turn(fd, name, &mut part, c, &mut out);
         turns -= 1;
     }

@@ -1,58 +1,36 @@
+-- `to_front` is safe and ends: a byte is moved to a place before its own.
+use Prim.Native.Nat.{_-_, _≤_}
+use mathlib.Core.Path.{_≡_, refl}
+use native.Mathlib.Omega.{arith}
+use lib.ListN.{length, length-set}
+use borrow.Author.Needs.{needs}
+use native.Mathlib.Nat.{mod-le}
 use Rattle.trace.proofs.to_front.Statement.{statement}
 use Rattle.trace.proofs.to_front.Tie as tie
-use Rattle.trace.proofs.to_front.Reads as reads
-use Rattle.trace.proofs.to_front.Lts as lts
-use Rattle.rows.proofs.lines.least.Reads as least-reads
 
 abbrev Inv-loop : tie.InvT-loop
-Inv-loop part₀ n end from₀ i₀ part from i = ?
+Inv-loop part₀ n end from₀ i₀ part from i = ((end ≤ length part) × (length part ≡ length part₀)) × (i ≤ from)
 
 abbrev μ-loop : tie.MeasureT-loop
-μ-loop part₀ n end from₀ i₀ part from i = ?
+μ-loop part₀ n end from₀ i₀ part from i = end - from
 
--- src/main.rt:260:9
-least-requires : tie.Need-least-requires Inv-loop μ-loop
-least-requires c κs = ?
-
--- src/main.rt:261:20
 sub-from : tie.Need-sub-from Inv-loop μ-loop
-sub-from c = ?
+sub-from c = let start = c .before .before in mod-le (start .args .n) 20
 
--- src/main.rt:263:5
 loop-holds : tie.Need-loop-holds Inv-loop μ-loop
-loop-holds c = ?
+loop-holds c = ((omega (arith, c .least .ensures), refl), omega arith)
 
--- src/main.rt:264:19
 slice-read-part : tie.Need-slice-read-part Inv-loop μ-loop
-slice-read-part c = ?
+slice-read-part c = omega arith
 
--- src/main.rt:264:9
 slice-write-part : tie.Need-slice-write-part Inv-loop μ-loop
-slice-write-part c = ?
+slice-write-part c = omega arith
 
--- src/main.rt:265:9
-add-i : tie.Need-add-i Inv-loop μ-loop
-add-i c = ?
-
--- src/main.rt:266:9
-add-from : tie.Need-add-from Inv-loop μ-loop
-add-from c = ?
-
--- src/main.rt:263:5
-loop-less : tie.Need-loop-less Inv-loop μ-loop
-loop-less c = ?
-
--- src/main.rt:263:5
 loop-again : tie.Need-loop-again Inv-loop μ-loop
-loop-again c = ?
+loop-again c = let l = c .before .before .loop in ((simp length-set (l .inv .0 .0), simp length-set (l .inv .0 .1)), omega arith)
 
--- src/main.rt:259:1
 same-length : tie.Need-same-length Inv-loop μ-loop
-same-length c = ?
-
--- src/main.rt:259:1
-returns : tie.Need-returns Inv-loop μ-loop
-returns c = ?
+same-length c = let l = c .before .loop in l .inv .0 .1
 
 pub to-front-spec : {M : Type 1} → statement M
 to-front-spec =
@@ -60,14 +38,14 @@ to-front-spec =
     (tie.spec
     Inv-loop
     μ-loop
-    least-requires
+    (λ c κs. search needs)
     sub-from
     loop-holds
     slice-read-part
     slice-write-part
-    add-i
-    add-from
-    loop-less
+    (λ c. search needs)
+    (λ c. search needs)
+    (λ c. search needs)
     loop-again
     same-length
-    returns)
+    (λ c. search needs))
