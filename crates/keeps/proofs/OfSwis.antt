@@ -38,7 +38,7 @@ use Rattle.keeps.proofs.SwiTables.{swi-almost, swi-below, active-used, 
 use Rattle.keeps.proofs.Posts.{posted-keeps, triggered-keeps}
 
 -- the running Swi is there
-context-S : (ls st : List ℕ) → context ls st ≡ S → 0 < length (line ls activeLine)
+pub context-S : (ls st : List ℕ) → context ls st ≡ S → 0 < length (line ls activeLine)
 unfolding context
 context-S ls st e = go (ltb 0 (state st DEPTH)) (anyone ls activeLine) refl e
   where

@@ -116,7 +116,7 @@ module _ (t : Tables) (x : ℕ) where
   abbrev pub Ready : Queued → Type 0
   Ready q = Almost (withQueued t q) × (task (q .tasks) x .mode ≡ ready)
 
-  task-ticks : (q : Queued) (i : ℕ) → i < taskCount → Ready q → Ready (taskTick q i)
+  pub task-ticks : (q : Queued) (i : ℕ) → i < taskCount → Ready q → Ready (taskTick q i)
   unfolding taskTick
   task-ticks q i lt (a, r) =
       let k = task (q .tasks) i in

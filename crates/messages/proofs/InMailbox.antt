@@ -104,14 +104,17 @@ module _ (ms : List ℕ) (i : ℕ) where
   pub has-row : {n : ℕ} → n ≡ length (messages ms i) → 0 < n → i < 8
   has-row e h = by-range i 8 (λ p. p) (λ p. absurd (omega (arith, ap length (messages-out p))))
 
+  pub message-is : (k : ℕ) {n : ℕ} → n ≡ length (messages ms i) → k < n → mailbox ms i (2 + k) ≡ getD (messages ms i) k 0
+  message-is k e h =
+      let q : i < 8 = has-row e (omega arith) in
+      let p : i * 10 + (2 + k) ≡ at i + 1 + k = omega arith in
+      field-in 10 8 ms i (2 + k) q (omega (arith, ap length (messages-in q), listed-le 8 ms (at i)))
+      ∙ ap (λ (m : ℕ). getD ms m 0) p
+      ∙ at-listed 8 ms (at i) k (omega (arith, ap length (messages-in q)))
+      ∙ ap (λ (l : List ℕ). getD l k 0) (sym (messages-in q))
+
   pub oldest-is : {n : ℕ} → n ≡ length (messages ms i) → 0 < n → mailbox ms i 2 ≡ getD (messages ms i) 0 0
-  oldest-is e h =
-      let q : i < 8 = has-row e h in
-      let p : i * 10 + 2 ≡ at i + 1 + 0 = omega arith in
-      field-in 10 8 ms i 2 q (omega arith)
-      ∙ ap (λ (k : ℕ). getD ms k 0) p
-      ∙ at-listed 8 ms (at i) 0 (omega (arith, ap length (messages-in q)))
-      ∙ ap (λ (l : List ℕ). getD l 0 0) (sym (messages-in q))
+  oldest-is e h = message-is 0 e h
 
   -- ---- stored
   module _ (xs : List ℕ) where

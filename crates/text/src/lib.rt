@@ -42,7 +42,7 @@ pub fn put_decimal(out: &mut Text, at: usize, n: u64) -> usize
 }
 
 // A number and a space.
-fn put_column(out: &mut Text, at: usize, n: u64) -> usize
+pub fn put_column(out: &mut Text, at: usize, n: u64) -> usize
     ensures { λ r. ⌜ Put (now (out .entry)) at (decimal n ++ space) (now (out .exit)) r ⌝ }
 {
     let p = put_decimal(out, at, n);

@@ -1,237 +1,326 @@
-// For the desk's views: replays a log and prints for each record its call, its answer and what the
-// tables then say of threads, in one line of numbers; last the line that ends every replay. Parts
-// of a line stand between ` ; `: record, number, four arguments, code, outcome, value, thread; depth,
-// Swis on, tasks on, tick, current task; for each task in use its number, mode, priority, object and
-// ticks left; the posted Swis; the active Swis, the top one last.
-use libc::STDOUT_FILENO;
-use rules::Answer;
+// For the desk's views: replays a log and prints a line of numbers for each record (docs/TRACE.md), last the line that ends every replay.
+// The calls are made by the entry, on tables by value, so that those before a call are there beside those after it.
+use changes::Made;
+use rules::Clocks;
+use rules::Events;
+use rules::Heap;
 use rules::Lines;
+use rules::Mailboxes;
 use rules::Read;
+use rules::Semaphores;
 use rules::State;
+use rules::Swis;
 use rules::Tables;
 use rules::Tasks;
-use rules::Thread;
 use text::Text;
 
-// A number and a space.
-fn put(out: &mut Text, at: usize, n: u32) -> usize {
-    let end = text::put_decimal(out, at, n as u64);
-    text::put_byte(out, end, b' ')
+// A part of a log: the bytes that waited, and those that came.
+type Part = [u8; 2560];
+
+// No line has more than 12,692 bytes, whatever the tables are (docs/TRACE.md), so that one fits behind a text that is not longer than this.
+const FULL: usize = 3692;
+
+// ---- the line of a record
+
+// The line, by the tables before the call and the lent ones after it.
+fn put_from(
+    out: &mut Text,
+    at: usize,
+    made: Made,
+    t: Tables,
+    tasks: &Tasks,
+    lines: &Lines,
+    semaphores: &Semaphores,
+    events: &Events,
+    mailboxes: &Mailboxes,
+    swis: &Swis,
+    clocks: &Clocks,
+    heap: &Heap,
+    state: &State,
+) -> usize {
+    let tasks_before = t.tasks;
+    let lines_before = t.lines;
+    let semaphores_before = t.semaphores;
+    let events_before = t.events;
+    let mailboxes_before = t.mailboxes;
+    let swis_before = t.swis;
+    let clocks_before = t.clocks;
+    let heap_before = t.heap;
+    let state_before = t.state;
+    changes::put_trace(
+        out,
+        at,
+        made,
+        &tasks_before,
+        &lines_before,
+        &semaphores_before,
+        &events_before,
+        &mailboxes_before,
+        &swis_before,
+        &clocks_before,
+        &heap_before,
+        &state_before,
+        tasks,
+        lines,
+        semaphores,
+        events,
+        mailboxes,
+        swis,
+        clocks,
+        heap,
+        state,
+    )
 }
 
-// What stands between two parts of a line.
-fn put_bar(out: &mut Text, at: usize) -> usize {
-    let end = text::put_byte(out, at, b';');
-    text::put_byte(out, end, b' ')
+// The line, by the tables before the call and after it.
+fn put_between(out: &mut Text, at: usize, made: Made, t: Tables, u: Tables) -> usize {
+    let tasks = u.tasks;
+    let lines = u.lines;
+    let semaphores = u.semaphores;
+    let events = u.events;
+    let mailboxes = u.mailboxes;
+    let swis = u.swis;
+    let clocks = u.clocks;
+    let heap = u.heap;
+    let state = u.state;
+    put_from(
+        out,
+        at,
+        made,
+        t,
+        &tasks,
+        &lines,
+        &semaphores,
+        &events,
+        &mailboxes,
+        &swis,
+        &clocks,
+        &heap,
+        &state,
+    )
 }
 
-// Record n's call.
-fn put_call(out: &mut Text, n: u64, number: u8, bytes: &[u8]) -> usize {
-    let mut at = text::put_decimal(out, 0, n);
-    at = text::put_byte(out, at, b' ');
-    at = put(out, at, number as u32);
-    for k in 0..4 {
-        at = put(out, at, calllog::argument(bytes, k));
-    }
-    at
-}
-
-// Its answer.
-fn put_answer(out: &mut Text, start: usize, r: Answer, x: Thread) -> usize {
-    let mut at = put(out, start, r.code);
-    at = put(out, at, r.outcome);
-    at = put(out, at, r.value);
-    at = text::put_thread(out, at, x);
-    at = text::put_byte(out, at, b' ');
-    put_bar(out, at)
-}
-
-// Depth, switches, tick and the current task.
-fn put_state(out: &mut Text, start: usize, state: &State) -> usize {
-    let mut at = start;
-    for f in 0..5 {
-        at = put(out, at, state[f]);
-    }
-    put_bar(out, at)
-}
-
-// A task in use: its number, mode, priority, object and ticks left.
-fn put_task(out: &mut Text, start: usize, tasks: &Tasks, i: usize) -> usize {
-    let k = words::task(tasks, i);
-    if k.mode == 0 {
-        return start;
-    }
-    let mut at = text::put_decimal(out, start, i as u64);
-    at = text::put_byte(out, at, b' ');
-    at = put(out, at, k.mode);
-    at = put(out, at, k.priority);
-    at = put(out, at, k.object);
-    put(out, at, k.left)
-}
-
-// The tasks in use.
-fn put_tasks(out: &mut Text, start: usize, tasks: &Tasks) -> usize {
-    let mut at = start;
-    for i in 0..32 {
-        at = put_task(out, at, tasks, i);
-    }
-    put_bar(out, at)
-}
-
-// Those who stand in line j.
-fn put_line(out: &mut Text, start: usize, lines: &Lines, j: usize) -> usize {
-    let mut at = start;
-    let n = rows::lines::len(lines, j);
-    for k in 0..n {
-        at = put(out, at, rows::lines::member(lines, j, k) as u32);
-    }
-    at
-}
-
-// The posted Swis, the highest first, and the active ones.
-fn put_swis(out: &mut Text, start: usize, lines: &Lines) -> usize {
-    let mut at = start;
-    for p in 0..16 {
-        at = put_line(out, at, lines, 47 - p);
-    }
-    at = put_bar(out, at);
-    put_line(out, at, lines, 48)
-}
-
-// Writes the first n bytes.
-fn write_part(s: &[u8], n: usize) -> bool {
-    if n <= s.len() {
-        return io::write_all(STDOUT_FILENO, &s[..n]);
-    }
-    false
-}
-
-// The same of a text.
-fn write(out: &Text, n: usize) -> bool {
-    write_part(out, n)
-}
-
-// The whole line of record n, and the next tables.
-fn told(t: Tables, n: u64, number: u8, bytes: &[u8]) -> Tables {
-    let a = calllog::argument(bytes, 0);
-    let b = calllog::argument(bytes, 1);
-    let c = calllog::argument(bytes, 2);
-    let d = calllog::argument(bytes, 3);
-    let s = entries::call(t, number as u32, a, b, c, d);
-    let next = s.tables;
-    let answer = s.answer;
-    let thread = s.thread;
-    let mut out = [0u8; 16384];
-    let mut at = put_call(&mut out, n, number, bytes);
-    at = put_answer(&mut out, at, answer, thread);
-    at = put_state(&mut out, at, &next.state);
-    at = put_tasks(&mut out, at, &next.tasks);
-    at = put_swis(&mut out, at, &next.lines);
-    at = text::put_byte(&mut out, at, b'\n');
-    write(&out, at);
-    next
-}
-
-// The line that ends the replay, after n records and at an offset of the log.
-fn put_last(out: &mut Text, found: Read, offset: u64, n: u64) -> usize {
-    match found {
-        Read::Record {
-            number: _,
-            start: _,
-        } => 0,
-        Read::End => text::put_word(out, 0, b"end", n),
-        Read::Cut(_) => text::put_word(out, 0, b"cut", offset),
-        Read::Length(_) => text::put_word(out, 0, b"length", offset),
-        Read::Version(_) => text::put_word(out, 0, b"version", offset),
-    }
-}
-
-// What a replay carries from record to record.
+// What a replay carries from record to record: the tables, how many records there were, the offset of the next, how many bytes wait at the front
+// of the part, how long the text is that is not written yet, and whether it goes on.
 struct Carried {
     tables: Tables,
     count: u64,
     offset: u64,
+    held: usize,
+    len: usize,
     going: bool,
 }
 
-// Whether a read failed: a short count is the end of the log or a failure, and one more read tells.
-fn failed(fd: i32, n: usize, path: &[u8]) -> bool {
-    if n < 20 {
-        let mut probe = [0u8; 1];
-        if libc::read(fd, &mut probe) < 0 {
-            os::fail(path);
-            return true;
-        }
+// The call of a record, and its line.
+fn told(c: Carried, number: u8, bytes: &[u8], out: &mut Text) -> Carried {
+    let before = c.tables;
+    let a = calllog::argument(bytes, 0);
+    let b = calllog::argument(bytes, 1);
+    let c3 = calllog::argument(bytes, 2);
+    let d = calllog::argument(bytes, 3);
+    let step = entries::call(before, number as u32, a, b, c3, d);
+    let tables = step.tables;
+    let answer = step.answer;
+    let thread = step.thread;
+    let n = std::num::wrapping_add_u64(c.count, 1);
+    let made = Made {
+        n,
+        number: number as u32,
+        a,
+        b,
+        c: c3,
+        d,
+        answer,
+        thread,
+    };
+    let len = put_between(out, c.len, made, before, tables);
+    Carried {
+        tables,
+        count: n,
+        offset: std::num::wrapping_add_u64(c.offset, 20),
+        held: 0,
+        len,
+        going: true,
+    }
+}
+
+// ---- the records of a part
+
+// The line that ends the replay, after n records and at an offset of the log.
+fn put_last(out: &mut Text, at: usize, found: Read, offset: u64, n: u64) -> usize {
+    match found {
+        Read::Record {
+            number: _,
+            start: _,
+        } => at,
+        Read::End => text::put_word(out, at, b"end", n),
+        Read::Cut(_) => text::put_word(out, at, b"cut", offset),
+        Read::Length(_) => text::put_word(out, at, b"length", offset),
+        Read::Version(_) => text::put_word(out, at, b"version", offset),
+    }
+}
+
+// Writes the text, and says so. Who reads it may have gone, which is no fault.
+fn write_text(out: &[u8], len: usize) -> bool {
+    if io::write_all(libc::STDOUT_FILENO, text::front(out, len)) {
+        return true;
+    }
+    let error = os::errno();
+    if (error != libc::EPIPE) & (error != libc::EBADF) {
+        os::fail(b"standard output");
     }
     false
 }
 
-// The next twenty bytes: a record, or what ends the log.
-fn turn(fd: i32, c: Carried, path: &[u8]) -> Carried {
-    let mut bytes = [0u8; 20];
-    let n = io::read_full(fd, &mut bytes);
-    if failed(fd, n, path) {
-        let mut stopped = c;
-        stopped.going = false;
-        return stopped;
+// Writes the text that is not written yet; the replay has ended where it cannot be.
+fn written(c: Carried, out: &Text) -> Carried {
+    let mut next = c;
+    next.going = write_text(out, c.len) & c.going;
+    next.len = 0;
+    next
+}
+
+// Room for a line.
+fn roomy(c: Carried, out: &Text) -> Carried {
+    if FULL < c.len {
+        return written(c, out);
     }
-    let found = calllog::read_at(&bytes[..n], 0);
-    let count = c.count;
-    let offset = c.offset;
-    let tables = c.tables;
+    c
+}
+
+// What stands at a place of the part: a record is told, anything else ends the replay.
+fn read_one(log: &[u8], at: usize, carried: Carried, out: &mut Text) -> Carried {
+    let c = roomy(carried, out);
+    if !c.going {
+        return c;
+    }
+    let found = calllog::read_at(log, at);
     let Read::Record { number, start } = found else {
-        let mut out = [0u8; 16384];
-        let end = put_last(&mut out, found, offset, count);
-        write(&out, end);
-        return Carried {
-            tables,
-            count,
-            offset,
-            going: false,
-        };
+        let mut over = c;
+        over.len = put_last(out, c.len, found, c.offset, c.count);
+        over.going = false;
+        return over;
     };
-    let k = std::num::wrapping_add_u64(count, 1);
-    let next = told(tables, k, number, calllog::arguments(&bytes[..n], start));
-    Carried {
-        tables: next,
-        count: k,
-        offset: std::num::wrapping_add_u64(offset, 20),
-        going: true,
+    told(c, number, calllog::arguments(log, start), out)
+}
+
+// The whole records of a part.
+fn read_whole(log: &[u8], carried: Carried, out: &mut Text) -> Carried {
+    let mut c = carried;
+    let mut at = 0;
+    while 20 <= log.len() - at {
+        c = read_one(log, at, c, out);
+        at += 20;
+    }
+    c
+}
+
+// Those, and what ends the log where nothing follows.
+fn read_part(log: &[u8], last: bool, carried: Carried, out: &mut Text) -> Carried {
+    let c = read_whole(log, carried, out);
+    if last {
+        let at = log.len() - log.len() % 20;
+        return written(read_one(log, at, c, out), out);
+    }
+    written(c, out)
+}
+
+// ---- the parts of a log
+
+// What a read left in a part: how many bytes are there now, whether nothing follows, whether it failed.
+struct Came {
+    n: usize,
+    last: bool,
+    failed: bool,
+}
+
+// Reads behind the bytes that wait; `name` is told where the read fails. There is always room: fewer than 20 of them wait.
+fn read_behind(fd: i32, name: &[u8], part: &mut [u8], held: usize) -> Came {
+    if part.len() <= held {
+        return Came {
+            n: 0,
+            last: true,
+            failed: true,
+        };
+    }
+    let got = libc::read(fd, &mut part[held..]);
+    if got < 0 {
+        os::fail(name);
+    }
+    let more = io::count(got, &part[held..]);
+    Came {
+        n: held + more,
+        last: got == 0,
+        failed: got < 0,
     }
 }
 
-// A proved loop has to end, and nothing says that a file does: the records are counted down from a
-// number that no log has.
-fn trace_all(fd: i32, path: &[u8]) {
+// The bytes of the first n behind the whole records, to the front; how many they are.
+fn to_front(part: &mut [u8], n: usize) -> usize {
+    let end = rows::lines::least(n, part.len());
+    let mut from = n - n % 20;
+    let mut i = 0;
+    while from < end {
+        part[i] = part[from];
+        i += 1;
+        from += 1;
+    }
+    i
+}
+
+// One turn: what came is told, and what is left of a record that is not whole yet is kept.
+fn turn(part: &mut [u8], came: Came, carried: Carried, out: &mut Text) -> Carried {
+    let mut c = carried;
+    if came.failed {
+        c.going = false;
+        return c;
+    }
+    c = read_part(text::front(part, came.n), came.last, carried, out);
+    c.held = to_front(part, came.n);
+    c
+}
+
+// The same two on the whole part, which becomes a slice where it is passed on.
+fn read_then_turn(fd: i32, name: &[u8], part: &mut Part, c: Carried, out: &mut Text) -> Carried {
+    let came = read_behind(fd, name, part, c.held);
+    turn(part, came, c, out)
+}
+
+// All turns. A loop has to end, and nothing says that a log does: the turns are counted down from a number that no run comes to.
+fn trace_all(fd: i32, name: &[u8]) {
+    let mut part = [0u8; 2560];
+    let mut out = [0u8; 16384];
     let mut c = Carried {
         tables: entries::fresh(),
         count: 0,
         offset: 0,
+        held: 0,
+        len: 0,
         going: true,
     };
-    let mut left = u64::MAX;
-    while left > 0 && c.going {
-        c = turn(fd, c, path);
-        left -= 1;
+    let mut turns = u64::MAX;
+    while 0 < turns && c.going {
+        c = read_then_turn(fd, name, &mut part, c, &mut out);
+        turns -= 1;
     }
 }
 
 fn main() {
     if os::arg_count() < 2 {
-        trace_all(0, b"standard input");
+        trace_all(libc::STDIN_FILENO, b"standard input");
         return;
     }
-    let mut path = io::buffer();
-    let length = os::arg(1, &mut path);
+    let mut name = io::buffer();
+    let length = os::arg(1, &mut name);
     if os::errno() != 0 {
         os::fail(b"argument");
         return;
     }
-    let fd = os::open_read(&path[..length]);
+    let fd = os::open_read(&name[..length]);
     if fd < 0 {
-        os::fail(&path[..length]);
+        os::fail(&name[..length]);
         return;
     }
-    trace_all(fd, &path[..length]);
+    trace_all(fd, &name[..length]);
     libc::close(fd);
 }

@@ -1,0 +1,24 @@
+-- `put_call_post` meets its contract: a call that posts is told with its Swi.
+use borrow.Author.Needs.{needs}
+use Rattle.changes.specs.Changes.{callPost}
+use Rattle.changes.proofs.Steps.{told-yes, told-no}
+use Rattle.changes.proofs.threads.put_call_post.Statement.{statement}
+use Rattle.changes.proofs.threads.put_call_post.Tie as tie
+
+returns : tie.Need-returns
+unfolding callPost
+returns c = told-yes (c .before .before .before .before .call-posts .ensures) _ (c .before .before .before .if1 .taken) (rw (c .before .is-posted .ensures) at (c .put-post .ensures))
+
+returns-2 : tie.Need-returns-2
+unfolding callPost
+returns-2 c = told-no (c .before .call-posts .ensures) _ (c .if1 .left)
+
+pub put-call-post-spec : {M : Type 1} → statement M
+put-call-post-spec =
+    tie.close
+    (tie.spec
+    (λ c κs. search needs)
+    (λ c κs. search needs)
+    (λ c κs. search needs)
+    returns
+    returns-2)

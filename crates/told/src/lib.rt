@@ -1,0 +1,1 @@
+// That what the trace tells of a call is what the rules did: no code.
