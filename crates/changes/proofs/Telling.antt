@@ -20,7 +20,7 @@ columns-append (x ∷ xs) ys = rw (columns-append xs ys) (sym (append-assoc (dec
 
 pub tells-none : (xs : List ℕ) (at : ℕ) → Put xs at (columns []) xs at
 unfolding columns
-tells-none xs at = put-none xs at
+tells-none xs at = put-none _ xs at
 
 module _ {xs ys : List ℕ} {at r : ℕ} where
   pub tells-one : (n : ℕ) → Put xs at (decimal n ++ space) ys r → Put xs at (columns (n ∷ [])) ys r
@@ -67,7 +67,7 @@ module _ {xs ys zs : List ℕ} {at r q : ℕ} where
 
   pub part-last : (p : List ℕ) → Put xs at bar ys r → Put ys r (columns p) zs q → Put xs at (barred (p ∷ [])) zs q
   unfolding barred
-  part-last p b t = part-first p [] b t (put-none zs q)
+  part-last p b t = part-first p [] b t (put-none _ zs q)
 
   pub parts-more : (ps qs : List (List ℕ)) → Put xs at (barred ps) ys r → Put ys r (barred qs) zs q → Put xs at (barred (ps ++ qs)) zs q
   parts-more ps qs p s = rw (barred-append ps qs) (put-more p s)
