@@ -15,6 +15,7 @@ use rules::Tasks;
 use text::Text;
 ghost use mathlib.Core.Path.{_≡_};
 ghost use Prim.Native.Nat.{_+_, min};
+ghost use lib.Dec.{eqb};
 ghost use lib.ListN.{length, take, drop};
 ghost use lib.Seq.{sets};
 ghost use Rattle.lent.specs.Lent.{lent, before, leaves};
@@ -132,8 +133,8 @@ fn sized(out: Text)
     ensures { λ _. ⌜ length out ≡ 16384 ⌝ }
 {}
 
-// One turn of a replay that has come to p: more bytes stand in the part behind those that waited. All of them are replayed, and those that
-// wait then are moved to its front.
+// One turn of a replay that has come to p: more bytes stand in the part behind those that waited; where there are none, nothing follows. All of
+// them are replayed, and those that wait then are moved to its front.
 pub fn replay_part(
     tasks: &mut Tasks,
     lines: &mut Lines,
@@ -146,12 +147,11 @@ pub fn replay_part(
     state: &mut State,
     part: &mut Part,
     more: usize,
-    last: bool,
     p: Progress,
     out: &mut Text,
 ) -> Progress
     requires { ⌜ Safe (lent tasks lines semaphores events mailboxes swis clocks heap state) ⌝ }
-    ensures { λ r. ⌜ Turns (turn last (came part p more) (had (before tasks lines semaphores events mailboxes swis clocks heap state) part out p)) (leaves tasks lines semaphores events mailboxes swis clocks heap state) part out r ⌝ }
+    ensures { λ r. ⌜ Turns (turn (eqb more 0) (came part p more) (had (before tasks lines semaphores events mailboxes swis clocks heap state) part out p)) (leaves tasks lines semaphores events mailboxes swis clocks heap state) part out r ⌝ }
     ensures { λ _. ⌜ Safe (leaves tasks lines semaphores events mailboxes swis clocks heap state) ⌝ }
 {
     sized(*out);
@@ -168,11 +168,10 @@ pub fn replay_part(
         heap,
         state,
         log,
-        last,
+        more == 0,
         p.offset,
         p.count,
         out,
     );
-    let held = to_front(part, ran.at, n);
-    come_to(p.offset, ran, held)
+    come_to(p.offset, ran, to_front(part, ran.at, n))
 }

@@ -1,3 +1,4 @@
 pub mod Steps
 pub mod Whole
 pub mod Bounds
+pub mod ByReads

@@ -2,15 +2,17 @@
 use Prim.Native.Nat.{ℕ, _-_, _≤_, _<_}
 use mathlib.Core.Path.{_≡_, refl, sym, ap, _∙_}
 use mathlib.Core.Logic.{_⊎_, inl, inr, ⊎-elim}
-use mathlib.Core.Bool.{Bool, true, false, not, _&&_, cond as if, true≢false, false≢true}
+use mathlib.Core.Bool.{Bool, true, false, not, _&&_, true≢false, false≢true}
 use mathlib.Core.List.{List, [], _∷_, _++_}
 use native.Mathlib.Omega.{arith}
 use lib.Dec.{ltb, eqb}
 use lib.ListN.{length, take, drop, length-take, length-drop}
 use lib.Seq.{length-take-le}
 use borrow.Author.Tests.{ltb-true, not-true}
+use Rattle.rules.specs.Sound.{Sound}
 use Rattle.rules.specs.declared.Tables.{Tables}
 use Rattle.parts.specs.Part.{Left, turn, begins, start, leftBy}
+use Rattle.parts.proofs.ByReads.{left-more}
 use Rattle.desk.specs.declared.Progress.{Progress}
 use Rattle.desk.specs.Done.{leftOf, progressOf, behind, Turned}
 use Rattle.replaying.specs.declared.Came.{Came}
@@ -36,32 +38,10 @@ handed-none r t ps xs c p h e = rw (h, e)
 
 -- it did not: the text is written, or the replay is stopped
 pub handed-on : (r : Came) (l : Left) (c : List ℕ) {t : Tables} {ps qs xs ys : List ℕ} {p q : Progress} → r .failed ≡ false
-    → Turned (turn (r .last) c l) t ps qs xs ys p → (q ≡ p) ⊎ (q ≡ stopped p)
+    → Turned (turn (eqb (r .more) 0) c l) t ps qs xs ys p → (q ≡ p) ⊎ (q ≡ stopped p)
     → Handed r c l (leftOf t qs ys q)
 handed-on r l c h g e =
     rw h (⊎-elim (λ (f : _ ≡ _). inl (rw f (g .left))) (λ (f : _ ≡ _). inr (rw f (ap stop (g .left)))) e)
-
--- ---- what reads leave
-if-same : (b : Bool) (l : Left) → if b l l ≡ l
-if-same true l = refl
-if-same false l = refl
-
--- what has not ended goes on
-if-open : (b : Bool) (m l : Left) → m .ended ≡ b → if b m l .ended ≡ false → if b m l ≡ l × ((x : Left) → if b m x ≡ x)
-if-open true m l e h = absurd (true≢false (sym e ∙ h))
-if-open false m l e h = (refl, λ x. refl)
-
--- one read more
-left-more : (cs : List (List ℕ)) (c : List ℕ) (l : Left) → leftBy cs l .ended ≡ false
-    → leftBy (cs ++ (c ∷ [])) l ≡ turn (eqb (length c) 0) c (leftBy cs l)
-unfolding leftBy
-left-more [] c l h = if-same (turn (eqb (length c) 0) c l .ended) (turn (eqb (length c) 0) c l)
-left-more (d ∷ cs) c l h =
-    let m : Left = turn (eqb (length d) 0) d l in
-    let (on, same) = if-open (m .ended) m (leftBy cs m) refl h in
-    same (leftBy (cs ++ (c ∷ [])) m)
-    ∙ left-more cs c m (sym (ap (λ (x : Left). x .ended) on) ∙ h)
-    ∙ ap (turn (eqb (length c) 0) c) (sym on)
 
 -- ---- the replay of tables t₀
 module _ (t₀ : Tables) where
@@ -84,8 +64,8 @@ module _ (t₀ : Tables) where
         (v .left)
 
     -- the tables are those
-    pub sofar-tables : Replayed t₀ t
-    sofar-tables =
+    pub sofar-tables : Sound t → Replayed t₀ t
+    sofar-tables sound =
         record {
           came = v .came;
           tables =
@@ -93,6 +73,7 @@ module _ (t₀ : Tables) where
               (λ (e : leftOf t ps xs p ≡ leftBy (v .came) (begins t₀)). ap (λ (l : Left). l .tables) e)
               (λ (e : leftOf t ps xs p ≡ stop (leftBy (v .came) (begins t₀))). ap (λ (l : Left). l .tables) e)
               (v .left);
+          sound = sound;
         }
 
     -- one turn more, by what a read brought
@@ -107,30 +88,23 @@ module _ (t₀ : Tables) where
       not-over : leftBy (v .came) (begins t₀) .ended ≡ false
       not-over = sym (ap (λ (l : Left). l .ended) (going on)) ∙ on
 
-      -- nothing follows where nothing came
-      last-is : r .failed ≡ false → r .last ≡ eqb (length bytes) 0
-      last-is h =
+      next-is : turn (eqb (r .more) 0) bytes (leftOf t qs xs p) ≡ leftBy (v .came ++ (bytes ∷ [])) (begins t₀)
+      next-is =
           let all : length bytes ≡ r .more = length-take-le (r .more) (drop (p .held) qs) (omega (arith, b .room, length-drop (p .held) qs)) in
-          b .last ∙ rw (h, all)
-
-      next-is : r .failed ≡ false → turn (r .last) bytes (leftOf t qs xs p) ≡ leftBy (v .came ++ (bytes ∷ [])) (begins t₀)
-      next-is h =
-          ap (λ (z : Bool). turn z bytes (leftOf t qs xs p)) (last-is h)
-          ∙ ap (turn (eqb (length bytes) 0) bytes) before-is
-          ∙ sym (left-more (v .came) bytes (begins t₀) not-over)
+          ap (turn (eqb (r .more) 0) bytes) before-is ∙ sym (rw all at (left-more (v .came) bytes (begins t₀) not-over))
 
       pub sofar-next : {u : Tables} {qs′ ys : List ℕ} {q : Progress} → Handed r bytes (leftOf t qs xs p) (leftOf u qs′ ys q) → Sofar u qs′ ys q
-      sofar-next {u} {qs′} {ys} {q} = by-read (r .failed) refl
+      sofar-next {u} {qs′} {ys} {q} = by-read (r .failed)
         where
-          by-read : (f : Bool) → r .failed ≡ f → HandedIf f (leftOf t qs xs p) (turn (r .last) bytes (leftOf t qs xs p)) (leftOf u qs′ ys q) → Sofar u qs′ ys q
-          by-read true e h = record { came = v .came; left = inr (h ∙ ap stop before-is) }
-          by-read false e h =
+          by-read : (f : Bool) → HandedIf f (leftOf t qs xs p) (turn (eqb (r .more) 0) bytes (leftOf t qs xs p)) (leftOf u qs′ ys q) → Sofar u qs′ ys q
+          by-read true h = record { came = v .came; left = inr (h ∙ ap stop before-is) }
+          by-read false h =
               record {
                 came = v .came ++ (bytes ∷ []);
                 left =
                     ⊎-elim
-                    (λ (k : leftOf u qs′ ys q ≡ turn (r .last) bytes (leftOf t qs xs p)). inl (k ∙ next-is e))
-                    (λ (k : leftOf u qs′ ys q ≡ stop (turn (r .last) bytes (leftOf t qs xs p))). inr (k ∙ ap stop (next-is e)))
+                    (λ (k : leftOf u qs′ ys q ≡ turn (eqb (r .more) 0) bytes (leftOf t qs xs p)). inl (k ∙ next-is))
+                    (λ (k : leftOf u qs′ ys q ≡ stop (turn (eqb (r .more) 0) bytes (leftOf t qs xs p))). inr (k ∙ ap stop next-is))
                     h;
               }
 

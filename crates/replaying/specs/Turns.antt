@@ -2,21 +2,20 @@
 use Prim.Native.Nat.{ℕ, _-_, _≤_}
 use mathlib.Core.Path.{_≡_}
 use mathlib.Core.Logic.{_⊎_}
-use mathlib.Core.Bool.{Bool, true, false, not, _&&_}
+use mathlib.Core.Bool.{Bool, true, false}
 use mathlib.Core.List.{List}
 use lib.Dec.{eqb}
 use lib.ListN.{length, take}
+use Rattle.rules.specs.Sound.{Sound}
 use Rattle.rules.specs.declared.Tables.{Tables}
 use Rattle.parts.specs.Part.{Left, turn, begins, leftBy}
 use Rattle.desk.specs.declared.Progress.{Progress}
 use Rattle.replaying.specs.declared.Came.{Came}
 
--- a read behind the first bytes of part ps, which is now qs: those stay, what came has room, and nothing follows where a read that did not fail
--- brought nothing
+-- a read behind the first bytes of part ps, which is now qs: those stay, and what came has room behind them
 pub record Behind (held : ℕ) (ps qs : List ℕ) (r : Came) : Type 0 where
   pub waits : take held qs ≡ take held ps
   pub room : r .more ≤ length qs - held
-  pub last : r .last ≡ (not (r .failed) && eqb (r .more) 0)
 
 -- a replay that is stopped has ended, and all else is as it was
 abbrev pub stopped : Progress → Progress
@@ -32,9 +31,10 @@ HandedIf true l next m = m ≡ stop l
 HandedIf false l next m = (m ≡ next) ⊎ (m ≡ stop next)
 
 abbrev pub Handed : Came → List ℕ → Left → Left → Type 0
-Handed r c l m = HandedIf (r .failed) l (turn (r .last) c l) m
+Handed r c l m = HandedIf (r .failed) l (turn (eqb (r .more) 0) c l) m
 
--- tables u are what a replay that begins with tables t comes to by reads that brought some bytes, one after the other
+-- tables u are sound, and those that a replay that begins with tables t comes to by reads that brought some bytes, one after the other
 pub record Replayed (t u : Tables) : Type 0 where
   pub came : List (List ℕ)
   pub tables : u ≡ leftBy came (begins t) .tables
+  pub sound : Sound u

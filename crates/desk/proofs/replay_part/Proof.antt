@@ -1,4 +1,5 @@
 -- `desk::replay_part` meets its contract: the records of all bytes leave what the turn's definition says, their text fits, and the rest is in front.
+use lib.Dec.{eqb}
 use borrow.Author.Needs.{needs}
 use Rattle.lent.specs.Lent.{lent}
 use Rattle.desk.proofs.Going.{turned}
@@ -25,7 +26,7 @@ returns c =
     let end = at-end read in
     let a = at-start end .args in (
       turned
-          (a .last)
+          (eqb (a .more) 0)
           (a .p)
           (a .more)
           (lent (a .tasks) (a .lines) (a .semaphores) (a .events) (a .mailboxes) (a .swis) (a .clocks) (a .heap) (a .state))

@@ -78,12 +78,11 @@ loop-again c =
 returns : tie.Need-returns Inv-loop μ-loop
 returns c =
     let l : tie.At-loop Inv-loop μ-loop = c .before .before in
-    let a = at-start l .args in (
-      sofar-tables
-          (lent (a .tasks) (a .lines) (a .semaphores) (a .events) (a .mailboxes) (a .swis) (a .clocks) (a .heap) (a .state))
-          (l .loop .inv .0),
-      l .loop .inv .1,
-    )
+    let a = at-start l .args in
+    sofar-tables
+    (lent (a .tasks) (a .lines) (a .semaphores) (a .events) (a .mailboxes) (a .swis) (a .clocks) (a .heap) (a .state))
+    (l .loop .inv .0)
+    (l .loop .inv .1 .sound)
 
 pub all-turns-spec : {M : Type 1} → statement M
 all-turns-spec =

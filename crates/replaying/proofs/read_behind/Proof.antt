@@ -1,6 +1,5 @@
 -- `replaying::read_behind` meets its contract: only the part from the place on is lent to the read, and what it counts is inside.
 use Prim.Native.Nat.{ℕ, _-_}
-use mathlib.Core.Path.{refl}
 use mathlib.Core.List.{List}
 use native.Mathlib.Omega.{arith}
 use lib.ListN.{length}
@@ -29,7 +28,6 @@ returns-2 c =
     record {
       waits = take-put (a .held) (size (at-read c)) (a .part .now) (at-read c .read .last .1 .0) (omega arith);
       room = has-room (a .held) (part (at-read c)) (c .count .ensures .0 .0);
-      last = refl;
     }
 
 pub read-behind-spec : {M : Type 1} → statement M

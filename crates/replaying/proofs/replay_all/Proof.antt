@@ -9,8 +9,7 @@ at-fresh c =
     c .before .before .before .before .before .before .before .before .before .before .before .before .before .before .before .before .before .before .before
 
 returns : tie.Need-returns
-returns c =
-    let left = c .all-turns .ensures in (replayed-from (at-fresh c .fresh .ensures .0) (left .0), left .1 .sound)
+returns c = replayed-from (at-fresh c .fresh .ensures .0) (c .all-turns .ensures)
 
 pub replay-all-spec : {M : Type 1} → statement M
 replay-all-spec = tie.close (tie.spec (λ c κs. search needs) (λ c κs. search needs) returns)

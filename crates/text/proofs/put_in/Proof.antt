@@ -1,6 +1,6 @@
 -- `text::put_in` meets its contract: i bytes of the text are put, and they end at p; it stops where none is left or the buffer is full.
 use Prim.Native.Nat.{_-_, _≤_, _<_}
-use mathlib.Core.Path.{_≡_, refl, ap, _∙_}
+use mathlib.Core.Path.{_≡_, refl, _∙_}
 use mathlib.Core.Logic.{⊎-elim}
 use native.Mathlib.Omega.{arith}
 use lib.ListN.{length, take, length-set}

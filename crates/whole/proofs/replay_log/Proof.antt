@@ -1,26 +1,25 @@
--- `whole::all_parts` meets its contract: the texts so far, and what is written for the rest of the log, are the text of the whole log; each turn takes
+-- `whole::replay_log` meets its contract: the texts so far, and what is written for the rest of the log, are the text of the whole log; each turn takes
 -- from the rest, and the one for which nothing came ends the replay.
 use Prim.Native.Nat.{_+_, _-_, _^_, _<_}
 use mathlib.Core.Path.{_≡_, refl}
 use mathlib.Core.Bool.{false, not}
 use native.Mathlib.Omega.{arith}
 use lib.ListN.{length}
-use borrow.Author.Needs.{needs}
 use borrow.Author.Tests.{not-true, not-false}
 use Rattle.fold.specs.Lists.{bit}
 use Rattle.rules.specs.Tables.{tables}
 use Rattle.kernel.specs.Safe.{Safe}
 use Rattle.whole.proofs.Parts.{Sofar, sofar-none, sofar-next, sofar-less, sofar-size, sofar-all, further}
-use Rattle.whole.proofs.all_parts.Statement.{statement}
-use Rattle.whole.proofs.all_parts.Tie as tie
+use Rattle.whole.proofs.replay_log.Statement.{statement}
+use Rattle.whole.proofs.replay_log.Tie as tie
 
 abbrev Inv-loop : tie.InvT-loop
-Inv-loop tasks₀ lines₀ semaphores₀ events₀ mailboxes₀ swis₀ clocks₀ heap₀ state₀ log out₀ part₀ text₀ p₀ from₀ at₀ tasks lines semaphores events mailboxes swis clocks heap state out part text p from at =
+Inv-loop log out₀ tasks₀ lines₀ semaphores₀ events₀ mailboxes₀ swis₀ clocks₀ heap₀ state₀ part₀ text₀ p₀ from₀ at₀ out tasks lines semaphores events mailboxes swis clocks heap state part text p from at =
     Sofar log out₀ (tables tasks lines semaphores events mailboxes swis clocks heap state) part text p from at out
     × Safe (tables tasks lines semaphores events mailboxes swis clocks heap state)
 
 abbrev μ-loop : tie.MeasureT-loop
-μ-loop tasks₀ lines₀ semaphores₀ events₀ mailboxes₀ swis₀ clocks₀ heap₀ state₀ log out₀ part₀ text₀ p₀ from₀ at₀ tasks lines semaphores events mailboxes swis clocks heap state out part text p from at =
+μ-loop log out₀ tasks₀ lines₀ semaphores₀ events₀ mailboxes₀ swis₀ clocks₀ heap₀ state₀ part₀ text₀ p₀ from₀ at₀ out tasks lines semaphores events mailboxes swis clocks heap state part text p from at =
     length log - from + bit (not (p .ended))
 
 -- ---- the places of a turn
@@ -40,7 +39,7 @@ abbrev at-loop : Done → tie.At-loop Inv-loop μ-loop
 at-loop c = at-part c .before .before .before .before
 
 abbrev at-start : tie.At-loop Inv-loop μ-loop → tie.Start Inv-loop μ-loop
-at-start c = c .before .before .before .before
+at-start c = c .before .before .before .before .before .before .before .before .before .before .before .before .before .before
 
 -- a log in memory is short enough
 short : (s : tie.Start Inv-loop μ-loop) → length (s .args .log .now) < 2 ^ 64
@@ -52,8 +51,9 @@ not-ended c = not-true _ (at-part c .before .before .if1 .taken)
 -- ---- the needs
 loop-holds : tie.Need-loop-holds Inv-loop μ-loop
 loop-holds c =
-    let s = c .before .before .before in
-    (sofar-none (s .args .log .now) (s .args .out .now) _ _ (s .pre .0) refl (c .begun .ensures) (short s), s .pre .1)
+    let f : tie.After-fresh Inv-loop μ-loop = c .before .before .before .before .before .before .before .before .before .before in
+    let s : tie.Start Inv-loop μ-loop = f .before .before .before in
+    (sofar-none (s .args .log .now) (s .args .out .now) _ _ (f .fresh .ensures .0) refl (c .begun .ensures) (short s), f .fresh .ensures .1)
 
 replay-part-requires : tie.Need-replay-part-requires Inv-loop μ-loop
 replay-part-requires c κs =
@@ -106,12 +106,13 @@ returns c =
     let l : tie.At-loop Inv-loop μ-loop = c .before .before in
     sofar-all (at-start l .args .log .now) (at-start l .args .out .now) (l .loop .inv .0) (not-false _ (c .if1 .left))
 
-pub all-parts-spec : {M : Type 1} → statement M
-all-parts-spec =
+pub replay-log-spec : {M : Type 1} → statement M
+replay-log-spec =
     tie.close
     (tie.spec
     Inv-loop
     μ-loop
+    (λ c κs. tt)
     (λ c κs. tt)
     loop-holds
     (λ c κs. tt)
