@@ -30,16 +30,16 @@ tell_progress() { # WHAT PARTS SINCE
 }
 end_progress() { ! terminal || printf '\r\033[K' >&2; }
 
-# Tells it each second on a terminal, else each minute, until it is ended or `tebalung` is gone.
+# Tells it again, each second on a terminal, else each minute, until it is ended or `tebalung` is gone.
 keep_telling() { # WHAT PARTS SINCE
     nap='' turn=0
     trap 'kill ${nap:+"$nap"} 2>/dev/null; exit 0' TERM
     while kill -0 $$ 2>/dev/null; do
-        if terminal || [ $((turn % 60)) -eq 0 ]; then tell_progress "$@"; fi
         sleep 1 &
         nap=$!
         wait "$nap"
         turn=$((turn + 1))
+        if terminal || [ $((turn % 60)) -eq 0 ]; then tell_progress "$@"; fi
     done
 }
 
@@ -97,6 +97,7 @@ prove() { # WHAT PROGRAM..
     trap 'stop_building 130' INT
     trap 'stop_building 143' TERM
     trap 'stop_building 129' HUP
+    tell_progress "$what" "$parts" "$since"
     (cd -- "${here:-/}" && exec setsid "$rt" check "$@") >"$here/target/front.out" 2>&1 </dev/null &
     builder=$!
     keep_telling "$what" "$parts" "$since" 9>&- &

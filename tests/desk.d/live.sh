@@ -16,8 +16,7 @@ check 'replay tells each record as it comes' at_once 2 "$desk/replay"
 check 'replay: and then the rest' [ "$(cat "$room/live")" = "$told" ]
 for awk in mawk gawk original-awk; do
     command -v $awk >/dev/null || { missing $awk; continue; }
-    mkdir -p "$room/awk"
-    ln -sf "$(command -v $awk)" "$room/awk/awk"
+    use_awk $awk
     check "explain tells each record as it comes, by $awk" at_once 2 env PATH="$room/awk:$PATH" "$desk/explain"
     check "explain, by $awk: and then the rest" [ "$(tail -n 1 "$room/live")" = 'end of the log: 5 records' ]
 done

@@ -49,6 +49,11 @@ row '-o a link' 0 '' '' "$t" replay -o link "$sample"
 check '-o a link: still a link' [ -L link ]
 check '-o a link: its file is written' holds f "$told"
 rm f link log
+echo old >victim
+# shellcheck disable=SC2016
+row '-o where a link waits for the part' 2 '' 'tebalung: f: cannot be written' sh -c 'ln -s victim f.part$$ && exec "$0" replay -o f "$1"' "$t" "$sample"
+check '-o where a link waits for the part: its file is as it was' holds victim old
+rm victim f.part*
 for name in 'two words' '-f' 'back\slash' "new${nl}line"; do
     row "-o '$name'" 0 '' '' "$t" replay -o "$name" "$sample"
     check "-o '$name': written" holds "./$name" "$told"

@@ -32,9 +32,7 @@ done
 
 for awk in mawk gawk 'gawk --posix' original-awk 'busybox awk'; do
     command -v "${awk%% *}" >/dev/null || { missing "$awk"; continue; }
-    mkdir -p "$room/awk"
-    printf '#!/bin/sh\nexec %s "$@"\n' "$awk" >"$room/awk/awk"
-    chmod +x "$room/awk/awk"
+    use_awk "$awk"
     with() { PATH="$room/awk:$PATH" "$@"; }
     row "$awk: explain" 0 '*create a task, priority 5*end of the log: 5 records' '' with "$desk/explain" "$sample"
     row "$awk: explain, by a pipe" 0 '*create a task, priority 5*end of the log: 5 records' '' piped with "$desk/explain"
