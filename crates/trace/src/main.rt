@@ -1,4 +1,5 @@
-// For the desk's views: replays a log and prints a line of numbers for each record (docs/TRACE.md), last the line that ends every replay.
+// For the desk's views: replays each log that an argument names, or standard input where there is none, and prints a line of numbers for each
+// record (docs/TRACE.md), last the line that ends every replay.
 // The calls are made by the entry, on tables by value, so that those before a call are there beside those after it.
 use changes::Made;
 use rules::Clocks;
@@ -305,13 +306,10 @@ fn trace_all(fd: i32, name: &[u8]) {
     }
 }
 
-fn main() {
-    if os::arg_count() < 2 {
-        trace_all(libc::STDIN_FILENO, b"standard input");
-        return;
-    }
+// The log that argument k names.
+fn trace_named(k: usize) {
     let mut name = io::buffer();
-    let length = os::arg(1, &mut name);
+    let length = os::arg(k, &mut name);
     if os::errno() != 0 {
         os::fail(b"argument");
         return;
@@ -323,4 +321,16 @@ fn main() {
     }
     trace_all(fd, &name[..length]);
     libc::close(fd);
+}
+
+fn main() {
+    let words = os::arg_count();
+    if words < 2 {
+        trace_all(libc::STDIN_FILENO, b"standard input");
+    }
+    let mut k = 1;
+    while k < words {
+        trace_named(k);
+        k += 1;
+    }
 }
