@@ -31,12 +31,11 @@ function openAddress() {
 
 // ---- stepping: to another row of the list, or along a sorted list of records
 function step(by) {
-  const last = listRows() - 1;
-  if (last < 0) return;
-  if (view.picked < 0) { pick(recordOfRow(by > 0 ? within(rowOfRecord(Math.ceil(view.from)), 0, last) : last)); return; }
   const at = rowOfRecord(view.picked), between = recordOfRow(at) !== view.picked;      // the picked record may not be in the list
-  pick(recordOfRow(within(at + by - (by > 0 && between ? 1 : 0), 0, last)));
+  if (view.picked < 0) pickRow(by > 0 ? rowOfRecord(Math.ceil(view.from)) : listRows() - 1);
+  else pickRow(at + by - (by > 0 && between ? 1 : 0));
 }
+function pickRow(i) { if (listRows()) pick(recordOfRow(within(i, 0, listRows() - 1))); }
 function stepIn(list, by, name) {
   if (!list.length) { say("no record " + (view.chosen ? "in the list " : "") + "is " + name, true); return; }
   const at = by > 0 ? below(list, view.picked + 1) : below(list, Math.max(view.picked, 0)) - 1;

@@ -121,7 +121,7 @@ function wheelOverview(event) {
 const pageOfRows = () => Math.max(1, Math.floor(rowsSeen()) - 1);
 const KEY = {
   ArrowRight: () => step(1), ArrowDown: () => step(1), ArrowLeft: () => step(-1), ArrowUp: () => step(-1),
-  Home: () => step(-n), End: () => step(n), PageDown: () => step(pageOfRows()), PageUp: () => step(-pageOfRows()),
+  Home: () => pickRow(0), End: () => pickRow(n), PageDown: () => step(pageOfRows()), PageUp: () => step(-pageOfRows()),
   "+": () => zoomPicked(1 / 1.6), "=": () => zoomPicked(1 / 1.6), "-": () => zoomPicked(1.6), 0: () => show(0, END),
   n: () => trouble(1), N: () => trouble(-1),
   "/": () => { $("what").focus(); $("what").select(); }, "?": () => $("help").showModal(), Escape: forget,
