@@ -18,7 +18,7 @@ function next() {
   }
 }
 
-// ---- lanes by number: tasks from 0, Swis from 32, the interrupt 48, semaphores from 49, events from 65, mailboxes from 73, clocks from 81, then the heap
+// ---- lanes by number: tasks from 0, then each kind from its first number on
 const SWI = 32, INTERRUPT = 48, SEMAPHORE = 49, EVENT = 65, MAILBOX = 73, CLOCK = 81, HEAP = 97, SWITCHES = 98, LANES = 99;
 // What a lane shows of a record: its class. The last four are the kinds of threads, for the overview.
 const NONE = 0, RUN = 1, READY = 2, POSTED = 3, WAIT = 4, SLEEP = 5, ENDED = 6, INACTIVE = 7, OFF = 8, TICKING = 9;
@@ -57,7 +57,10 @@ class Growing {
 
 // ---- a lane of bars: stretches, each from `at` to the next one's; a code is the class, and above four bits what its label tells
 function barLane(lane) {
-  return { lane, bars: true, at: new Growing(Uint32Array), code: new Growing(Uint16Array), changed: new Growing(Uint32Array), marks: new Growing(Uint32Array), last: FRESH };
+  return {
+    lane, bars: true, at: new Growing(Uint32Array), code: new Growing(Uint16Array),
+    changed: new Growing(Uint32Array), marks: new Growing(Uint32Array), last: FRESH,
+  };
 }
 const FRESH = -1, ANEW = -2;             // as the last code: no stretch yet; the next one is new even if it is like the last
 function putBar(lane, k, code) {
@@ -67,7 +70,10 @@ function putBar(lane, k, code) {
 }
 // ---- a lane of steps: a value from `at` to the next one's, and how many wait (128 and more: in use); before the first change it is not in use
 function stepLane(lane, most) {
-  return { lane, bars: false, at: new Growing(Uint32Array), value: new Growing(Uint32Array), waiting: new Growing(Uint8Array), most, mostWaiting: 0, size: 0 };
+  return {
+    lane, bars: false, at: new Growing(Uint32Array), value: new Growing(Uint32Array), waiting: new Growing(Uint8Array),
+    most, mostWaiting: 0,
+  };
 }
 function putStep(lane, k, value, waiting, used, most) {
   if (!lane.at.size && k > 0) { lane.at.push(0); lane.value.push(0); lane.waiting.push(0); }
@@ -84,10 +90,15 @@ function bitsSet(word) {
 function readLog(shared, data) {
   const n = shared.records;
   const log = {
-    n, shared, data, texts: shared.texts.map(readText), rowAt: new Uint32Array(n), thread: new Uint8Array(n), state: new Uint8Array(n), tick: new Uint32Array(n),
-    text: new (shared.texts.length > 65535 ? Uint32Array : Uint16Array)(n), object: new Uint8Array(n), lanes: new Array(LANES).fill(null), kinds: barLane(-1),
-    refused: new Growing(Uint32Array), notMet: new Growing(Uint32Array), lost: new Growing(Uint32Array), ticks: 0,
-    modes: new Uint16Array(32), posted: new Uint8Array(16), active: new Uint8Array(16), started: -1,
+    n, shared, data, texts: shared.texts.map(readText),
+    // of each record: where its line begins, the thread and the state after it, the tick before it, its text, the object that it names
+    rowAt: new Uint32Array(n), thread: new Uint8Array(n), state: new Uint8Array(n), tick: new Uint32Array(n),
+    text: new (shared.texts.length > 65535 ? Uint32Array : Uint16Array)(n), object: new Uint8Array(n),
+    // lanes by number, and who runs by kind of thread; lists of records
+    lanes: new Array(LANES).fill(null), kinds: barLane(-1),
+    refused: new Growing(Uint32Array), notMet: new Growing(Uint32Array), lost: new Growing(Uint32Array),
+    // as far as it is read: the tick, each task's mode and object, which Swis are posted and active, which one was started
+    ticks: 0, modes: new Uint16Array(32), posted: new Uint8Array(16), active: new Uint8Array(16), started: -1,
   };
   log.modes[0] = 1;
   bytes = data; at = 0;
@@ -123,22 +134,25 @@ function takePart(log, k, part, count) {
 // A post: the clock's number (16: the call posts), the Swi, whether it was posted already.
 function takePost(log, k) {
   if (number < 16) laneOf(log, CLOCK + number).marks.push(k);
-  if (fields[1]) { laneOf(log, SWI + fields[0]).marks.push(k); if (log.lost.size === 0 || log.lost.items[log.lost.size - 1] !== k) log.lost.push(k); }
+  if (!fields[1]) return;
+  laneOf(log, SWI + fields[0]).marks.push(k);
+  if (log.lost.size === 0 || log.lost.items[log.lost.size - 1] !== k) log.lost.push(k);
 }
 function laneOf(log, lane) {
-  if (!log.lanes[lane]) log.lanes[lane] = lane >= SEMAPHORE && lane < CLOCK || lane === HEAP ? stepLane(lane, lane === HEAP ? 256 : 1) : barLane(lane);
+  const steps = lane >= SEMAPHORE && lane < CLOCK || lane === HEAP;
+  if (!log.lanes[lane]) log.lanes[lane] = steps ? stepLane(lane, lane === HEAP ? 256 : 1) : barLane(lane);
   return log.lanes[lane];
 }
 // A changed row of a task or an object.
 function takeRow(log, k, part) {
   const lane = laneOf(log, FIRST_LANE[part] + number);
-  if (part === 3) { log.modes[number] = fields[0] | fields[2] << 4; putTask(log, k, number, log.thread[k]); lane.changed.push(k); }
+  if (part === 3) { log.modes[number] = fields[0] | fields[2] << 4; putTask(log, k, number, log.thread[k]); }
   else if (part === 8) putStep(lane, k, fields[2], fields[3], fields[0], 1);
   else if (part === 9) putStep(lane, k, bitsSet(fields[1]), fields[2], fields[0], 1);
   else if (part === 10) putStep(lane, k, fields[1], fields[2 + fields[1]], fields[0], fields[0]);
-  else if (part === 11) lane.changed.push(k);
-  else if (part === 12) { putBar(lane, k, fields[4] ? TICKING | 1 << 4 : fields[0] ? NONE | 1 << 4 : NONE); lane.changed.push(k); }
-  else putStep(lane, k, fields[1], 0, 1, 256);
+  else if (part === 12) putBar(lane, k, fields[4] ? TICKING : NONE);
+  else if (part === 13) putStep(lane, k, fields[1], 0, 1, 256);
+  if (lane.bars) lane.changed.push(k);
 }
 // A task's code: its class, above it the mode and the object.
 function putTask(log, k, task, thread) {
@@ -196,7 +210,10 @@ function blocksOfBars(lane, n) {
   lane.first = new Uint32Array(blocks);
   lane.sums = new Array(CLASSES).fill(null);
   lane.classes = [];
-  for (let j = 0; j < code.length; j++) if (!lane.sums[code[j] & 15] && (code[j] & 15) !== NONE) { lane.sums[code[j] & 15] = new Uint32Array(blocks); lane.classes.push(code[j] & 15); }
+  for (const each of code) {
+    const c = each & 15;
+    if (c !== NONE && !lane.sums[c]) { lane.sums[c] = new Uint32Array(blocks); lane.classes.push(c); }
+  }
   lane.classes.sort((a, b) => a - b);
   const sum = new Float64Array(CLASSES);
   let j = 0, pos = 0;
@@ -282,7 +299,7 @@ function stepShares(lane, n, from, per, columns, out) {
       if (pos >= later && j + 1 < size) j++;
     }
     const length = end - begin, base = c * STEP_NUMBERS;
-    if (length > 0) { out[base] = low; out[base + 1] = high; out[base + 2] = sum / length; out[base + 3] = wait / length; out[base + 4] = used / length; }
+    if (length > 0) out.set([low, high, sum / length, wait / length, used / length], base);
   }
 }
 
@@ -331,27 +348,32 @@ function swiList(log, part, k) {
 function callerOf(log, k) { return k ? log.thread[k - 1] : 0; }
 function ticksAfter(log, k) { return log.tick[k] + (log.state[k] & 1); }
 
-// Who took a semaphore last, at record k or before: [thread, record], or null. It is taken by a pend (call 22) that took one from the count, or by the one whom a post (call 23) served.
+// Who took a semaphore last, at record k or before: [thread, record], or null. It is taken by a pend (call 22) that took one from the
+// count, or by the one whom a post (call 23) served.
 function lastTaken(log, lane, k) {
   for (let j = stretchAt(lane, k); j > 0; j--) {
-    const record = lane.at[j], { call } = log.texts[log.text[record]], waited = lane.waiting[j - 1] & 127;
+    const record = lane.at[j], { call } = log.texts[log.text[record]], fewer = (lane.waiting[j] & 127) < (lane.waiting[j - 1] & 127);
     if (call === "22" && lane.value[j] < lane.value[j - 1]) return [callerOf(log, record), record];
-    if (call === "23" && (lane.waiting[j] & 127) < waited) return [changesOf(log, record)[3][0][0], record];
+    if (call === "23" && fewer) return [changesOf(log, record)[3][0][0], record];
   }
   return null;
 }
 
-// ---- choosing records: by thread (who made the call, or which changed), by object (which the call names, or which changed), by what came of it
+// ---- choosing records: by thread (who made the call, or which changed), by object (which the call names, or which changed), by what
+// came of it. A lane is -1 and a result "" where it is not asked for; the answer is null where nothing is.
 function chosen(log, thread, object, result) {
-  const marks = new Uint8Array(log.n), asked = (thread >= 0) + (object >= 0) + (result !== "");
-  const count = (k, bit) => { marks[k] |= bit; };
-  const changes = (lane, bit) => { if (lane) for (const k of lane.changed) count(k, bit); };
-  if (thread >= 0) { changes(log.lanes[thread], 1); for (let k = 0; k < log.n; k++) if (callerOf(log, k) === thread || log.object[k] === thread + 1) count(k, 1); }
-  if (object >= 0) { changes(log.lanes[object], 2); for (let k = 0; k < log.n; k++) if (log.object[k] === object + 1) count(k, 2); }
-  if (result !== "") for (const k of resultList(log, result)) count(k, 4);
-  const want = (thread >= 0 ? 1 : 0) + (object >= 0 ? 2 : 0) + (result !== "" ? 4 : 0), list = new Growing(Uint32Array);
-  if (asked) for (let k = 0; k < log.n; k++) if (marks[k] === want) list.push(k);
-  return asked ? list.done() : null;
+  const want = (thread >= 0 ? 1 : 0) + (object >= 0 ? 2 : 0) + (result !== "" ? 4 : 0);
+  if (!want) return null;
+  const marks = new Uint8Array(log.n), list = new Growing(Uint32Array);
+  if (thread >= 0) markLane(log, marks, thread, 1, k => callerOf(log, k) === thread || log.object[k] === thread + 1);
+  if (object >= 0) markLane(log, marks, object, 2, k => log.object[k] === object + 1);
+  if (result !== "") for (const k of resultList(log, result)) marks[k] |= 4;
+  for (let k = 0; k < log.n; k++) if (marks[k] === want) list.push(k);
+  return list.done();
+}
+function markLane(log, marks, lane, bit, alsoThis) {
+  if (log.lanes[lane]) for (const k of log.lanes[lane].changed) marks[k] |= bit;
+  for (let k = 0; k < log.n; k++) if (alsoThis(k)) marks[k] |= bit;
 }
 function resultList(log, result) {
   if (result === "trouble") return log.troubles;
@@ -361,14 +383,19 @@ function resultList(log, result) {
 
 // ---- searching by words: all records whose words hold the text. A text that cannot hold it, whatever its numbers are, is left out at once.
 function wordSearch(log, asked) {
-  const sought = soughtForm(asked).trim(), form = sought.replace(/[0-9]+/g, "#");
-  const verdict = log.texts.map(text => /[#$@]/.test(sought + text.sought.replace(/#/g, "")) ? "look" : text.sought.includes(sought) ? "yes" : form.includes("#") && text.sought.includes(form) ? "look" : "no");
-  const list = new Growing(Uint32Array);
+  const sought = soughtForm(asked).trim(), form = sought.replace(/[0-9]+/g, "#"), list = new Growing(Uint32Array);
+  const verdicts = log.texts.map(text => verdict(text.sought, sought, form));
   return { list, k: 0, done: false, step(most) {                 // looks at so many records
     for (const end = Math.min(log.n, this.k + most); this.k < end; this.k++) {
-      const v = verdict[log.text[this.k]];
+      const v = verdicts[log.text[this.k]];
       if (v === "yes" || v === "look" && soughtForm(wordsOf(log, this.k).join(": ")).includes(sought)) list.push(this.k);
     }
     this.done = this.k >= log.n;
   } };
+}
+// Whether all records of a text hold what is sought, none does, or each has to be looked at.
+function verdict(text, sought, form) {
+  if (/[#$@]/.test(sought) || /[$@]/.test(text)) return "look";
+  if (text.includes(sought)) return "yes";
+  return form.includes("#") && text.includes(form) ? "look" : "no";
 }

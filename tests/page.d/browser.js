@@ -10,6 +10,7 @@ function check(what, ok, told = "") { if (ok) passed++; else { failed++; console
 const near = (a, b, by) => Math.abs(a - b) <= by;
 const get = expression => chrome.value(expression);
 const seen = () => get("({ from: view.from, span: view.span, picked: view.picked, n, wide })");
+const said = () => get("$('said').textContent");
 async function place(id) { return get(`(() => { const r = $("${id}").getBoundingClientRect(); return { x: r.left, y: r.top, w: r.width, h: r.height }; })()`); }
 
 async function whole() {
@@ -18,10 +19,12 @@ async function whole() {
   check("opens on the whole log", v.from === 0 && v.span === v.n);
   check("the log's name is shown as it is", await get("$('title').textContent === shared.title && shared.title.includes('</script>')"));
   check("no word of the name became an element", await get("!document.querySelector('h1 *') && !window.broken"));
-  check("a lane for the interrupt, Swis, tasks, semaphores, events, mailboxes and clocks", await get("['Interrupt', 'Swi 0', 'Task 1', 'Semaphore 0', 'Event 0', 'Mailbox 0', 'Clock 0'].every(t => [...document.querySelectorAll('#names span')].some(s => s.textContent === t))"));
+  const names = await get("[...document.querySelectorAll('#names span')].map(s => s.textContent)");
+  for (const name of ["Interrupt", "Swi 0", "Task 1", "Semaphore 0", "Event 0", "Mailbox 0", "Clock 0", "Heap"]) check("a lane: " + name, names.includes(name));
 }
 async function wheelAndDrag() {
-  const box = await place("view"), x = Math.round(box.x + box.w * .3), y = box.y + 60, under = () => get(`recordAt(${x - box.x})`), before = await under(), wide = (await seen()).span;
+  const box = await place("view"), x = Math.round(box.x + box.w * .3), y = box.y + 60, under = () => get(`recordAt(${x - box.x})`);
+  const before = await under(), wide = (await seen()).span;
   await chrome.wheel(x, y, -240); await chrome.wheel(x, y, -240);
   check("the wheel zooms in around the pointer", near(await under(), before, .5) && (await seen()).span < wide * .5);
   await chrome.wheel(x, y, 120);
@@ -58,10 +61,19 @@ async function hoverAndClick() {
   check("where a pixel holds many records the tip tells shares", /^Records \d/.test(many) && /Interrupt: .* %|Interrupt: nothing/.test(many), many);
 }
 async function keys() {
+  for (const [key, wanted] of [["Home", "0"], ["End", "n - 1"], ["ArrowRight", "0"], ["ArrowLeft", "n - 1"]]) {
+    await chrome.open(url("small"));
+    await chrome.key(key);
+    check(`${key} where nothing is picked`, await get(`view.picked === ${wanted}`));
+  }
   await chrome.open(url("small", "#120"));
   const v = await seen();
   check("#120 opens record 120", v.picked === 119 && v.from <= 119 && 119 < v.from + v.span && v.span < v.n);
-  const after = async (key, wanted, told) => { await chrome.key(key); const is = (await seen()).picked; check(`${told || key}`, is === wanted, `record ${is + 1}, not ${wanted + 1}`); };
+  const after = async (key, wanted, told = key) => {
+    await chrome.key(key);
+    const is = (await seen()).picked;
+    check(told, is === wanted, `record ${is + 1}, not ${wanted + 1}`);
+  };
   await after("ArrowRight", 120); await after("ArrowLeft", 119); await after("ArrowDown", 120); await after("ArrowUp", 119);
   await after("End", v.n - 1); await after("Home", 0);
   await chrome.key("PageDown");
@@ -72,14 +84,23 @@ async function keys() {
   await chrome.key("+"); check("+ zooms in", (await seen()).span < span);
   await chrome.key("-"); check("- zooms out", near((await seen()).span, span, 1));
   const troubles = await get("[...log.troubles]"), first = troubles.find(k => k > 0);
-  await after("n", first, "n goes to the next refusal or not met"); await after("n", troubles[troubles.indexOf(first) + 1], "n again"); await after("N", first, "N goes back");
+  await after("n", first, "n goes to the next refusal or not met");
+  await after("n", troubles[troubles.indexOf(first) + 1], "n again");
+  await after("N", first, "N goes back");
   await get(`pick(${troubles[troubles.length - 1]})`);
-  await after("n", troubles[0], "after the last one n starts again"); check("and says so", (await get("$('said').textContent")).includes("from the start again"));
+  await after("n", troubles[0], "after the last one n starts again");
+  check("and says so", (await said()).includes("from the start again"));
   await get("location.hash = '#77'"); await chrome.frames(4);
   check("another address goes there", (await seen()).picked === 76);
 }
 async function search() {
-  const find = async text => { await chrome.key("/"); await get("$('what').value = ''"); await chrome.type(text); for (let i = 0; i < 50 && await get("search !== null"); i++) await chrome.frames(2); return (await seen()).picked; };
+  const find = async text => {
+    await chrome.key("/");
+    await get("$('what').value = ''");
+    await chrome.type(text);
+    for (let i = 0; i < 50 && await get("search !== null"); i++) await chrome.frames(2);
+    return (await seen()).picked;
+  };
   check("search by number", await find("42") === 41);
   check("/ goes to the field", await get("document.activeElement === $('what')"));
   await chrome.key("Escape");
@@ -90,37 +111,56 @@ async function search() {
   await chrome.key("Escape"); await get("pick(0)");
   const hit = await find("pend semaphore");
   check("search by words", hit > 0 && (await get(`wordsOf(log, ${hit})[0]`)).includes("pend semaphore"));
-  check("says how many", /found: 1 of [\d,]+|found: \d+ of/.test(await get("$('said').textContent")));
+  check("says how many", /^found: [\d,]+ of [\d,]+$/.test(await said()));
   await chrome.key("Enter");
   check("Enter finds the next one", (await seen()).picked > hit);
-  await find("no such words"); check("says that nothing is found", (await get("$('said').textContent")) === "nothing found");
+  await find("no such words");
+  check("says that nothing is found", (await said()) === "nothing found");
   await chrome.key("Escape");
-  await find("9999999"); check("says which numbers there are", (await get("$('said').textContent")).startsWith("records go from 1 to "));
+  await find("9999999");
+  check("says which numbers there are", (await said()).startsWith("records go from 1 to "));
   await chrome.key("Escape");
 }
+// In the page: the rows that are there, and how many the list says it has.
+const HELP = "window.shownRows = () => [...document.querySelectorAll('#rows .r:not([hidden])')]; window.rowCount = () => Number($('list').getAttribute('aria-rowcount'))";
 async function list() {
   await chrome.open(url("small"));
+  await get(HELP);
   check("few rows are there", await get("document.querySelectorAll('#rows .r').length") < 80);
-  check("they are real text with roles", await get("$('list').getAttribute('role') === 'grid' && Number($('list').getAttribute('aria-rowcount')) === n + 1 && [...document.querySelectorAll('#rows .r:not([hidden])')].every(r => r.getAttribute('role') === 'row' && r.textContent)"));
+  check("the list is a grid and says how many rows it has", await get("$('list').getAttribute('role') === 'grid' && rowCount() === n + 1"));
+  check("its rows are real text with roles", await get("shownRows().every(r => r.getAttribute('role') === 'row' && r.textContent)"));
   const { nodes } = await chrome.send("Accessibility.getFullAXTree");
-  check("a screen reader has them", nodes.some(node => node.role && node.role.value === "gridcell" && /create|yield|set|post/.test((node.name || {}).value || "")));
+  const cells = nodes.filter(node => node.role && node.role.value === "gridcell").map(node => node.name ? node.name.value : "");
+  check("a screen reader has them", cells.some(text => /create|yield|set|post/.test(text)));
   await get("show(1000, 300)"); await chrome.frames(4);
   check("the list follows the picture", near(await get("view.listFrom"), 1000, 2));
   await get("$('list').scrollTop = 100 * rowHigh"); await chrome.frames(4);
   check("scrolling the list leaves the picture", near(await get("view.listFrom"), 100, 2) && (await seen()).from === 1000);
   const box = await place("list");
   await chrome.click(box.x + 60, box.y + 10 + 24 * 3);
-  check("a click on a row picks it, and the picture goes there", near((await seen()).picked, 103, 1) && await get("view.picked >= view.from && view.picked < view.from + view.span"));
+  const v = await seen();
+  check("a click on a row picks it, and the picture goes there", near(v.picked, 103, 1) && v.picked >= v.from && v.picked < v.from + v.span);
   await get("$('list').scrollTop = 1e9"); await chrome.frames(4);
-  check("the last row is the log's end", (await get("[...document.querySelectorAll('.r.end:not([hidden])')].map(r => r.textContent).join()")).startsWith("end of the log"));
+  check("the last row is the log's end", (await get("shownRows().pop().textContent")).startsWith("end of the log"));
 }
+const CHOICES = [
+  ["byThread", "2", "callerOf(log, k) === 2 || log.object[k] === 3 || log.lanes[2].changed.includes(k)"],
+  ["byObject", "49", "log.object[k] === 50 || log.lanes[49].changed.includes(k)"],
+  ["byResult", "refused", "log.texts[log.text[k]].code > 0"],
+  ["byResult", "3", "log.texts[log.text[k]].code === 3"],
+];
 async function choosing() {
-  for (const [id, value, test] of [["byThread", "2", "callerOf(log, k) === 2 || log.object[k] === 3 || log.lanes[2].changed.includes(k)"], ["byObject", "49", "log.object[k] === 50 || log.lanes[49].at.includes(k)"], ["byResult", "refused", "log.texts[log.text[k]].code > 0"], ["byResult", "3", "log.texts[log.text[k]].code === 3"]]) {
-    await get(`$('${id}').value = '${value}', $('${id}').dispatchEvent(new Event('change'))`); await chrome.frames(4);
-    check(`only some records: ${id} ${value}`, await get(`view.chosen.length > 0 && [...view.chosen].every(k => ${test}) && Number($('list').getAttribute('aria-rowcount')) === view.chosen.length + 1`));
-    await chrome.key("Home"); check("Home is the first of them", await get("view.picked === view.chosen[0]"));
-    await chrome.key("ArrowDown"); check("the arrow goes to the next of them", await get("view.picked === view.chosen[1]"));
-    await get(`$('${id}').value = '', $('${id}').dispatchEvent(new Event('change'))`); await chrome.frames(2);
+  const set = async (id, value) => { await get(`$('${id}').value = '${value}', $('${id}').dispatchEvent(new Event('change'))`); await chrome.frames(4); };
+  for (const [id, value, test] of CHOICES) {
+    await set(id, value);
+    check(`only some records: ${id} ${value}`, await get(`view.chosen.length > 0 && [...view.chosen].every(k => ${test}) && rowCount() === view.chosen.length + 1`));
+    await chrome.key("Home");
+    check("Home is the first of them", await get("view.picked === view.chosen[0]"));
+    await chrome.key("ArrowDown");
+    check("the arrow goes to the next of them", await get("view.picked === view.chosen[1]"));
+    await chrome.key("End");
+    check("End is the last of them", await get("view.picked === view.chosen[view.chosen.length - 1]"));
+    await set(id, "");
   }
 }
 async function overview() {
@@ -135,24 +175,37 @@ async function overview() {
   v = await seen(); check("and stretches by its edge", near(v.from, v.n * .6, v.n * .01) && near(v.span, v.n * .3, v.n * .01));
 }
 // The picture's own pixels: how much of a lane is filled with the colour of 'runs', against the share of the records.
+const FILLED = `(lane => {
+  const row = rows.find(r => r.lane && r.lane.lane === lane), W = $("view").width, ratio = W / wide, top = Math.round((row.top + 4) * ratio);
+  const data = $("view").getContext("2d").getImageData(0, top, W, Math.round((row.height - 8) * ratio)).data;
+  const filled = new Uint32Array(data.buffer).filter(p => p === pixel.run).length / (data.length / 4);
+  barShares(row.lane, n, 0, n, 1, one);
+  return [filled, one[RUN]];
+})`;
 async function pixelShares() {
   for (const name of ["small", "long"]) {
     await chrome.open(url(name));
     for (const lane of ["INTERRUPT", "0"]) {
-      const [drawn, wanted] = await get(`(() => {
-        const row = rows.find(r => r.lane && r.lane.lane === ${lane}), ratio = $("view").width / wide, W = $("view").width;
-        const data = new Uint32Array($("view").getContext("2d").getImageData(0, Math.round((row.top + 4) * ratio), W, Math.round((row.height - 8) * ratio)).data.buffer);
-        barShares(row.lane, n, 0, n, 1, one);
-        return [data.filter(p => p === pixel.run).length / data.length, one[RUN]];
-      })()`);
+      const [drawn, wanted] = await get(`${FILLED}(${lane})`);
       check(`${name}: lane ${lane} is filled by its share`, near(drawn, wanted, .03), `drawn ${drawn.toFixed(3)}, share ${wanted.toFixed(3)}`);
     }
   }
 }
+const FRAMES = `(async () => {
+  const took = [];
+  for (let i = 0; i < 60; i++) {
+    if (i < 20) zoom(.8, 300); else if (i < 40) zoom(1.25, 400); else show(i * n / 80, n / 20);
+    const begun = performance.now();
+    drawNow();
+    took.push(performance.now() - begun);
+    await new Promise(requestAnimationFrame);
+  }
+  return took.sort((a, b) => a - b);
+})()`;
 async function timing() {
   const opened = await chrome.open(url("long"));
-  const took = await get(`(async () => { const took = []; for (let i = 0; i < 60; i++) { if (i < 20) zoom(.8, 300); else if (i < 40) zoom(1.25, 400); else show(i * n / 80, n / 20); const begun = performance.now(); drawNow(); took.push(performance.now() - begun); await new Promise(requestAnimationFrame); } return took.sort((a, b) => a - b); })()`);
-  console.log(`long log, ${await get("n.toLocaleString('en')")} records: open ${opened} ms; a frame ${took[30].toFixed(1)} ms in the middle, ${took[56].toFixed(1)} ms at 95 %`);
+  const took = await get(FRAMES);
+  console.log(`${await get("many(n, 'record')")}: open ${opened} ms; a frame ${took[30].toFixed(1)} ms in the middle, ${took[56].toFixed(1)} ms at 95 %`);
   check("a frame takes less than 50 ms", took[30] < 50);
   await chrome.open(url("long", "#77777"));
   check("the long log opens at a record", (await seen()).picked === 77776 && await get("view.listFrom <= 77776 && view.listTo >= 77776"));
@@ -161,29 +214,39 @@ async function damagedAndEmpty() {
   await chrome.open(url("damaged"));
   check("a damaged log says so on top", await get("$('sum').className === 'bad' && $('sum').textContent.includes('the log is damaged at byte')"));
   await get("$('list').scrollTop = 1e9"); await chrome.frames(4);
-  check("and at the end of the list", await get("[...document.querySelectorAll('.r.end.bad:not([hidden])')].some(r => r.textContent.startsWith('the log is damaged at byte'))"));
+  check("and at the end of the list", (await get("document.querySelector('.r.end.bad:not([hidden])').textContent")).startsWith("the log is damaged at byte"));
   check("and in the picture", await get("END > n"));
   await chrome.open(url("empty"));
   check("an empty log says so", (await get("document.querySelector('main').innerText")).startsWith("The log is empty"));
 }
-async function darkNarrowPrint() {
+async function dark() {
   await chrome.open(url("small"), 1400, 900, { dark: true });
   check("dark where the system is", await get("document.documentElement.dataset.theme === 'dark' && getComputedStyle(document.body).backgroundColor === 'rgb(18, 24, 31)'"));
-  await get("$('theme').click()"); check("and light by the switch", await get("document.documentElement.dataset.theme === 'light'"));
+  await get("$('theme').click()");
+  check("and light by the switch", await get("document.documentElement.dataset.theme === 'light'"));
   await get("localStorage.clear()");
+}
+async function narrow() {
   await chrome.open(url("small"), 390, 844, { touch: true, ratio: 2 });
-  check("390 pixels are enough", await get("document.documentElement.scrollWidth <= 390 && $('view').clientWidth > 250 && $('view').clientHeight > 150 && $('list').clientHeight > 150"));
-  check("what is pressed is big enough", await get("[...document.querySelectorAll('header button, header select, header input')].every(b => b.getBoundingClientRect().height >= 32)"));
-  const box = await place("view"), y = box.y + 60;
-  await chrome.touch("touchStart", [[box.x + 100, y], [box.x + 150, y]]); await chrome.touch("touchMove", [[box.x + 60, y], [box.x + 190, y]]); await chrome.touch("touchMove", [[box.x + 40, y], [box.x + 210, y]]); await chrome.touch("touchEnd", []); await chrome.frames(3);
-  check("two fingers zoom", (await seen()).span < (await seen()).n * .5);
-  const from = (await seen()).from;
-  await chrome.touch("touchStart", [[box.x + 150, y]]); await chrome.touch("touchMove", [[box.x + 120, y]]); await chrome.touch("touchMove", [[box.x + 90, y]]); await chrome.touch("touchEnd", []); await chrome.frames(3);
-  check("one finger moves", (await seen()).from > from);
+  check("390 pixels are enough", await get("document.documentElement.scrollWidth <= 390 && $('view').clientWidth > 250 && $('list').clientHeight > 150"));
+  const small = await get("[...document.querySelectorAll('header button, header select, header input')].filter(b => b.getBoundingClientRect().height < 32).length");
+  check("what is pressed is big enough", small === 0);
+  const box = await place("view"), y = box.y + 60, at = (...xs) => xs.map(x => [box.x + x, y]);
+  for (const [type, points] of [["touchStart", at(100, 150)], ["touchMove", at(60, 190)], ["touchMove", at(40, 210)], ["touchEnd", []]]) await chrome.touch(type, points);
+  await chrome.frames(3);
+  const v = await seen();
+  check("two fingers zoom", v.span < v.n * .5);
+  for (const [type, points] of [["touchStart", at(150)], ["touchMove", at(120)], ["touchMove", at(90)], ["touchEnd", []]]) await chrome.touch(type, points);
+  await chrome.frames(3);
+  check("one finger moves", (await seen()).from > v.from);
+}
+async function print() {
   await chrome.open(url("small", "#120"), 1400, 900, { dark: true });
   await get("beforePrint()");
-  check("print has a light picture and the records as a table", await get("document.documentElement.dataset.theme === 'light' && document.querySelectorAll('#printed tbody tr').length > 20 && $('view').clientHeight >= tall - 1"));
-  await get("afterPrint()"); await chrome.frames(2);
+  check("print is light", await get("document.documentElement.dataset.theme === 'light'"));
+  check("it has all lanes, and the records as a table", await get("$('view').clientHeight >= tall - 1 && document.querySelectorAll('#printed tbody tr').length > 20"));
+  await get("afterPrint()");
+  await chrome.frames(2);
   check("and leaves nothing behind", await get("document.documentElement.dataset.theme === 'dark' && !document.getElementById('printed')"));
 }
 async function pictures() {
@@ -201,7 +264,8 @@ async function pictures() {
 
 (async () => {
   try {
-    for (const part of [whole, wheelAndDrag, hoverAndClick, keys, search, list, choosing, overview, pixelShares, timing, damagedAndEmpty, darkNarrowPrint]) await part();
+    const parts = [whole, wheelAndDrag, hoverAndClick, keys, search, list, choosing, overview, pixelShares, timing, damagedAndEmpty, dark, narrow, print];
+    for (const part of parts) await part();
     check("no error in the console", chrome.errors.length === 0, chrome.errors.join("; "));
     check("nothing was asked of a network", chrome.asked.every(u => u.startsWith("file://") || u.startsWith("about:")), chrome.asked.join(" "));
     await pictures();

@@ -6,7 +6,8 @@ const KEY_CODE = { Enter: 13, Escape: 27, PageUp: 33, PageDown: 34, End: 35, Hom
 class Chrome {
   constructor(program) {
     this.profile = fs.mkdtempSync(path.join(os.tmpdir(), "page-browser-"));
-    const words = ["--headless=new", "--no-sandbox", "--disable-gpu", "--no-first-run", "--disable-background-networking", "--remote-debugging-pipe", "--user-data-dir=" + this.profile, "about:blank"];
+    const words = ["--headless=new", "--no-sandbox", "--disable-gpu", "--no-first-run", "--disable-background-networking",
+      "--remote-debugging-pipe", "--user-data-dir=" + this.profile, "about:blank"];
     this.process = spawn(program, words, { stdio: ["ignore", "ignore", "ignore", "pipe", "pipe"] });
     this.count = 0; this.waiting = new Map(); this.errors = []; this.asked = [];
     let rest = Buffer.alloc(0);
@@ -57,7 +58,8 @@ class Chrome {
   async drag(x0, y0, x1, y1, modifiers = 0) {
     await this.mouse("mouseMoved", x0, y0);
     await this.mouse("mousePressed", x0, y0, { button: "left", clickCount: 1, modifiers });
-    if (x0 !== x1 || y0 !== y1) for (let i = 1; i <= 4; i++) await this.mouse("mouseMoved", x0 + (x1 - x0) * i / 4, y0 + (y1 - y0) * i / 4, { button: "left", buttons: 1, modifiers });
+    for (let i = 1; i <= 4 && (x0 !== x1 || y0 !== y1); i++)
+      await this.mouse("mouseMoved", x0 + (x1 - x0) * i / 4, y0 + (y1 - y0) * i / 4, { button: "left", buttons: 1, modifiers });
     await this.mouse("mouseReleased", x1, y1, { button: "left", clickCount: 1, modifiers });
     await this.frames(3);
   }

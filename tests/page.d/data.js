@@ -36,8 +36,11 @@ function readTrace(file) {
   const bar = (lane, k, name) => { if (!bars.has(lane)) bars.set(lane, new Uint8Array(lines.length)); bars.get(lane)[k] = CLASS[name]; };
   lines.forEach((line, k) => {
     const parts = line.split(";").map(part => part.trim() === "" ? [] : part.trim().split(" "));
-    const [record, tick, caller, call, a, , , , code, outcome, , thread] = parts[0], changed = new Set(), lost = [];
-    const each = (part, step, take) => { const p = parts[part].map(Number); for (let i = 0; i < p.length;) { const size = step(p, i); take(p.slice(i, i + size)); i += size; } };
+    const [, tick, caller, call, a, , , , code, outcome, , thread] = parts[0], changed = new Set(), lost = [];
+    const each = (part, step, take) => {
+      const p = parts[part].map(Number);
+      for (let i = 0; i < p.length;) { const size = step(p, i); take(p.slice(i, i + size)); i += size; }
+    };
     const line9 = (lane, value, waiting, used) => { now.steps.set(lane, [value, waiting, used]); changed.add(lane); };
     each(2, () => 7, p => { now.tasks[p[0]] = p[1]; changed.add(p[0]); });
     each(3, () => 3, p => { if (p[2]) lost.push(p[1]); });
@@ -55,7 +58,10 @@ function readTrace(file) {
     for (let c = 0; c < 16; c++) bar(81 + c, k, now.clocks[c] ? "ticking" : "none");
     bar(48, k, depth ? "run" : "none"); bar(98, k, swisOn && tasksOn ? "none" : "off");
     for (const [lane, row] of now.steps) { if (!steps.has(lane)) steps.set(lane, []); steps.get(lane)[k] = row; }
-    records.push({ tick: Number(tick), caller: threadNumber(caller), thread: threadNumber(thread), code: Number(code), outcome: Number(outcome), call: Number(call), changed, lost, record: Number(record), taken: [...now.taken] });
+    records.push({
+      tick: Number(tick), caller: threadNumber(caller), thread: threadNumber(thread), call: Number(call), code: Number(code), outcome: Number(outcome),
+      changed, lost, taken: [...now.taken],
+    });
   });
   return { bars, steps, records, last };
 }
@@ -147,7 +153,10 @@ function checkChoosing(log, trace) {
     const is = core.chosen(log, -1, lane, "");
     check(`records of lane ${lane}`, [...is].filter(k => log.object[k] !== lane + 1), where((r, k) => log.object[k] !== lane + 1 && r.changed.has(lane)));
   }
-  for (const k of where(r => r.call >= 33 && r.call <= 36)) check(`record ${k + 1} names its semaphore`, log.object[k] - 50, Number(/\bsemaphore (\d+)/.exec(core.wordsOf(log, k)[0])[1]) > 15 ? -50 : Number(/\bsemaphore (\d+)/.exec(core.wordsOf(log, k)[0])[1]));
+  for (const k of where(r => r.call >= 33 && r.call <= 36)) {
+    const named = Number(/\bsemaphore (\d+)/.exec(core.wordsOf(log, k)[0])[1]);
+    check(`record ${k + 1} names its semaphore`, log.object[k], named > 15 ? 0 : 50 + named);
+  }
   for (const code of [3, 5]) check(`records with code ${code}`, [...core.chosen(log, -1, -1, String(code))], where(r => r.code === code));
   for (let k = 0; k < log.n; k += 37) for (let s = 0; s < 16; s++) if (log.lanes[49 + s]) {
     const is = core.lastTaken(log, log.lanes[49 + s], k), used = trace.steps.get(49 + s)[k];
