@@ -2,7 +2,7 @@
 # shellcheck shell=sh disable=SC2034,SC2154
 
 terminal() { [ -t 2 ] && [ "${TERM:-dumb}" != dumb ]; }
-joined() { printf %s "$*" | sed 's/ / and /g'; }
+called() { if [ $# -eq 1 ]; then echo "$1"; else echo 'both programs'; fi; } # PROGRAM..
 
 # How many crates programs are made of, themselves too.
 parts_of() { # PROGRAM..
@@ -21,7 +21,7 @@ parts_of() { # PROGRAM..
         }' "$here/crates.txt"
 }
 
-# How far a build is, by what rt has said so far: on a terminal one line that is rewritten.
+# How far a build is, by what rt has said so far: on a terminal one line that is rewritten, and fits into 80 columns.
 tell_progress() { # WHAT PARTS SINCE
     ready=$(grep -c '^rt: [A-Za-z0-9_]* proved' "$here/target/front.out" 2>/dev/null)
     passed=$(($(date +%s) - $3))
@@ -51,7 +51,7 @@ take_lock() {
     until fault=$(flock -n 9 2>&1); do
         [ -z "$fault" ] || die "building needs a lock, and there is none to be had: $fault (flock is part of util-linux)"
         if terminal || [ $((turn % 60)) -eq 0 ]; then
-            read -r who since parts names <"$here/target/front.lock" && tell_progress "waiting for process $who, which is building $names" "$parts" "$since"
+            read -r who since parts names <"$here/target/front.lock" && tell_progress "process $who builds $names; waiting" "$parts" "$since"
         fi
         sleep 1
         turn=$((turn + 1))
@@ -91,7 +91,7 @@ prove() { # WHAT PROGRAM..
     what=$1
     shift
     parts=$(parts_of "$@") since=$(date +%s) teller='' builder=''
-    echo "$$ $since $parts $(joined "$@")" >"$here/target/front.lock"
+    echo "$$ $since $parts $(called "$@")" >"$here/target/front.lock"
     : >"$here/target/front.begun"
     : >"$here/target/front.out"
     trap 'stop_building 130' INT
@@ -123,22 +123,22 @@ check_kit() { # WHY
 }
 
 build() { # PROGRAM..
-    what="$(joined "$@") is"
-    [ $# -eq 1 ] || what="$(joined "$@") are"
-    how='proved and built anew, for sources are newer' why="$what older than the sources"
+    what="$(called "$@") is"
+    [ $# -eq 1 ] || what="$(called "$@") are"
+    how='proved and built anew' why="$what older than the sources" more=''
     for program; do
-        [ -x "$programs/$program" ] || how='proved and built, this once' why="$what not built yet"
+        [ -x "$programs/$program" ] || how='proved and built, this once' why="$what not built yet" more='; that takes some minutes, this once'
     done
     check_kit "$why"
     take_lock
     # shellcheck disable=SC2086
     if find_stale "$@"; then
         set -- $stale
-        [ "$how" != 'proved and built, this once' ] || say "$why; that takes some minutes, this once"
+        say "$why$more"
         for program; do [ -x "$programs/$program" ] || rm -f "$here/target/stamp/$program"; done
         prove "$what $how" "$@"
         if [ "$status" -ne 0 ]; then
-            die "$(joined "$@") could not be built: $(sed -n '/./h
+            die "$(called "$@") could not be built: $(sed -n '/./h
                 $ { g; s/^rt: //; p; }' "$here/target/front.out") (all that rt said is in $(absolute)/target/front.out)"
         fi
         for program; do
