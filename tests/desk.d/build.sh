@@ -113,7 +113,7 @@ if have script; then
     fresh
     TERM=vt100 DESK_PAUSE=0.7 script -q -c "'$b/replay' '$sample'" "$room/typed" >"$room/screen" </dev/null
     check 'on a terminal: one line, rewritten' [ "$(grep -c 'this once: 0 of 5 parts, 0:00.*this once: [1-5] of 5 parts, 0:0[0-9]' "$room/screen")" = 1 ]
-    check 'on a terminal: it fits into 80 columns' [ "$(tr '\r' '\n' <"$room/screen" | sed 's/^.\[K//' | awk '/^tebalung/ && length < 81 { n++ } length > 80 { n = -99 } END { print n > 2 }')" = 1 ]
+    check 'on a terminal: it fits into 80 columns' [ "$(tr '\r' '\n' <"$room/screen" | sed 's/^.\[K//' | awk '/^tebalung/ && length < 81 { n++ } length > 80 { n = -99 } END { print (n > 2) }')" = 1 ]
     check 'on a terminal: the text is after it' [ "$(tr -d '\r' <"$room/screen" | grep -A 5 '1 0 0 1 T1$' | tail -n 5 | tail -n 1)" = 'end 5' ]
 fi
 
