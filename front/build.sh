@@ -80,13 +80,15 @@ find_rt() {
     return 1
 }
 
-# Ends rt and all that it started, which are a session of their own. What is proved stays proved.
+# Ends rt and all that it started, which are a session of their own, and waits until the lock is free. What is proved stays proved.
 stop_building() { # STATUS
     trap '' INT TERM HUP
     builder=${builder:-${!:-}}
     kill ${teller:+"$teller"} ${builder:+"$builder" "-$builder"} 2>/dev/null
     wait
     kill -KILL ${builder:+"-$builder"} 2>/dev/null
+    exec 9>&-
+    for _ in 1 2 3 4 5 6 7 8 9 10; do ! flock -n "$here/target/front.lock" true || break; sleep 0.1; done
     end_progress
     say "stopped; what is proved so far is kept"
     exit "$1"

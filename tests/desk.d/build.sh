@@ -118,22 +118,23 @@ if have script; then
 fi
 
 # Ended in the middle: what is proved is kept, and neither a process nor a lock is left.
-ended() { # SIGNAL STATUS
+ended() { # SIGNAL STATUS SHELL
     fresh
-    DESK_STICK=rules timeout --preserve-status -s "$1" 2 "$b/replay" "$sample" >"$room/out" 2>"$room/err"
+    # shellcheck disable=SC2086
+    DESK_STICK=rules timeout --preserve-status -s "$1" 2 $3 "$b/tebalung" replay "$sample" >"$room/out" 2>"$room/err"
     status=$? err=$(cat "$room/err")
-    check "$1 during a build: status $2" [ "$status" = "$2" ]
-    check "$1 during a build: said" like "$err" '*tebalung: stopped; what is proved so far is kept'
-    check "$1 during a build: no process" none_running kit
-    check "$1 during a build: no process of ours" none_running b
-    check "$1 during a build: no lock" unlocked
-    check "$1 during a build: what is proved is kept" [ -f "$b/target/stamp/fold" ]
-    row "$1 during a build: then it goes on" 0 "$told" '?*' "$b/replay" "$sample"
-    check "$1 during a build: what was proved is not proved again" grep -q 'rt: fold proved (unchanged' "$b/target/front.out"
+    check "$1 during a build, $3: status $2" [ "$status" = "$2" ]
+    check "$1 during a build, $3: said" like "$err" "*0:0?${nl}tebalung: stopped; what is proved so far is kept"
+    check "$1 during a build, $3: no process" none_running kit
+    check "$1 during a build, $3: no process of ours" none_running b
+    check "$1 during a build, $3: no lock" soon unlocked
+    check "$1 during a build, $3: what is proved is kept" [ -f "$b/target/stamp/fold" ]
+    row "$1 during a build, $3: then it goes on" 0 "$told" '?*' "$b/replay" "$sample"
+    check "$1 during a build, $3: what was proved is not proved again" grep -q 'rt: fold proved (unchanged' "$b/target/front.out"
 }
-ended INT 130
-ended TERM 143
-ended HUP 129
+for shell in sh bash 'busybox sh'; do ! command -v "${shell%% *}" >/dev/null || ended INT 130 "$shell"; done
+ended TERM 143 sh
+ended HUP 129 sh
 fresh
 (DESK_PAUSE=0.5 "$b/replay" "$sample" >"$room/out1" 2>&1) &
 soon [ -s "$b/target/front.lock" ]
