@@ -1,8 +1,8 @@
-# Proving and building programs, once: read by `tebalung` where one is not built. Of `tebalung` it uses here, programs, find_kit, find_stale, say, die.
+# Proving and building programs, once: read by `tebalung` where one is not built. It uses of `tebalung`: here, programs, find_kit, find_stale, absolute, say, die.
 # shellcheck shell=sh disable=SC2034,SC2154
 
 terminal() { [ -t 2 ] && [ "${TERM:-dumb}" != dumb ]; }
-joined() { printf %s "$*" | sed 's/ / and /g'; }
+called() { if [ $# -eq 1 ]; then echo "$1"; else echo 'both programs'; fi; } # PROGRAM..
 
 # How many crates programs are made of, themselves too.
 parts_of() { # PROGRAM..
@@ -21,7 +21,7 @@ parts_of() { # PROGRAM..
         }' "$here/crates.txt"
 }
 
-# How far a build is, by what rt has said so far: on a terminal one line that is rewritten.
+# How far a build is, by what rt has said so far: on a terminal one line that is rewritten, and fits into 80 columns.
 tell_progress() { # WHAT PARTS SINCE
     ready=$(grep -c '^rt: [A-Za-z0-9_]* proved' "$here/target/front.out" 2>/dev/null)
     passed=$(($(date +%s) - $3))
@@ -43,20 +43,20 @@ keep_telling() { # WHAT PARTS SINCE
     done
 }
 
-# One builds at a time. The kernel holds the lock for as long as `tebalung` or the rt that it started lives: none can be left behind.
-take_lock() {
+# One builds at a time. The kernel holds the lock for as long as `tebalung` or the rt that it started lives: none can be left behind. Who has it
+# leaves in its file what others tell while they wait: process, start, parts, programs.
+take_lock() { # PROGRAM..
     { command exec 9>>"$here/target/front.lock"; } 2>/dev/null || die "$here/target/front.lock: cannot be written"
     trap 'end_progress; exit 130' INT
     turn=0
     until fault=$(flock -n 9 2>&1); do
         [ -z "$fault" ] || die "building needs a lock, and there is none to be had: $fault (flock is part of util-linux)"
-        if terminal || [ $((turn % 60)) -eq 0 ]; then
-            read -r who since parts names <"$here/target/front.lock" && tell_progress "waiting for process $who, which is building $names" "$parts" "$since"
-        fi
+        if terminal || [ $((turn % 60)) -eq 0 ]; then tell_waiting || turn=-1; fi
         sleep 1
         turn=$((turn + 1))
     done
     [ "$turn" -eq 0 ] || end_progress
+    leave_note "$@"
     turn=0
     while find_rt; do
         [ $((turn % 60)) -ne 0 ] || say "waiting for process $who, an rt that was called by hand"
@@ -65,6 +65,11 @@ take_lock() {
     done
     trap - INT
 }
+leave_note() { # PROGRAM..
+    parts=$(parts_of "$@") since=$(date +%s)
+    echo "$$ $since $parts $(called "$@")" >"$here/target/front.lock"
+}
+tell_waiting() { read -r who since parts names <"$here/target/front.lock" && tell_progress "process $who builds $names; waiting" "$parts" "$since"; }
 
 # An rt that was called by hand takes no lock. Two at once in a checkout break each other, so it is waited for.
 find_rt() {
@@ -75,12 +80,15 @@ find_rt() {
     return 1
 }
 
-# Ends rt and all that it started, which are a session of their own. What is proved stays proved.
+# Ends rt and all that it started, which are a session of their own, and waits until the lock is free. What is proved stays proved.
 stop_building() { # STATUS
     trap '' INT TERM HUP
+    builder=${builder:-${!:-}}
     kill ${teller:+"$teller"} ${builder:+"$builder" "-$builder"} 2>/dev/null
     wait
     kill -KILL ${builder:+"-$builder"} 2>/dev/null
+    exec 9>&-
+    for _ in 1 2 3 4 5 6 7 8 9 10; do ! flock -n "$here/target/front.lock" true || break; sleep 0.1; done
     end_progress
     say "stopped; what is proved so far is kept"
     exit "$1"
@@ -90,8 +98,8 @@ stop_building() { # STATUS
 prove() { # WHAT PROGRAM..
     what=$1
     shift
-    parts=$(parts_of "$@") since=$(date +%s) teller='' builder=''
-    echo "$$ $since $parts $(joined "$@")" >"$here/target/front.lock"
+    teller='' builder=''
+    leave_note "$@"
     : >"$here/target/front.begun"
     : >"$here/target/front.out"
     trap 'stop_building 130' INT
@@ -104,8 +112,8 @@ prove() { # WHAT PROGRAM..
     teller=$!
     wait "$builder"
     status=$?
-    kill "$teller"
-    wait "$teller"
+    kill "$teller" 2>/dev/null
+    wait "$teller" 2>/dev/null
     trap - INT TERM HUP
     end_progress
 }
@@ -123,27 +131,27 @@ check_kit() { # WHY
 }
 
 build() { # PROGRAM..
-    what="$(joined "$@") is"
-    [ $# -eq 1 ] || what="$(joined "$@") are"
-    how='proved and built anew, for sources are newer' why="$what older than the sources"
+    what="$(called "$@") is"
+    [ $# -eq 1 ] || what="$(called "$@") are"
+    how='proved and built anew' why="$what older than the sources" more=''
     for program; do
-        [ -x "$programs/$program" ] || how='proved and built, this once' why="$what not built yet"
+        [ -x "$programs/$program" ] || how='proved and built, this once' why="$what not built yet" more='; that takes some minutes, this once'
     done
     check_kit "$why"
-    take_lock
+    take_lock "$@"
     # shellcheck disable=SC2086
     if find_stale "$@"; then
         set -- $stale
-        [ "$how" != 'proved and built, this once' ] || say "$why; that takes some minutes, this once"
+        say "$why$more"
         for program; do [ -x "$programs/$program" ] || rm -f "$here/target/stamp/$program"; done
         prove "$what $how" "$@"
         if [ "$status" -ne 0 ]; then
-            die "$(joined "$@") could not be built: $(sed -n '/./h
+            die "$(called "$@") could not be built: $(sed -n '/./h
                 $ { g; s/^rt: //; p; }' "$here/target/front.out") (all that rt said is in $(absolute)/target/front.out)"
         fi
         for program; do
             [ -x "$programs/$program" ] || die "$program could not be built: rt says that it is proved, and left no $(absolute)/target/bin/$program"
-            touch -c -r "$here/target/front.begun" "$here/target/stamp/$program"
+            touch -c -r "$here/target/front.begun" "$here/target/stamp/$program" 2>/dev/null
         done
     fi
     exec 9>&-

@@ -26,16 +26,16 @@ row 'the second time: nothing is said' 0 "$told" '' "$b/replay" "$sample"
 check 'the second time: rt is not called' [ "$(calls)" = 1 ]
 row 'explain needs one part more' 0 '*create a task*' 'tebalung: trace is not built yet; *tebalung: trace is proved and built, this once: * of 4 parts, 0:0*' "$b/explain" "$sample"
 check 'explain: rt is called for trace' [ "$(tail -n 1 "$room/kit/calls")" = 'check trace' ]
-row 'build has nothing to do' 0 'replay and trace are built' '' "$b/tebalung" build
+row 'build has nothing to do' 0 'both programs are built: replay and trace' '' "$b/tebalung" build
 check 'build has nothing to do: rt is not called' [ "$(calls)" = 2 ]
 fresh
-row 'build builds both' 0 'replay and trace are built' 'tebalung: replay and trace are not built yet; *tebalung: replay and trace are proved and built, this once: * of 6 parts, 0:0*' "$b/tebalung" build
+row 'build builds both' 0 'both programs are built: replay and trace' 'tebalung: both programs are not built yet; *tebalung: both programs are proved and built, this once: * of 6 parts, 0:0*' "$b/tebalung" build
 check 'build: rt is called once for both' [ "$(cat "$room/kit/calls")" = 'check replay trace' ]
 
 # A change: of a source, of a folder of sources, of the list, of the kit's name; not of an edit.
 for changed in crates/fold/src/lib.rt crates/rules/specs crates.txt KIT; do
     later "$b/$changed"
-    row "$changed is newer" 0 "$told" 'tebalung: replay is proved and built anew, for sources are newer: * of 5 parts, 0:0*' "$b/replay" "$sample"
+    row "$changed is newer" 0 "$told" "tebalung: replay is older than the sources${nl}tebalung: replay is proved and built anew: * of 5 parts, 0:0*" "$b/replay" "$sample"
     find "$b" -newer "$b/target/front.begun" -exec touch -r "$b/target/front.begun" {} +
     row "$changed is newer: only once" 0 "$told" '' "$b/replay" "$sample"
 done
@@ -61,7 +61,7 @@ check 'a source was saved during the build: rt is called again' [ "$(calls)" = $
 fresh
 (DESK_PAUSE=0.5 "$b/replay" "$sample" >"$room/out1" 2>"$room/err1") &
 soon [ -s "$b/target/front.lock" ]
-row 'a second one waits, and says for what' 0 "$told" 'tebalung: waiting for process [0-9]*, which is building replay: * of 5 parts, 0:0*' "$b/replay" "$sample"
+row 'a second one waits, and says for what' 0 "$told" 'tebalung: process [0-9]* builds replay; waiting: * of 5 parts, 0:0*' "$b/replay" "$sample"
 wait
 check 'the first one is right too' [ "$(cat "$room/out1")" = "$told" ]
 check 'two at once: rt is called once' [ "$(cat "$room/kit/calls")" = 'check replay' ]
@@ -72,7 +72,7 @@ many() { # CHECK: eight replays, four explains and a build
     wait
     for k in 1 2 3 4 5 6 7 8; do check "$1: replay $k of 8" [ "$(cat "$room/many.$k")" = "$told${nl}0" ]; done
     for k in 9 10 11 12; do check "$1: explain $((k - 8)) of 4" [ "$(sed -n '6p;$p' "$room/many.$k")" = "end of the log: 5 records${nl}0" ]; done
-    check "$1: the build" [ "$(cat "$room/many.13")" = "replay and trace are built${nl}0" ]
+    check "$1: the build" [ "$(cat "$room/many.13")" = "both programs are built: replay and trace${nl}0" ]
     check "$1: never two rts at once" not grep -q 'two at once' "$room/kit/calls"
 }
 not() { ! "$@"; }
@@ -113,26 +113,28 @@ if have script; then
     fresh
     TERM=vt100 DESK_PAUSE=0.7 script -q -c "'$b/replay' '$sample'" "$room/typed" >"$room/screen" </dev/null
     check 'on a terminal: one line, rewritten' [ "$(grep -c 'this once: 0 of 5 parts, 0:00.*this once: [1-5] of 5 parts, 0:0[0-9]' "$room/screen")" = 1 ]
+    check 'on a terminal: it fits into 80 columns' [ "$(tr '\r' '\n' <"$room/screen" | sed 's/^.\[K//' | awk '/^tebalung/ && length < 81 { n++ } length > 80 { n = -99 } END { print (n > 2) }')" = 1 ]
     check 'on a terminal: the text is after it' [ "$(tr -d '\r' <"$room/screen" | grep -A 5 '1 0 0 1 T1$' | tail -n 5 | tail -n 1)" = 'end 5' ]
 fi
 
 # Ended in the middle: what is proved is kept, and neither a process nor a lock is left.
-ended() { # SIGNAL STATUS
+ended() { # SIGNAL STATUS SHELL
     fresh
-    DESK_STICK=rules timeout --preserve-status -s "$1" 2 "$b/replay" "$sample" >"$room/out" 2>"$room/err"
+    # shellcheck disable=SC2086
+    DESK_STICK=rules timeout --preserve-status -s "$1" 2 $3 "$b/tebalung" replay "$sample" >"$room/out" 2>"$room/err"
     status=$? err=$(cat "$room/err")
-    check "$1 during a build: status $2" [ "$status" = "$2" ]
-    check "$1 during a build: said" like "$err" '*tebalung: stopped; what is proved so far is kept'
-    check "$1 during a build: no process" none_running kit
-    check "$1 during a build: no process of ours" none_running b
-    check "$1 during a build: no lock" unlocked
-    check "$1 during a build: what is proved is kept" [ -f "$b/target/stamp/fold" ]
-    row "$1 during a build: then it goes on" 0 "$told" '?*' "$b/replay" "$sample"
-    check "$1 during a build: what was proved is not proved again" grep -q 'rt: fold proved (unchanged' "$b/target/front.out"
+    check "$1 during a build, $3: status $2" [ "$status" = "$2" ]
+    check "$1 during a build, $3: said" like "$err" "*0:0?${nl}tebalung: stopped; what is proved so far is kept"
+    check "$1 during a build, $3: no process" none_running kit
+    check "$1 during a build, $3: no process of ours" none_running b
+    check "$1 during a build, $3: no lock" soon unlocked
+    check "$1 during a build, $3: what is proved is kept" [ -f "$b/target/stamp/fold" ]
+    row "$1 during a build, $3: then it goes on" 0 "$told" '?*' "$b/replay" "$sample"
+    check "$1 during a build, $3: what was proved is not proved again" grep -q 'rt: fold proved (unchanged' "$b/target/front.out"
 }
-ended INT 130
-ended TERM 143
-ended HUP 129
+for shell in sh bash 'busybox sh'; do ! command -v "${shell%% *}" >/dev/null || ended INT 130 "$shell"; done
+ended TERM 143 sh
+ended HUP 129 sh
 fresh
 (DESK_PAUSE=0.5 "$b/replay" "$sample" >"$room/out1" 2>&1) &
 soon [ -s "$b/target/front.lock" ]
@@ -147,7 +149,7 @@ fresh
 (DESK_PAUSE=0.6 "$b/replay" "$sample" >"$room/out1" 2>&1) &
 soon [ -s "$b/target/front.lock" ]
 killed
-row 'the builder was killed, and its rt goes on: waited for' 0 "$told" 'tebalung: waiting for process *' "$b/replay" "$sample"
+row 'the builder was killed, and its rt goes on: waited for' 0 "$told" 'tebalung: process * builds replay; waiting: *' "$b/replay" "$sample"
 check 'the builder was killed: rt was called once' [ "$(cat "$room/kit/calls")" = 'check replay' ]
 check 'the builder was killed: no process' none_running b
 fresh

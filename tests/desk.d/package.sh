@@ -41,7 +41,7 @@ tried() { # HOW WORD..: the package, called by WORD..
     row "$how: timeline" 0 '<!DOCTYPE html>*</html>' '' "$@" ./timeline crates/trace/data/sample.log
     row "$how: a damaged log" 1 '*version 100' '' "$@" ./replay "$room/version.log"
     row "$how: no log" 2 '' 'tebalung: nosuch: no such file' "$@" ./replay nosuch
-    row "$how: build has nothing to do" 0 'replay and trace are built' '' "$@" ./tebalung build
+    row "$how: build has nothing to do" 0 'both programs are built: replay and trace' '' "$@" ./tebalung build
     row "$how: package" 2 '' "tebalung: this is a package already: copy $p" "$@" ./tebalung package
 }
 tried 'no environment' env -i
