@@ -354,7 +354,7 @@ function eachWide(lane, least, tell) {
     x = Math.max(to, x + least / 2) + .01;
   }
 }
-const inkOn = c => c === RUN ? colour["on-run"] : [POSTED, WAIT, SLEEP, OFF].includes(c) ? colour["on-bright"] : colour["on-light"];
+const inkOn = c => c === RUN || c === OFF ? colour["on-run"] : [POSTED, WAIT, SLEEP].includes(c) ? colour["on-bright"] : colour["on-light"];
 // The first of some texts that has room; none where none has.
 function drawLabel(ctx, texts, from, to, y, ink) {
   const text = texts.find(t => t && ctx.measureText(t).width <= to - from - 6);
