@@ -13,7 +13,7 @@ use Rattle.text.proofs.Puts.{put-none, put-more}
 use Rattle.changes.specs.Numbers.{columns, eachBelow}
 use Rattle.changes.specs.Line.{bar, barred}
 
-columns-append : (xs ys : List ℕ) → columns (xs ++ ys) ≡ columns xs ++ columns ys
+pub columns-append : (xs ys : List ℕ) → columns (xs ++ ys) ≡ columns xs ++ columns ys
 unfolding columns
 columns-append [] ys = refl
 columns-append (x ∷ xs) ys = rw (columns-append xs ys) (sym (append-assoc (decimal x ++ space) (columns xs) (columns ys)))

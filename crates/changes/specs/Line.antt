@@ -1,11 +1,13 @@
 -- The line of a record (docs/TRACE.md): "A line has thirteen parts. Each number or thread is followed by a space, and each part but the last by `; `.
 -- All thirteen are always there; a part with nothing to tell is empty."
-use Prim.Native.Nat.{ℕ}
+use Prim.Native.Nat.{ℕ, _+_, _*_, _≤_, _<_}
 use mathlib.Core.List.{List, [], _∷_, _++_}
+use lib.ListN.{length, getD}
 use Rattle.rules.specs.Text.{space, lineFeed, threadText}
-use Rattle.rules.specs.Tables.{state, TICK}
+use Rattle.rules.specs.Tables.{wordEnd, state, TICK}
 use Rattle.rules.specs.Dispatch.{running}
 use Rattle.rules.specs.declared.Tables.{Tables}
+use Rattle.text.specs.Put.{Put}
 use Rattle.changes.specs.Numbers.{columns}
 use Rattle.changes.specs.Changes.{stateNow, changedTasks, postsMade, startedSwi, postedSwis, activeSwis}
 use Rattle.changes.specs.Changes.{changedSemaphores, changedEvents, changedMailboxes, changedSwis, changedClocks, changedHeap}
@@ -48,3 +50,28 @@ barred (p ∷ ps) = bar ++ (columns p ++ barred ps)
 
 unfoldable pub traceLine : Made → Tables → Tables → List ℕ
 traceLine q t u = callText q (t .lines) (t .state) ++ (barred (parts q t u) ++ lineFeed)
+
+-- ---- how long a line can be
+-- every entry of the list is below m: what a table's type says of its numbers
+abbrev pub Under : ℕ → List ℕ → Type 0
+Under m t = (k : ℕ) → getD t k 0 < m
+
+-- the tables after the call: words and bytes
+pub record Typical (u : Tables) : Type 0 where
+  pub tasks : Under wordEnd (u .tasks)
+  pub lines : Under 256 (u .lines)
+  pub semaphores : Under wordEnd (u .semaphores)
+  pub events : Under wordEnd (u .events)
+  pub mailboxes : Under wordEnd (u .mailboxes)
+  pub swis : Under wordEnd (u .swis)
+  pub clocks : Under wordEnd (u .clocks)
+
+-- call and state 359; 32 tasks of 70; 16 posts of 29, a start 21, Swis in 17 lines of 128; 16 semaphores of 169, 8 events of 158, 8 mailboxes of 239;
+-- 16 Swis of 70, 16 clocks of 59; the heap 42; bars and line feed 25: 13,271 bytes
+abbrev pub lineMost : ℕ
+lineMost = 359 + 32 * 70 + 16 * 29 + 21 + 17 * 128 + 16 * 169 + 8 * 158 + 8 * 239 + 16 * 70 + 16 * 59 + 42 + 25
+
+-- a line at a place of text xs gives ys and ends at r, and no line is longer than that
+pub record Lined (xs : List ℕ) (at : ℕ) (line : List ℕ) (ys : List ℕ) (r : ℕ) : Type 0 where
+  pub put : Put xs at line ys r
+  pub short : length line ≤ lineMost

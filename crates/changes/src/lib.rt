@@ -29,13 +29,14 @@ use threads::put_started;
 use threads::put_state;
 use threads::put_tasks;
 ghost use mathlib.Core.List.{[], _∷_, _++_};
+ghost use Rattle.rules.specs.Tables.{wordEnd};
 ghost use Rattle.rules.specs.Text.{space, threadText};
 ghost use Rattle.text.specs.Put.{Put};
 ghost use Rattle.lent.specs.Lent.{before};
 ghost use Rattle.changes.specs.Numbers.{Tells};
 ghost use Rattle.changes.specs.Changes.{stateNow, changedTasks, postsMade, startedSwi, postedSwis, activeSwis};
 ghost use Rattle.changes.specs.Changes.{changedSemaphores, changedEvents, changedMailboxes, changedSwis, changedClocks, changedHeap};
-ghost use Rattle.changes.specs.Line.{bar, barred, callText, traceLine};
+ghost use Rattle.changes.specs.Line.{bar, barred, callText, traceLine, Under, Typical, Lined};
 
 // A call that was made: the record's number, the call, its answer and the thread that runs then.
 pub struct Made {
@@ -194,6 +195,49 @@ fn put_others(
     put_heap(out, h, heap_before, heap)
 }
 
+// ---- how long a line can be
+
+// A table's numbers are words: its type tells a proof so where one is read, and nothing is left of this in a compiled program.
+fn are_words(t: &[u32])
+    ensures { λ _. ⌜ Under wordEnd (now (t .entry)) ⌝ }
+{
+    if 0 < t.len() {
+        let _first = t[0];
+    }
+}
+
+// The same of bytes.
+fn are_bytes(t: &[u8])
+    ensures { λ _. ⌜ Under 256 (now (t .entry)) ⌝ }
+{
+    if 0 < t.len() {
+        let _first = t[0];
+    }
+}
+
+// The tables that a line is told from.
+fn are_typical(
+    tasks: &Tasks,
+    lines: &Lines,
+    semaphores: &Semaphores,
+    events: &Events,
+    mailboxes: &Mailboxes,
+    swis: &Swis,
+    clocks: &Clocks,
+    heap: &Heap,
+    state: &State,
+)
+    ensures { λ _. ⌜ Typical (before tasks lines semaphores events mailboxes swis clocks heap state) ⌝ }
+{
+    are_words(tasks);
+    are_bytes(lines);
+    are_words(semaphores);
+    are_words(events);
+    are_words(mailboxes);
+    are_words(swis);
+    are_words(clocks);
+}
+
 // The line of a record, by the tables before its call and after it.
 pub fn put_trace(
     out: &mut Text,
@@ -218,10 +262,21 @@ pub fn put_trace(
     heap: &Heap,
     state: &State,
 ) -> usize
-    ensures { λ r. ⌜ Put (now (out .entry)) at (traceLine made
+    ensures { λ r. ⌜ Lined (now (out .entry)) at (traceLine made
         (before «tasks_before» «lines_before» «semaphores_before» «events_before» «mailboxes_before» «swis_before» «clocks_before» «heap_before» «state_before»)
         (before tasks lines semaphores events mailboxes swis clocks heap state)) (now (out .exit)) r ⌝ }
 {
+    are_typical(
+        tasks,
+        lines,
+        semaphores,
+        events,
+        mailboxes,
+        swis,
+        clocks,
+        heap,
+        state,
+    );
     let told = put_call(out, at, made, lines_before, state_before);
     let threads = put_threads(
         out,

@@ -18,8 +18,9 @@ use text::Text;
 // A part of a log: the bytes that waited, and those that came.
 type Part = [u8; 2560];
 
-// No line has more than 12,692 bytes, whatever the tables are (docs/TRACE.md), so that one fits behind a text that is not longer than this.
-const FULL: usize = 3692;
+// No line has more than 13,271 bytes, whatever the tables are (`changes::put_trace` promises it), so that a whole one fits behind a text that is no
+// longer than this.
+const FULL: usize = 16384 - 13271;
 
 // ---- the line of a record
 
