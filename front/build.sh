@@ -37,7 +37,7 @@ keep_telling() { # WHAT PARTS SINCE
     while kill -0 $$ 2>/dev/null; do
         sleep 1 &
         nap=$!
-        wait "$nap"
+        wait "$nap" 2>/dev/null
         turn=$((turn + 1))
         if terminal || [ $((turn % 60)) -eq 0 ]; then tell_progress "$@"; fi
     done
@@ -85,7 +85,7 @@ stop_building() { # STATUS
     trap '' INT TERM HUP
     builder=${builder:-${!:-}}
     kill ${teller:+"$teller"} ${builder:+"$builder" "-$builder"} 2>/dev/null
-    wait
+    wait 2>/dev/null
     kill -KILL ${builder:+"-$builder"} 2>/dev/null
     exec 9>&-
     for _ in 1 2 3 4 5 6 7 8 9 10; do ! flock -n "$here/target/front.lock" true || break; sleep 0.1; done

@@ -1,4 +1,4 @@
-# The package: read by `tebalung package`. Of `tebalung` it uses here, programs, find_loader, find_commit, version_line, open_out, complain, die.
+# The package: read by `tebalung package`. It uses of `tebalung`: here, programs, find_kit, find_commit, git_here, version_line, open_out, complain, die.
 # shellcheck shell=sh disable=SC2015,SC2034,SC2154
 
 # What a package has.
@@ -8,7 +8,7 @@ fill() { # FOLDER
         cp -R "$here/view" "$1" &&
         cp "$here/crates/trace/data/sample.log" "$1/crates/trace/data" &&
         cp "$programs/replay" "$programs/trace" "$1/bin" &&
-        cp "$loader" "$library/libc.so.6" "$1/lib" &&
+        cp "$library/ld-linux-x86-64.so.2" "$library/libc.so.6" "$1/lib" &&
         echo "The loader and the C library of the Rattle kit as they are there: the GNU C Library, under the GNU Lesser General Public License." >"$1/lib/README" &&
         version_line ', package for x86-64 Linux' >"$1/PACKAGE"
 }
@@ -16,8 +16,8 @@ fill() { # FOLDER
 # The same commit gives the same bytes.
 make_package() {
     find_commit && when=$(git_here log -1 --format=%ct) || die "package: which commit it is of is not known: git does not tell it of $(absolute)"
-    find_loader
-    [ -n "$loader" ] || die "package: the loader and the C library are those of the Rattle kit: put its rt on the PATH, or set RATTLE_HOME"
+    find_kit || die "package: the loader and the C library are those of the Rattle kit: put its rt on the PATH, or set RATTLE_HOME"
+    library=$kit/on/$(uname -m)/toolchain/lib
     open_out whole
     room=$(mktemp -d "${TMPDIR:-/tmp}/tebalung.XXXXXX" 2>/dev/null) || die "${TMPDIR:-/tmp}: cannot be written"
     name=tebalung-$commit
