@@ -71,7 +71,7 @@ many() { # CHECK: eight replays, four explains and a build
     (DESK_PAUSE=0.1 "$b/tebalung" build >"$room/many.13" 2>/dev/null; echo $? >>"$room/many.13") &
     wait
     for k in 1 2 3 4 5 6 7 8; do check "$1: replay $k of 8" [ "$(cat "$room/many.$k")" = "$told${nl}0" ]; done
-    for k in 9 10 11 12; do check "$1: explain $((k - 8)) of 4" [ "$(sed -n '6p;$p' "$room/many.$k")" = "end of the log: 5 records${nl}0" ]; done
+    for k in 9 10 11 12; do check "$1: explain $((k - 8)) of 4" [ "$(sed -n '7p;$p' "$room/many.$k")" = "end of the log: 5 records${nl}0" ]; done
     check "$1: the build" [ "$(cat "$room/many.13")" = "both programs are built: replay and trace${nl}0" ]
     check "$1: never two rts at once" not grep -q 'two at once' "$room/kit/calls"
 }
