@@ -4,7 +4,7 @@ use Rattle.text.proofs.Puts.{put-more}
 use Rattle.changes.specs.Numbers.{told}
 use Rattle.changes.specs.Line.{traceLine, parts}
 use Rattle.changes.proofs.Telling.{parts-more}
-use Rattle.changes.proofs.Lengths.{trace-most}
+use Rattle.trace_line.proofs.Lengths.{trace-most}
 use Rattle.trace_line.proofs.put_trace.Statement.{statement}
 use Rattle.trace_line.proofs.put_trace.Tie as tie
 
