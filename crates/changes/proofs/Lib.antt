@@ -1,3 +1,3 @@
+pub mod Sentences
 pub mod Telling
 pub mod Steps
-pub mod Lengths

@@ -18,7 +18,7 @@ use text::Text;
 // A part of a log: the bytes that waited, and those that came.
 type Part = [u8; 2560];
 
-// No line has more than 13,271 bytes, whatever the tables are (`changes::put_trace` promises it), so that a whole one fits behind a text that is no
+// No line has more than 13,271 bytes, whatever the tables are (`trace_line::put_trace` promises it), so that a whole one fits behind a text that is no
 // longer than this.
 const FULL: usize = 16384 - 13271;
 
@@ -49,7 +49,7 @@ fn put_from(
     let clocks_before = t.clocks;
     let heap_before = t.heap;
     let state_before = t.state;
-    changes::put_trace(
+    trace_line::put_trace(
         out,
         at,
         made,

@@ -1,0 +1,302 @@
+// The line of a record in the trace: its parts one after the other, in a lent text.
+use changed_objects::put_clocks;
+use changed_objects::put_heap;
+use changed_objects::put_lined;
+use changed_objects::put_mailboxes;
+use changed_objects::put_rows;
+use changed_threads::put_posted;
+use changed_threads::put_posts;
+use changed_threads::put_started;
+use changed_threads::put_state;
+use changed_threads::put_tasks;
+use changes::Made;
+use rules::Answer;
+use rules::Clocks;
+use rules::Events;
+use rules::Heap;
+use rules::Lines;
+use rules::Mailboxes;
+use rules::Semaphores;
+use rules::State;
+use rules::Swis;
+use rules::Tasks;
+use rules::Thread;
+use telling::put;
+use telling::put_line;
+use telling::put_long;
+use text::Text;
+ghost use mathlib.Core.List.{[], _∷_, _++_};
+ghost use Rattle.rules.specs.Tables.{wordEnd};
+ghost use Rattle.rules.specs.Text.{space, threadText};
+ghost use Rattle.text.specs.Put.{Put};
+ghost use Rattle.lent.specs.Lent.{before};
+ghost use Rattle.changes.specs.Numbers.{Tells};
+ghost use Rattle.changes.specs.Changes.{stateNow, changedTasks, postsMade, startedSwi, postedSwis, activeSwis};
+ghost use Rattle.changes.specs.Changes.{changedSemaphores, changedEvents, changedMailboxes, changedSwis, changedClocks, changedHeap};
+ghost use Rattle.changes.specs.Line.{bar, barred, callText, traceLine, Under, Typical, Lined};
+
+// What stands between two parts.
+fn put_bar(out: &mut Text, at: usize) -> usize
+    ensures { λ r. ⌜ Put (now (out .entry)) at bar (now (out .exit)) r ⌝ }
+{
+    let p = text::put_byte(out, at, b';');
+    text::put_byte(out, p, b' ')
+}
+
+fn put_thread(out: &mut Text, at: usize, thread: Thread) -> usize
+    ensures { λ r. ⌜ Put (now (out .entry)) at (threadText thread ++ space) (now (out .exit)) r ⌝ }
+{
+    let p = text::put_thread(out, at, thread);
+    text::put_byte(out, p, b' ')
+}
+
+// The call as it was asked.
+fn put_asked(out: &mut Text, at: usize, made: Made) -> usize
+    ensures { λ r. ⌜ Tells out at (made .number ∷ made .a ∷ made .b ∷ made .c ∷ made .d ∷ []) r ⌝ }
+{
+    let a = put(out, at, made.number);
+    let b = put(out, a, made.a);
+    let c = put(out, b, made.b);
+    let d = put(out, c, made.c);
+    put(out, d, made.d)
+}
+
+// Its answer.
+fn put_answer(out: &mut Text, at: usize, answer: Answer) -> usize
+    ensures { λ r. ⌜ Tells out at (answer .code ∷ answer .outcome ∷ answer .value ∷ []) r ⌝ }
+{
+    let outcome = put(out, at, answer.code);
+    let value = put(out, outcome, answer.outcome);
+    put(out, value, answer.value)
+}
+
+// The call, by the tables before it.
+fn put_call(out: &mut Text, at: usize, made: Made, lines: &Lines, state: &State) -> usize
+    ensures { λ r. ⌜ Put (now (out .entry)) at (callText made (now (lines .entry)) (now (state .entry))) (now (out .exit)) r ⌝ }
+{
+    let tick = put_long(out, at, made.n);
+    let caller = put(out, tick, state[3]);
+    let asked = put_thread(out, caller, dispatch::running(lines, state));
+    let answered = put_asked(out, asked, made);
+    let answer = made.answer;
+    let now = put_answer(out, answered, answer);
+    let thread = made.thread;
+    put_thread(out, now, thread)
+}
+
+// The state and the threads.
+fn put_threads(
+    out: &mut Text,
+    at: usize,
+    made: Made,
+    tasks_before: &Tasks,
+    lines_before: &Lines,
+    swis_before: &Swis,
+    clocks_before: &Clocks,
+    tasks: &Tasks,
+    lines: &Lines,
+    state: &State,
+) -> usize
+    ensures { λ r. ⌜ Put (now (out .entry)) at (barred (
+        stateNow (now (state .entry))
+        ∷ changedTasks (now («tasks_before» .entry)) (now (tasks .entry))
+        ∷ postsMade made (now («clocks_before» .entry)) (now («swis_before» .entry))
+        ∷ startedSwi made (now («lines_before» .entry)) (now (lines .entry))
+        ∷ postedSwis (now (lines .entry))
+        ∷ activeSwis (now (lines .entry)) ∷ [])) (now (out .exit)) r ⌝ }
+{
+    let s = put_bar(out, at);
+    let after_s = put_state(out, s, state);
+    let t = put_bar(out, after_s);
+    let after_t = put_tasks(out, t, tasks_before, tasks);
+    let p = put_bar(out, after_t);
+    let after_p = put_posts(out, p, made, clocks_before, swis_before);
+    let d = put_bar(out, after_p);
+    let after_d = put_started(out, d, made, lines_before, lines);
+    let w = put_bar(out, after_d);
+    let after_w = put_posted(out, w, lines);
+    let a = put_bar(out, after_w);
+    put_line(out, a, lines, 48)
+}
+
+// The objects at which tasks wait.
+fn put_waited(
+    out: &mut Text,
+    at: usize,
+    lines_before: &Lines,
+    semaphores_before: &Semaphores,
+    events_before: &Events,
+    mailboxes_before: &Mailboxes,
+    lines: &Lines,
+    semaphores: &Semaphores,
+    events: &Events,
+    mailboxes: &Mailboxes,
+) -> usize
+    ensures { λ r. ⌜ Put (now (out .entry)) at (barred (
+        changedSemaphores (now («semaphores_before» .entry)) (now («lines_before» .entry)) (now (semaphores .entry)) (now (lines .entry))
+        ∷ changedEvents (now («events_before» .entry)) (now («lines_before» .entry)) (now (events .entry)) (now (lines .entry))
+        ∷ changedMailboxes (now («mailboxes_before» .entry)) (now («lines_before» .entry)) (now (mailboxes .entry)) (now (lines .entry)) ∷ [])) (now (out .exit)) r ⌝ }
+{
+    let s = put_bar(out, at);
+    let after_s = put_lined(
+        out,
+        s,
+        semaphores_before,
+        semaphores,
+        3,
+        16,
+        lines_before,
+        lines,
+        0,
+    );
+    let e = put_bar(out, after_s);
+    let after_e = put_lined(out, e, events_before, events, 2, 8, lines_before, lines, 24);
+    let m = put_bar(out, after_e);
+    put_mailboxes(out, m, mailboxes_before, lines_before, mailboxes, lines)
+}
+
+// Swis, clocks and the heap.
+fn put_others(
+    out: &mut Text,
+    at: usize,
+    made: Made,
+    swis_before: &Swis,
+    clocks_before: &Clocks,
+    heap_before: &Heap,
+    swis: &Swis,
+    clocks: &Clocks,
+    heap: &Heap,
+) -> usize
+    ensures { λ r. ⌜ Put (now (out .entry)) at (barred (
+        changedSwis (now («swis_before» .entry)) (now (swis .entry))
+        ∷ changedClocks made (now («clocks_before» .entry)) (now (clocks .entry))
+        ∷ changedHeap (now («heap_before» .entry)) (now (heap .entry)) ∷ [])) (now (out .exit)) r ⌝ }
+{
+    let s = put_bar(out, at);
+    let after_s = put_rows(out, s, swis_before, swis, 6, 16);
+    let c = put_bar(out, after_s);
+    let after_c = put_clocks(out, c, made, clocks_before, clocks);
+    let h = put_bar(out, after_c);
+    put_heap(out, h, heap_before, heap)
+}
+
+// ---- how long a line can be
+
+// A table's numbers are words: its type tells a proof so where one is read, and nothing is left of this in a compiled program.
+fn are_words(t: &[u32])
+    ensures { λ _. ⌜ Under wordEnd (now (t .entry)) ⌝ }
+{
+    if 0 < t.len() {
+        let _first = t[0];
+    }
+}
+
+// The same of bytes.
+fn are_bytes(t: &[u8])
+    ensures { λ _. ⌜ Under 256 (now (t .entry)) ⌝ }
+{
+    if 0 < t.len() {
+        let _first = t[0];
+    }
+}
+
+// The tables that a line is told from.
+fn are_typical(
+    tasks: &Tasks,
+    lines: &Lines,
+    semaphores: &Semaphores,
+    events: &Events,
+    mailboxes: &Mailboxes,
+    swis: &Swis,
+    clocks: &Clocks,
+    heap: &Heap,
+    state: &State,
+)
+    ensures { λ _. ⌜ Typical (before tasks lines semaphores events mailboxes swis clocks heap state) ⌝ }
+{
+    are_words(tasks);
+    are_bytes(lines);
+    are_words(semaphores);
+    are_words(events);
+    are_words(mailboxes);
+    are_words(swis);
+    are_words(clocks);
+}
+
+// The line of a record, by the tables before its call and after it.
+pub fn put_trace(
+    out: &mut Text,
+    at: usize,
+    made: Made,
+    tasks_before: &Tasks,
+    lines_before: &Lines,
+    semaphores_before: &Semaphores,
+    events_before: &Events,
+    mailboxes_before: &Mailboxes,
+    swis_before: &Swis,
+    clocks_before: &Clocks,
+    heap_before: &Heap,
+    state_before: &State,
+    tasks: &Tasks,
+    lines: &Lines,
+    semaphores: &Semaphores,
+    events: &Events,
+    mailboxes: &Mailboxes,
+    swis: &Swis,
+    clocks: &Clocks,
+    heap: &Heap,
+    state: &State,
+) -> usize
+    ensures { λ r. ⌜ Lined (now (out .entry)) at (traceLine made
+        (before «tasks_before» «lines_before» «semaphores_before» «events_before» «mailboxes_before» «swis_before» «clocks_before» «heap_before» «state_before»)
+        (before tasks lines semaphores events mailboxes swis clocks heap state)) (now (out .exit)) r ⌝ }
+{
+    are_typical(
+        tasks,
+        lines,
+        semaphores,
+        events,
+        mailboxes,
+        swis,
+        clocks,
+        heap,
+        state,
+    );
+    let told = put_call(out, at, made, lines_before, state_before);
+    let threads = put_threads(
+        out,
+        told,
+        made,
+        tasks_before,
+        lines_before,
+        swis_before,
+        clocks_before,
+        tasks,
+        lines,
+        state,
+    );
+    let waited = put_waited(
+        out,
+        threads,
+        lines_before,
+        semaphores_before,
+        events_before,
+        mailboxes_before,
+        lines,
+        semaphores,
+        events,
+        mailboxes,
+    );
+    let others = put_others(
+        out,
+        waited,
+        made,
+        swis_before,
+        clocks_before,
+        heap_before,
+        swis,
+        clocks,
+        heap,
+    );
+    text::put_byte(out, others, b'\n')
+}
