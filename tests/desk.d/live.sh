@@ -1,7 +1,7 @@
 # shellcheck shell=sh disable=SC2154
 # A log that is still being written, and a reader that goes away.
 
-# Two records, a pause, the rest: what is there before the pause is over.
+# Two records, a pause, the rest: what is there before the pause is over. Explain has a heading too.
 slowly() { head -c 40 "$sample"; sleep 2; tail -c +41 "$sample"; }
 at_once() { # LINES WORD..: that many lines are there a second after the start
     lines=$1
@@ -17,14 +17,14 @@ check 'replay: and then the rest' [ "$(cat "$room/live")" = "$told" ]
 for awk in mawk gawk original-awk; do
     command -v $awk >/dev/null || { missing $awk; continue; }
     use_awk $awk
-    check "explain tells each record as it comes, by $awk" at_once 2 env PATH="$room/awk:$PATH" "$desk/explain"
+    check "explain tells each record as it comes, by $awk" at_once 3 env PATH="$room/awk:$PATH" "$desk/explain"
     check "explain, by $awk: and then the rest" [ "$(tail -n 1 "$room/live")" = 'end of the log: 5 records' ]
 done
 mkfifo "$room/fifo"
 slowly >"$room/fifo" &
 "$desk/explain" "$room/fifo" >"$room/live" 2>&1 &
 sleep 1
-check 'explain of a named pipe tells each record as it comes' [ "$(grep -c '' "$room/live")" = 2 ]
+check 'explain of a named pipe tells each record as it comes' [ "$(grep -c '' "$room/live")" = 3 ]
 wait
 
 # A reader that goes away: nothing is said, the status is 0, and no process stays.
