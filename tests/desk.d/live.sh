@@ -56,6 +56,27 @@ killed() { # CHECK COMMAND FOLDER: the process that has FOLDER in its words and,
     check "$1 is killed: status 2" [ "$(cat "$room/status")" = 2 ]
     check "$1 is killed: said" like "$(cat "$room/err")" '*tebalung: * was ended*'
 }
+# The cat that writes is killed in the middle: the text is not whole, also where SIGPIPE is ignored.
+writer_killed() { # CHECK COMMAND [WORD]: called by WORD
+    ({ cat "$sample"; sleep 2; cat "$sample"; sleep 1; cat "$sample"; } 2>/dev/null | ${3:-} "$desk/tebalung" "$2" >"$room/out" 2>"$room/err"; echo $? >"$room/status") &
+    sleep 1
+    found=0
+    for process in /proc/[0-9]*; do
+        [ "$(cat "$process/comm" 2>/dev/null):$(readlink "$process/fd/1")" = "cat:$room/out" ] || continue
+        kill -KILL "${process#/proc/}" && found=$((found + 1))
+    done
+    wait
+    check "$1: it was there" [ "$found" = 1 ]
+    check "$1: status 2" [ "$(cat "$room/status")" = 2 ]
+    check "$1: said" like "$(cat "$room/err")" "tebalung: $2 was ended*"
+    check "$1: one line" [ "$(grep -c '' "$room/err")" = 1 ]
+    check "$1: nothing of the text is said" not like "$(cat "$room/err")" '*[?]*'
+}
+not() { ! "$@"; }
+for command in replay explain; do
+    writer_killed "$command: who writes is killed" $command
+    writer_killed "$command: who writes is killed, and SIGPIPE is ignored" $command ignoring
+done
 killed 'the program' replay desk/target/bin
 killed 'the view' explain desk/view
 killed 'the program, with what waits for it,' replay desk/target/bin both
