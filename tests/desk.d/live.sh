@@ -1,7 +1,7 @@
 # shellcheck shell=sh disable=SC2154
 # A log that is still being written, and a reader that goes away.
 
-# Two records, a pause, the rest: what is there before the pause is over.
+# Two records, a pause, the rest: what is there before the pause is over. Explain has a heading too.
 slowly() { head -c 40 "$sample"; sleep 2; tail -c +41 "$sample"; }
 at_once() { # LINES WORD..: that many lines are there a second after the start
     lines=$1
@@ -17,14 +17,14 @@ check 'replay: and then the rest' [ "$(cat "$room/live")" = "$told" ]
 for awk in mawk gawk original-awk; do
     command -v $awk >/dev/null || { missing $awk; continue; }
     use_awk $awk
-    check "explain tells each record as it comes, by $awk" at_once 2 env PATH="$room/awk:$PATH" "$desk/explain"
+    check "explain tells each record as it comes, by $awk" at_once 3 env PATH="$room/awk:$PATH" "$desk/explain"
     check "explain, by $awk: and then the rest" [ "$(tail -n 1 "$room/live")" = 'end of the log: 5 records' ]
 done
 mkfifo "$room/fifo"
 slowly >"$room/fifo" &
 "$desk/explain" "$room/fifo" >"$room/live" 2>&1 &
 sleep 1
-check 'explain of a named pipe tells each record as it comes' [ "$(grep -c '' "$room/live")" = 2 ]
+check 'explain of a named pipe tells each record as it comes' [ "$(grep -c '' "$room/live")" = 3 ]
 wait
 
 # A reader that goes away: nothing is said, the status is 0, and no process stays.
@@ -56,6 +56,27 @@ killed() { # CHECK COMMAND FOLDER: the process that has FOLDER in its words and,
     check "$1 is killed: status 2" [ "$(cat "$room/status")" = 2 ]
     check "$1 is killed: said" like "$(cat "$room/err")" '*tebalung: * was ended*'
 }
+# The cat that writes is killed in the middle: the text is not whole, also where SIGPIPE is ignored.
+writer_killed() { # CHECK COMMAND [WORD]: called by WORD
+    ({ cat "$sample"; sleep 2; cat "$sample"; sleep 1; cat "$sample"; } 2>/dev/null | ${3:-} "$desk/tebalung" "$2" >"$room/out" 2>"$room/err"; echo $? >"$room/status") &
+    sleep 1
+    found=0
+    for process in /proc/[0-9]*; do
+        [ "$(cat "$process/comm" 2>/dev/null):$(readlink "$process/fd/1")" = "cat:$room/out" ] || continue
+        kill -KILL "${process#/proc/}" && found=$((found + 1))
+    done
+    wait
+    check "$1: it was there" [ "$found" = 1 ]
+    check "$1: status 2" [ "$(cat "$room/status")" = 2 ]
+    check "$1: said" like "$(cat "$room/err")" "tebalung: $2 was ended*"
+    check "$1: one line" [ "$(grep -c '' "$room/err")" = 1 ]
+    check "$1: nothing of the text is said" not like "$(cat "$room/err")" '*[?]*'
+}
+not() { ! "$@"; }
+for command in replay explain; do
+    writer_killed "$command: who writes is killed" $command
+    writer_killed "$command: who writes is killed, and SIGPIPE is ignored" $command ignoring
+done
 killed 'the program' replay desk/target/bin
 killed 'the view' explain desk/view
 killed 'the program, with what waits for it,' replay desk/target/bin both

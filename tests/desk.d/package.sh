@@ -25,20 +25,28 @@ echo '# changed' >>"$desk/view/names"
 row 'package of what is not committed' 0 '' '' "$t" package -o "$room/q.tar"
 check 'package of what is not committed: it says so' [ "$(tar tf "$room/q.tar" | sed -n 1p)" = "tebalung-$commit-changed/" ]
 
+# What the package has to write: what the checkout does.
+for command in replay explain summary timeline; do "$t" $command "$sample" >"$room/$command.expected"; done
 mkdir "$room/bare"
 tar xf "$room/p.tar" -C "$room/bare"
 p=$room/bare/tebalung-$commit
 cd "$p" || exit
 mv "$desk" "$room/away"
 check 'one folder, named after the commit' [ "$(ls -A "$room/bare")" = "tebalung-$commit" ]
+the_same() { # CHECK COMMAND WORD..: the command WORD.. writes what COMMAND does in the checkout, to the byte
+    what=$1 wanted=$room/$2.expected
+    shift 2
+    try "$@"
+    if [ "$status" != 0 ] || [ -n "$err" ]; then failed "$what" "status $status (${err:-nothing said})"; else check "$what" cmp -s "$room/out" "$wanted"; fi
+}
 tried() { # HOW WORD..: the package, called by WORD..
     how=$1
     shift
     row "$how: --version" 0 "$version" '' "$@" ./tebalung --version
     row "$how: replay" 0 "$told" '' "$@" ./replay crates/trace/data/sample.log
-    row "$how: explain" 0 '*create a task, priority 5*end of the log: 5 records' '' "$@" ./explain crates/trace/data/sample.log
-    row "$how: summary" 0 '?*' '' "$@" ./tebalung summary crates/trace/data/sample.log
-    row "$how: timeline" 0 '<!DOCTYPE html>*</html>' '' "$@" ./timeline crates/trace/data/sample.log
+    for command in replay explain summary timeline; do the_same "$how: $command, the same" $command "$@" ./tebalung $command crates/trace/data/sample.log; done
+    the_same "$how: ./explain" explain "$@" ./explain crates/trace/data/sample.log
+    the_same "$how: ./timeline" timeline "$@" ./timeline crates/trace/data/sample.log
     row "$how: a damaged log" 1 '*version 100' '' "$@" ./replay "$room/version.log"
     row "$how: no log" 2 '' 'tebalung: nosuch: no such file' "$@" ./replay nosuch
     row "$how: build has nothing to do" 0 'both programs are built: replay and trace' '' "$@" ./tebalung build
@@ -68,8 +76,7 @@ if can_be_nobody && static; then
     in_root() { unshare -m sh -c 'mount -t proc proc "$0/proc" && exec chroot --userspec=65534:65534 "$0" /bin/sh -c "cd /package && $1"' "$r" "$1"; }
     if [ "$(in_root 'echo here')" = here ]; then
         row 'a system of busybox alone: replay' 0 "$told" '' in_root './replay crates/trace/data/sample.log'
-        row 'a system of busybox alone: explain' 0 '*create a task, priority 5*' '' in_root './explain crates/trace/data/sample.log'
-        row 'a system of busybox alone: timeline' 0 '<!DOCTYPE html>*</html>' '' in_root './timeline crates/trace/data/sample.log'
+        for command in explain summary timeline; do the_same "a system of busybox alone: $command" $command in_root "./tebalung $command crates/trace/data/sample.log"; done
         row 'a system of busybox alone: --version' 0 "$version" '' in_root './tebalung --version'
     else
         missing 'a root of its own'

@@ -6,6 +6,8 @@ piped() { cat "$sample" | "$@"; }
 closed() { "$@" <&-; }
 full() { "$@" >/dev/full; }
 first_line() { "$@" | head -n 1; }
+ignoring() { (trap '' PIPE; "$@"); }
+heading=' record    tick by    the call: what came of it; the object now; who runs now'
 cp "$sample" "$room/two${nl}words\\t"
 for shell in sh dash bash 'bash --posix' 'busybox sh'; do
     command -v "${shell%% *}" >/dev/null || { missing "$shell"; continue; }
@@ -40,7 +42,8 @@ for awk in mawk gawk 'gawk --posix' original-awk 'busybox awk'; do
     row "$awk: timeline" 0 '<!DOCTYPE html>*</html>' '' with "$desk/timeline" "$sample"
     row "$awk: a damaged log" 1 '*damaged at byte 100*' '' with "$desk/explain" "$room/cut.log"
     row "$awk: a full disk" 2 '' 'tebalung: standard output: no space left on the device' full with "$desk/explain" "$room/long.log"
-    row "$awk: a reader that goes" 0 '*1  create a task*' '' first_line with "$desk/explain" "$room/long.log"
+    row "$awk: a reader that goes" 0 "$heading" '' first_line with "$desk/explain" "$room/long.log"
+    row "$awk: a reader that goes, and SIGPIPE is ignored" 0 "$heading" '' ignoring first_line with "$desk/explain" "$room/long.log"
 done
 mkdir -p "$room/few"
 for word in sh cat tee tail readlink tr sed uname find; do ln -sf "$(command -v "$word")" "$room/few/$word"; done

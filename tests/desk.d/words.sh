@@ -38,7 +38,7 @@ row '--from after --to' 2 '' 'tebalung: explain: there is no record from 4 to 3'
 for bad in T32 S16 T t3 I1 '' T03; do
     row "--thread $bad" 2 '' "tebalung: explain: --thread takes *, not '$bad'" "$t" explain --thread "$bad" "$sample"
 done
-for bad in m m100 0m M0 '' m01; do
+for bad in m m100 0m M0 '' m01 s16 e8 m8 w16 c16 s20 x0 h0 hh; do
     row "--object $bad" 2 '' "tebalung: explain: --object takes *, not '$bad'" "$t" explain --object "$bad" "$sample"
 done
 
@@ -51,4 +51,4 @@ row '--to=N' 0 '|7||||' '' "$t" explain "$sample" --to=7
 for thread in T0 T9 T29 T31 S0 S15 I; do row "--thread $thread" 0 "||$thread|||" '' "$t" explain --thread $thread "$sample"; done
 row '--refused --not-met' 0 '||||1|1' '' "$t" explain --refused "$sample" --not-met
 echo 'END { print object }' >"$desk/view/explain.awk"
-for object in m0 s15 c9; do row "--object $object" 0 "$object" '' "$t" explain --object $object "$sample"; done
+for object in s0 s9 s15 e0 e7 m0 m7 w10 w15 c9 c15 h; do row "--object $object" 0 "$object" '' "$t" explain --object $object "$sample"; done
