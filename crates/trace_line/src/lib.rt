@@ -30,7 +30,7 @@ ghost use Rattle.rules.specs.Tables.{wordEnd};
 ghost use Rattle.rules.specs.Text.{space, threadText};
 ghost use Rattle.text.specs.Put.{Put};
 ghost use Rattle.lent.specs.Lent.{before};
-ghost use Rattle.changes.specs.Numbers.{Tells};
+ghost use Rattle.changes.specs.Numbers.{PutNumbers};
 ghost use Rattle.changes.specs.Changes.{stateNow, changedTasks, postsMade, startedSwi, postedSwis, activeSwis};
 ghost use Rattle.changes.specs.Changes.{changedSemaphores, changedEvents, changedMailboxes, changedSwis, changedClocks, changedHeap};
 ghost use Rattle.changes.specs.Line.{bar, barred, callText, traceLine, Under, Typical, Lined};
@@ -52,7 +52,7 @@ fn put_thread(out: &mut Text, at: usize, thread: Thread) -> usize
 
 // The call as it was asked.
 fn put_asked(out: &mut Text, at: usize, made: Made) -> usize
-    ensures { λ r. ⌜ Tells out at (made .number ∷ made .a ∷ made .b ∷ made .c ∷ made .d ∷ []) r ⌝ }
+    ensures { λ r. ⌜ PutNumbers out at (made .number ∷ made .a ∷ made .b ∷ made .c ∷ made .d ∷ []) r ⌝ }
 {
     let a = put(out, at, made.number);
     let b = put(out, a, made.a);
@@ -63,7 +63,7 @@ fn put_asked(out: &mut Text, at: usize, made: Made) -> usize
 
 // Its answer.
 fn put_answer(out: &mut Text, at: usize, answer: Answer) -> usize
-    ensures { λ r. ⌜ Tells out at (answer .code ∷ answer .outcome ∷ answer .value ∷ []) r ⌝ }
+    ensures { λ r. ⌜ PutNumbers out at (answer .code ∷ answer .outcome ∷ answer .value ∷ []) r ⌝ }
 {
     let outcome = put(out, at, answer.code);
     let value = put(out, outcome, answer.outcome);
