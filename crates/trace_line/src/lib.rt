@@ -200,7 +200,7 @@ fn are_bytes(t: &[u8])
     }
 }
 
-// The tables that a line is told from.
+// The tables from which a line is told.
 fn are_typical(
     tasks: &Tasks,
     lines: &Lines,
@@ -209,10 +209,8 @@ fn are_typical(
     mailboxes: &Mailboxes,
     swis: &Swis,
     clocks: &Clocks,
-    heap: &Heap,
-    state: &State,
 )
-    ensures { λ _. ⌜ Typical (before tasks lines semaphores events mailboxes swis clocks heap state) ⌝ }
+    ensures { λ _. ⌜ Typical (now (tasks .entry)) (now (lines .entry)) (now (semaphores .entry)) (now (events .entry)) (now (mailboxes .entry)) (now (swis .entry)) (now (clocks .entry)) ⌝ }
 {
     are_words(tasks);
     are_bytes(lines);
@@ -251,17 +249,7 @@ pub fn put_trace(
         (before «tasks_before» «lines_before» «semaphores_before» «events_before» «mailboxes_before» «swis_before» «clocks_before» «heap_before» «state_before»)
         (before tasks lines semaphores events mailboxes swis clocks heap state)) (now (out .exit)) r ⌝ }
 {
-    are_typical(
-        tasks,
-        lines,
-        semaphores,
-        events,
-        mailboxes,
-        swis,
-        clocks,
-        heap,
-        state,
-    );
+    are_typical(tasks, lines, semaphores, events, mailboxes, swis, clocks);
     let told = put_call(out, at, made, lines_before, state_before);
     let threads = put_threads(
         out,
