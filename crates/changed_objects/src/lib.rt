@@ -19,7 +19,7 @@ ghost use mathlib.Core.List.{_∷_, _++_};
 ghost use Prim.Native.Nat.{_+_, _≤_};
 ghost use Rattle.rules.specs.Tables.{messages};
 ghost use Rattle.rules.specs.Lines.{line};
-ghost use Rattle.changes.specs.Numbers.{Tells, told, sameList};
+ghost use Rattle.changes.specs.Numbers.{PutNumbers, told, sameList};
 ghost use Rattle.changes.specs.Changes.{row, sameRow, waiting, changedRows, changedLined};
 ghost use Rattle.changes.specs.Changes.{mailboxNumbers, sameMailbox, changedMailboxes, runsOut, ranOut, changedClocks};
 ghost use Rattle.changes.specs.Changes.{sameHeap, unitsWith, changedHeap};
@@ -28,7 +28,7 @@ ghost use Rattle.changes.specs.Changes.{sameHeap, unitsWith, changedHeap};
 
 // A row's number and its words.
 fn put_object(out: &mut Text, at: usize, t: &[u32], w: u8, n: u8, i: u8) -> usize
-    ensures { λ r. ⌜ Tells out at (i ∷ row w n (now (t .entry)) i) r ⌝ }
+    ensures { λ r. ⌜ PutNumbers out at (i ∷ row w n (now (t .entry)) i) r ⌝ }
 {
     let p = put_small(out, at, i);
     put_row(out, p, t, w, n, i)
@@ -44,7 +44,7 @@ fn put_if_changed(
     n: u8,
     i: u8,
 ) -> usize
-    ensures { λ r. ⌜ Tells out at (told (not (sameRow w n (now (before .entry)) (now (t .entry)) i)) (i ∷ row w n (now (t .entry)) i)) r ⌝ }
+    ensures { λ r. ⌜ PutNumbers out at (told (not (sameRow w n (now (before .entry)) (now (t .entry)) i)) (i ∷ row w n (now (t .entry)) i)) r ⌝ }
 {
     if same_row(before, t, w, n, i) {
         return at;
@@ -54,7 +54,7 @@ fn put_if_changed(
 
 // Of n rows of w words, those that changed.
 pub fn put_rows(out: &mut Text, at: usize, before: &[u32], t: &[u32], w: u8, n: u8) -> usize
-    ensures { λ r. ⌜ Tells out at (changedRows w n (now (before .entry)) (now (t .entry))) r ⌝ }
+    ensures { λ r. ⌜ PutNumbers out at (changedRows w n (now (before .entry)) (now (t .entry))) r ⌝ }
 {
     let mut p = at;
     let mut i: u8 = 0;
@@ -80,7 +80,7 @@ fn put_lined_if_changed(
     from: u8,
     i: u8,
 ) -> usize
-    ensures { λ r. ⌜ Tells out at (told (not (sameRow w n (now (before .entry)) (now (t .entry)) i && sameList (line (now («lines_before» .entry)) (from + i)) (line (now (lines .entry)) (from + i)))) (i ∷ (row w n (now (t .entry)) i ++ waiting (now (lines .entry)) (from + i)))) r ⌝ }
+    ensures { λ r. ⌜ PutNumbers out at (told (not (sameRow w n (now (before .entry)) (now (t .entry)) i && sameList (line (now («lines_before» .entry)) (from + i)) (line (now (lines .entry)) (from + i)))) (i ∷ (row w n (now (t .entry)) i ++ waiting (now (lines .entry)) (from + i)))) r ⌝ }
 {
     let j = fold::wide(from) + fold::wide(i);
     if same_row(before, t, w, n, i) & same_line(lines_before, lines, j) {
@@ -102,7 +102,7 @@ pub fn put_lined(
     lines: &Lines,
     from: u8,
 ) -> usize
-    ensures { λ r. ⌜ Tells out at (changedLined w n from (now (before .entry)) (now («lines_before» .entry)) (now (t .entry)) (now (lines .entry))) r ⌝ }
+    ensures { λ r. ⌜ PutNumbers out at (changedLined w n from (now (before .entry)) (now («lines_before» .entry)) (now (t .entry)) (now (lines .entry))) r ⌝ }
 {
     let mut p = at;
     let mut i: u8 = 0;
@@ -117,7 +117,7 @@ pub fn put_lined(
 
 // The messages of mailbox i, the oldest first.
 fn put_messages(out: &mut Text, at: usize, mailboxes: &Mailboxes, i: usize) -> usize
-    ensures { λ r. ⌜ Tells out at (messages (now (mailboxes .entry)) i) r ⌝ }
+    ensures { λ r. ⌜ PutNumbers out at (messages (now (mailboxes .entry)) i) r ⌝ }
 {
     let n = messages::count(mailboxes, i);
     let mut p = at;
@@ -130,7 +130,7 @@ fn put_messages(out: &mut Text, at: usize, mailboxes: &Mailboxes, i: usize) -> u
 }
 
 fn put_mailbox(out: &mut Text, at: usize, mailboxes: &Mailboxes, lines: &Lines, i: u8) -> usize
-    ensures { λ r. ⌜ Tells out at (mailboxNumbers (now (mailboxes .entry)) (now (lines .entry)) i) r ⌝ }
+    ensures { λ r. ⌜ PutNumbers out at (mailboxNumbers (now (mailboxes .entry)) (now (lines .entry)) i) r ⌝ }
 {
     let n = fold::wide(i);
     let capacity = put_small(out, at, i);
@@ -162,7 +162,7 @@ fn put_mailbox_if_changed(
     lines: &Lines,
     i: u8,
 ) -> usize
-    ensures { λ r. ⌜ Tells out at (told (not (sameMailbox (now (before .entry)) (now («lines_before» .entry)) (now (mailboxes .entry)) (now (lines .entry)) i)) (mailboxNumbers (now (mailboxes .entry)) (now (lines .entry)) i)) r ⌝ }
+    ensures { λ r. ⌜ PutNumbers out at (told (not (sameMailbox (now (before .entry)) (now («lines_before» .entry)) (now (mailboxes .entry)) (now (lines .entry)) i)) (mailboxNumbers (now (mailboxes .entry)) (now (lines .entry)) i)) r ⌝ }
 {
     if same_mailbox(before, lines_before, mailboxes, lines, i) {
         return at;
@@ -178,7 +178,7 @@ pub fn put_mailboxes(
     mailboxes: &Mailboxes,
     lines: &Lines,
 ) -> usize
-    ensures { λ r. ⌜ Tells out at (changedMailboxes (now (before .entry)) (now («lines_before» .entry)) (now (mailboxes .entry)) (now (lines .entry))) r ⌝ }
+    ensures { λ r. ⌜ PutNumbers out at (changedMailboxes (now (before .entry)) (now («lines_before» .entry)) (now (mailboxes .entry)) (now (lines .entry))) r ⌝ }
 {
     let mut p = at;
     let mut i: u8 = 0;
@@ -193,7 +193,7 @@ pub fn put_mailboxes(
 
 // Clock i as it is now, if it ran out.
 fn put_if_ran_out(out: &mut Text, at: usize, before: &Clocks, clocks: &Clocks, i: u8) -> usize
-    ensures { λ r. ⌜ Tells out at (told (runsOut (now (before .entry)) i) (i ∷ row 5 16 (now (clocks .entry)) i)) r ⌝ }
+    ensures { λ r. ⌜ PutNumbers out at (told (runsOut (now (before .entry)) i) (i ∷ row 5 16 (now (clocks .entry)) i)) r ⌝ }
 {
     if telling::runs_out(words::clock(before, fold::wide(i))) {
         return put_object(out, at, clocks, 5, 16, i);
@@ -203,7 +203,7 @@ fn put_if_ran_out(out: &mut Text, at: usize, before: &Clocks, clocks: &Clocks, i
 
 // The clocks that ran out.
 fn put_ran_out(out: &mut Text, at: usize, before: &Clocks, clocks: &Clocks) -> usize
-    ensures { λ r. ⌜ Tells out at (ranOut (now (before .entry)) (now (clocks .entry))) r ⌝ }
+    ensures { λ r. ⌜ PutNumbers out at (ranOut (now (before .entry)) (now (clocks .entry))) r ⌝ }
 {
     let mut p = at;
     let mut i: u8 = 0;
@@ -215,7 +215,7 @@ fn put_ran_out(out: &mut Text, at: usize, before: &Clocks, clocks: &Clocks) -> u
 }
 
 pub fn put_clocks(out: &mut Text, at: usize, made: Made, before: &Clocks, clocks: &Clocks) -> usize
-    ensures { λ r. ⌜ Tells out at (changedClocks made (now (before .entry)) (now (clocks .entry))) r ⌝ }
+    ensures { λ r. ⌜ PutNumbers out at (changedClocks made (now (before .entry)) (now (clocks .entry))) r ⌝ }
 {
     let answer = made.answer;
     if (answer.code == 0) & (made.number == 0x76) {
@@ -252,7 +252,7 @@ fn count_units(heap: &Heap, e: u8) -> usize
 }
 
 pub fn put_heap(out: &mut Text, at: usize, before: &Heap, heap: &Heap) -> usize
-    ensures { λ r. ⌜ Tells out at (changedHeap (now (before .entry)) (now (heap .entry))) r ⌝ }
+    ensures { λ r. ⌜ PutNumbers out at (changedHeap (now (before .entry)) (now (heap .entry))) r ⌝ }
 {
     if same_heap(before, heap) {
         return at;

@@ -18,7 +18,7 @@ use words::TRIGGER;
 ghost use mathlib.Core.Path.{_≡_};
 ghost use mathlib.Core.Bool.{not};
 ghost use Rattle.rules.specs.Tables.{task};
-ghost use Rattle.changes.specs.Numbers.{Tells, told};
+ghost use Rattle.changes.specs.Numbers.{PutNumbers, told};
 ghost use Rattle.changes.specs.Changes.{stateNow, sameTask, taskNumbers, changedTasks};
 ghost use Rattle.changes.specs.Changes.{post, isPosted, callPosts, callPost, postedBelow, clockPost, clockPosts, postsMade};
 ghost use Rattle.changes.specs.Changes.{isStarted, startedSwi, postedSwis};
@@ -26,7 +26,7 @@ ghost use Rattle.changes.specs.Changes.{isStarted, startedSwi, postedSwis};
 // ---- the state
 
 pub fn put_state(out: &mut Text, at: usize, state: &State) -> usize
-    ensures { λ r. ⌜ Tells out at (stateNow (now (state .entry))) r ⌝ }
+    ensures { λ r. ⌜ PutNumbers out at (stateNow (now (state .entry))) r ⌝ }
 {
     let p = put(out, at, state[0]);
     let q = put(out, p, state[1]);
@@ -49,7 +49,7 @@ fn same_task(k: Task, l: Task) -> bool
 }
 
 fn put_task(out: &mut Text, at: usize, i: usize, k: Task) -> usize
-    ensures { λ r. ⌜ Tells out at (taskNumbers i k) r ⌝ }
+    ensures { λ r. ⌜ PutNumbers out at (taskNumbers i k) r ⌝ }
 {
     let mode = put_long(out, at, i as u64);
     let priority = put(out, mode, k.mode);
@@ -62,7 +62,7 @@ fn put_task(out: &mut Text, at: usize, i: usize, k: Task) -> usize
 
 // Task i, if it changed.
 fn put_if_changed(out: &mut Text, at: usize, before: &Tasks, tasks: &Tasks, i: usize) -> usize
-    ensures { λ r. ⌜ Tells out at (told (not (sameTask (task (now (before .entry)) i) (task (now (tasks .entry)) i))) (taskNumbers i (task (now (tasks .entry)) i))) r ⌝ }
+    ensures { λ r. ⌜ PutNumbers out at (told (not (sameTask (task (now (before .entry)) i) (task (now (tasks .entry)) i))) (taskNumbers i (task (now (tasks .entry)) i))) r ⌝ }
 {
     let k = words::task(tasks, i);
     if same_task(words::task(before, i), k) {
@@ -72,7 +72,7 @@ fn put_if_changed(out: &mut Text, at: usize, before: &Tasks, tasks: &Tasks, i: u
 }
 
 pub fn put_tasks(out: &mut Text, at: usize, before: &Tasks, tasks: &Tasks) -> usize
-    ensures { λ r. ⌜ Tells out at (changedTasks (now (before .entry)) (now (tasks .entry))) r ⌝ }
+    ensures { λ r. ⌜ PutNumbers out at (changedTasks (now (before .entry)) (now (tasks .entry))) r ⌝ }
 {
     let mut p = at;
     let mut i = 0;
@@ -87,7 +87,7 @@ pub fn put_tasks(out: &mut Text, at: usize, before: &Tasks, tasks: &Tasks) -> us
 
 // A post: the clock, the Swi, and whether it was posted already.
 fn put_post(out: &mut Text, at: usize, c: u32, i: u32, already: bool) -> usize
-    ensures { λ r. ⌜ Tells out at (post c i already) r ⌝ }
+    ensures { λ r. ⌜ PutNumbers out at (post c i already) r ⌝ }
 {
     let p = put(out, at, c);
     let q = put(out, p, i);
@@ -113,7 +113,7 @@ fn call_posts(swis: &Swis, number: u32, a: u32, b: u32) -> bool
 }
 
 fn put_call_post(out: &mut Text, at: usize, swis: &Swis, number: u32, a: u32, b: u32) -> usize
-    ensures { λ r. ⌜ Tells out at (callPost (now (swis .entry)) number a b) r ⌝ }
+    ensures { λ r. ⌜ PutNumbers out at (callPost (now (swis .entry)) number a b) r ⌝ }
 {
     if call_posts(swis, number, a, b) {
         return put_post(out, at, 16, a, is_posted(swis, a));
@@ -137,7 +137,7 @@ fn posted_below(clocks: &Clocks, i: u32, c: u32) -> bool
 
 // The post of clock c, if it runs out.
 fn put_clock_post(out: &mut Text, at: usize, clocks: &Clocks, swis: &Swis, c: u32) -> usize
-    ensures { λ r. ⌜ Tells out at (clockPost (now (clocks .entry)) (now (swis .entry)) c) r ⌝ }
+    ensures { λ r. ⌜ PutNumbers out at (clockPost (now (clocks .entry)) (now (swis .entry)) c) r ⌝ }
 {
     let k = words::clock(clocks, fold::index(c));
     if runs_out(k) {
@@ -148,7 +148,7 @@ fn put_clock_post(out: &mut Text, at: usize, clocks: &Clocks, swis: &Swis, c: u3
 }
 
 fn put_clock_posts(out: &mut Text, at: usize, clocks: &Clocks, swis: &Swis) -> usize
-    ensures { λ r. ⌜ Tells out at (clockPosts (now (clocks .entry)) (now (swis .entry))) r ⌝ }
+    ensures { λ r. ⌜ PutNumbers out at (clockPosts (now (clocks .entry)) (now (swis .entry))) r ⌝ }
 {
     let mut p = at;
     let mut c: u32 = 0;
@@ -161,7 +161,7 @@ fn put_clock_posts(out: &mut Text, at: usize, clocks: &Clocks, swis: &Swis) -> u
 
 // The posts of a call, by the tables before it.
 pub fn put_posts(out: &mut Text, at: usize, made: Made, clocks: &Clocks, swis: &Swis) -> usize
-    ensures { λ r. ⌜ Tells out at (postsMade made (now (clocks .entry)) (now (swis .entry))) r ⌝ }
+    ensures { λ r. ⌜ PutNumbers out at (postsMade made (now (clocks .entry)) (now (swis .entry))) r ⌝ }
 {
     let answer = made.answer;
     if answer.code != 0 {
@@ -185,7 +185,7 @@ fn is_started(made: Made, before: &Lines, lines: &Lines) -> bool
 }
 
 pub fn put_started(out: &mut Text, at: usize, made: Made, before: &Lines, lines: &Lines) -> usize
-    ensures { λ r. ⌜ Tells out at (startedSwi made (now (before .entry)) (now (lines .entry))) r ⌝ }
+    ensures { λ r. ⌜ PutNumbers out at (startedSwi made (now (before .entry)) (now (lines .entry))) r ⌝ }
 {
     if is_started(made, before, lines) {
         return put_small(out, at, rows::readings::top(lines));
@@ -195,7 +195,7 @@ pub fn put_started(out: &mut Text, at: usize, made: Made, before: &Lines, lines:
 
 // The posted Swis, the highest priority first.
 pub fn put_posted(out: &mut Text, at: usize, lines: &Lines) -> usize
-    ensures { λ r. ⌜ Tells out at (postedSwis (now (lines .entry))) r ⌝ }
+    ensures { λ r. ⌜ PutNumbers out at (postedSwis (now (lines .entry))) r ⌝ }
 {
     let mut p = at;
     let mut k = 0;

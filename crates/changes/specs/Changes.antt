@@ -1,19 +1,18 @@
 -- What a call changed, from the tables before it and after it: the parts of a line of the trace, as numbers (docs/TRACE.md).
 use Prim.Native.Nat.{ℕ, _+_, _-_}
-use mathlib.Core.Bool.{Bool, true, false, not, _&&_, _||_, cond as if}
+use mathlib.Core.Bool.{Bool, not, _&&_, _||_, cond as if}
 use mathlib.Core.List.{List, [], _∷_, _++_}
 use lib.Dec.{eqb, ltb}
 use lib.ListN.{length}
 use Rattle.fold.specs.Lists.{bit}
 use Rattle.fold.specs.Find.{allBelow}
 use Rattle.rules.specs.Rows.{field}
-use Rattle.rules.specs.Tables.{taskCount, swiCount, swiWidth, semaphoreCount, semaphoreWidth, eventCount, eventWidth, mailboxCount, mailboxWidth, clockCount, clockWidth, heapUnits, levels}
+use Rattle.rules.specs.Tables.{taskCount, swiCount, swiWidth, semaphoreCount, semaphoreWidth, eventCount, eventWidth, mailboxCount, mailboxWidth, clockCount, clockWidth, heapUnits}
 use Rattle.rules.specs.Tables.{task, swi, mailbox, messages, clock, state, TRIGGER, POSTED, CAPACITY, DEPTH, SWIS, TASKS, TICK, CURRENT}
 use Rattle.rules.specs.Lines.{line, semaphoreLine, eventLine, mailboxLine, postedLine, activeLine}
 use Rattle.rules.specs.Swis.{top, oneDown, cleared}
 use Rattle.rules.specs.Tick.{aged}
 use Rattle.rules.specs.Heap.{unit, firstOf, laterIn}
-use Rattle.rules.specs.declared.Tables.{Tables}
 use Rattle.rules.specs.declared.Task.{Task}
 use Rattle.changes.specs.Numbers.{eachBelow, countBelow, sameList, told}
 use Rattle.changes.specs.declared.Made.{Made}
@@ -95,7 +94,7 @@ startedSwi q ls ms = told (isStarted q ls ms) (top ms ∷ [])
 
 -- ---- 6 "the posted Swis: numbers, the highest priority first, each queue from its front"
 unfoldable pub postedSwis : List ℕ → List ℕ
-postedSwis ls = eachBelow levels (λ k. line ls (postedLine (15 - k)))
+postedSwis ls = eachBelow 16 (λ k. line ls (postedLine (15 - k)))
 
 -- ---- 7 "the active Swis: numbers, the top one last"
 abbrev pub activeSwis : List ℕ → List ℕ

@@ -56,15 +56,15 @@ traceLine q t u = callText q (t .lines) (t .state) ++ (barred (parts q t u) ++ l
 abbrev pub Under : ℕ → List ℕ → Type 0
 Under m t = (k : ℕ) → getD t k 0 < m
 
--- the tables after the call: words and bytes
-pub record Typical (u : Tables) : Type 0 where
-  pub tasks : Under wordEnd (u .tasks)
-  pub lines : Under 256 (u .lines)
-  pub semaphores : Under wordEnd (u .semaphores)
-  pub events : Under wordEnd (u .events)
-  pub mailboxes : Under wordEnd (u .mailboxes)
-  pub swis : Under wordEnd (u .swis)
-  pub clocks : Under wordEnd (u .clocks)
+-- the tables from which a line is told: words and bytes
+pub record Typical (ts ls ss es bs ws cs : List ℕ) : Type 0 where
+  pub tasks : Under wordEnd ts
+  pub lines : Under 256 ls
+  pub semaphores : Under wordEnd ss
+  pub events : Under wordEnd es
+  pub mailboxes : Under wordEnd bs
+  pub swis : Under wordEnd ws
+  pub clocks : Under wordEnd cs
 
 -- call and state 359; 32 tasks of 70; 16 posts of 29, a start 21, Swis in 17 lines of 128; 16 semaphores of 169, 8 events of 158, 8 mailboxes of 239;
 -- 16 Swis of 70, 16 clocks of 59; the heap 42; bars and line feed 25: 13,271 bytes

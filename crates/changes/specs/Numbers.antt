@@ -35,5 +35,5 @@ abbrev pub told : Bool → List ℕ → List ℕ
 told b xs = if b xs []
 
 -- these numbers are told at a place of the lent text, and end at r
-abbrev pub Tells : Over → ℕ → List ℕ → ℕ → Type 0
-Tells out at xs r = Put (now (out .entry)) at (columns xs) (now (out .exit)) r
+abbrev pub PutNumbers : Over → ℕ → List ℕ → ℕ → Type 0
+PutNumbers out at xs r = Put (now (out .entry)) at (columns xs) (now (out .exit)) r

@@ -12,26 +12,26 @@ ghost use Rattle.fold.specs.Find.{allBelow};
 ghost use Rattle.rules.specs.Rows.{field};
 ghost use Rattle.rules.specs.Lines.{line};
 ghost use Rattle.rules.specs.Tick.{aged};
-ghost use Rattle.changes.specs.Numbers.{Tells, sameList};
+ghost use Rattle.changes.specs.Numbers.{PutNumbers, sameList};
 ghost use Rattle.changes.specs.Changes.{row, sameRow, waiting};
 
 // One number.
 pub fn put_long(out: &mut Text, at: usize, n: u64) -> usize
-    ensures { λ r. ⌜ Tells out at (n ∷ []) r ⌝ }
+    ensures { λ r. ⌜ PutNumbers out at (n ∷ []) r ⌝ }
 {
     text::put_column(out, at, n)
 }
 
 // The same of a word.
 pub fn put(out: &mut Text, at: usize, n: u32) -> usize
-    ensures { λ r. ⌜ Tells out at (n ∷ []) r ⌝ }
+    ensures { λ r. ⌜ PutNumbers out at (n ∷ []) r ⌝ }
 {
     put_long(out, at, n as u64)
 }
 
 // The same of a byte.
 pub fn put_small(out: &mut Text, at: usize, n: u8) -> usize
-    ensures { λ r. ⌜ Tells out at (n ∷ []) r ⌝ }
+    ensures { λ r. ⌜ PutNumbers out at (n ∷ []) r ⌝ }
 {
     put_long(out, at, n as u64)
 }
@@ -61,7 +61,7 @@ fn field(t: &[u32], w: u8, n: u8, i: u8, f: u8) -> u32
 
 // A row's words.
 pub fn put_row(out: &mut Text, at: usize, t: &[u32], w: u8, n: u8, i: u8) -> usize
-    ensures { λ r. ⌜ Tells out at (row w n (now (t .entry)) i) r ⌝ }
+    ensures { λ r. ⌜ PutNumbers out at (row w n (now (t .entry)) i) r ⌝ }
 {
     let mut p = at;
     let mut f: u8 = 0;
@@ -87,7 +87,7 @@ pub fn same_row(t: &[u32], u: &[u32], w: u8, n: u8, i: u8) -> bool
 
 // Those who stand in line j.
 pub fn put_line(out: &mut Text, at: usize, lines: &Lines, j: usize) -> usize
-    ensures { λ r. ⌜ Tells out at (line (now (lines .entry)) j) r ⌝ }
+    ensures { λ r. ⌜ PutNumbers out at (line (now (lines .entry)) j) r ⌝ }
 {
     let n = rows::lines::len(lines, j);
     let mut p = at;
@@ -101,7 +101,7 @@ pub fn put_line(out: &mut Text, at: usize, lines: &Lines, j: usize) -> usize
 
 // How many stand in line j, and who.
 pub fn put_waiting(out: &mut Text, at: usize, lines: &Lines, j: usize) -> usize
-    ensures { λ r. ⌜ Tells out at (waiting (now (lines .entry)) j) r ⌝ }
+    ensures { λ r. ⌜ PutNumbers out at (waiting (now (lines .entry)) j) r ⌝ }
 {
     let p = put_long(out, at, rows::lines::len(lines, j) as u64);
     put_line(out, p, lines, j)

@@ -225,7 +225,8 @@ call-most q ls st =
     long _ _ 147 (long _ _ 126 (long _ _ 105 (long _ _ 84 (long _ _ 63 (long _ _ 42 (long _ _ 21 (long _ [] 0 (omega (arith, columns-nil))))))))) in
     simp length-append (omega (arith, thread-most (running ls st), thread-most (q .thread)))
 
-pub trace-most : (q : Made) (t u : Tables) → Typical u → length (traceLine q t u) ≤ lineMost
+pub trace-most : (q : Made) (t u : Tables)
+    → Typical (u .tasks) (u .lines) (u .semaphores) (u .events) (u .mailboxes) (u .swis) (u .clocks) → length (traceLine q t u) ≤ lineMost
 unfolding traceLine parts barred
 trace-most q t u typical =
     let call = call-most q (t .lines) (t .state) in

@@ -30,7 +30,7 @@ ghost use Rattle.rules.specs.Tables.{wordEnd};
 ghost use Rattle.rules.specs.Text.{space, threadText};
 ghost use Rattle.text.specs.Put.{Put};
 ghost use Rattle.lent.specs.Lent.{before};
-ghost use Rattle.changes.specs.Numbers.{Tells};
+ghost use Rattle.changes.specs.Numbers.{PutNumbers};
 ghost use Rattle.changes.specs.Changes.{stateNow, changedTasks, postsMade, startedSwi, postedSwis, activeSwis};
 ghost use Rattle.changes.specs.Changes.{changedSemaphores, changedEvents, changedMailboxes, changedSwis, changedClocks, changedHeap};
 ghost use Rattle.changes.specs.Line.{bar, barred, callText, traceLine, Under, Typical, Lined};
@@ -52,7 +52,7 @@ fn put_thread(out: &mut Text, at: usize, thread: Thread) -> usize
 
 // The call as it was asked.
 fn put_asked(out: &mut Text, at: usize, made: Made) -> usize
-    ensures { λ r. ⌜ Tells out at (made .number ∷ made .a ∷ made .b ∷ made .c ∷ made .d ∷ []) r ⌝ }
+    ensures { λ r. ⌜ PutNumbers out at (made .number ∷ made .a ∷ made .b ∷ made .c ∷ made .d ∷ []) r ⌝ }
 {
     let a = put(out, at, made.number);
     let b = put(out, a, made.a);
@@ -63,7 +63,7 @@ fn put_asked(out: &mut Text, at: usize, made: Made) -> usize
 
 // Its answer.
 fn put_answer(out: &mut Text, at: usize, answer: Answer) -> usize
-    ensures { λ r. ⌜ Tells out at (answer .code ∷ answer .outcome ∷ answer .value ∷ []) r ⌝ }
+    ensures { λ r. ⌜ PutNumbers out at (answer .code ∷ answer .outcome ∷ answer .value ∷ []) r ⌝ }
 {
     let outcome = put(out, at, answer.code);
     let value = put(out, outcome, answer.outcome);
@@ -200,7 +200,7 @@ fn are_bytes(t: &[u8])
     }
 }
 
-// The tables that a line is told from.
+// The tables from which a line is told.
 fn are_typical(
     tasks: &Tasks,
     lines: &Lines,
@@ -209,10 +209,8 @@ fn are_typical(
     mailboxes: &Mailboxes,
     swis: &Swis,
     clocks: &Clocks,
-    heap: &Heap,
-    state: &State,
 )
-    ensures { λ _. ⌜ Typical (before tasks lines semaphores events mailboxes swis clocks heap state) ⌝ }
+    ensures { λ _. ⌜ Typical (now (tasks .entry)) (now (lines .entry)) (now (semaphores .entry)) (now (events .entry)) (now (mailboxes .entry)) (now (swis .entry)) (now (clocks .entry)) ⌝ }
 {
     are_words(tasks);
     are_bytes(lines);
@@ -251,17 +249,7 @@ pub fn put_trace(
         (before «tasks_before» «lines_before» «semaphores_before» «events_before» «mailboxes_before» «swis_before» «clocks_before» «heap_before» «state_before»)
         (before tasks lines semaphores events mailboxes swis clocks heap state)) (now (out .exit)) r ⌝ }
 {
-    are_typical(
-        tasks,
-        lines,
-        semaphores,
-        events,
-        mailboxes,
-        swis,
-        clocks,
-        heap,
-        state,
-    );
+    are_typical(tasks, lines, semaphores, events, mailboxes, swis, clocks);
     let told = put_call(out, at, made, lines_before, state_before);
     let threads = put_threads(
         out,
