@@ -65,7 +65,7 @@ if can_be_nobody && static; then
     cp -R "$p" "$r/package"
     mknod -m 666 "$r/dev/null" c 1 3
     # shellcheck disable=SC2016
-    in_root() { unshare -m sh -c 'mount -t proc proc "$0/proc" && exec chroot --userspec=65534:65534 "$0" /bin/sh -c "cd /package && $1"' "$r" "$1"; }
+    in_root() { unshare -m sh -c 'mount -t proc proc "$0/proc" && unset TMPDIR && exec chroot --userspec=65534:65534 "$0" /bin/sh -c "cd /package && $1"' "$r" "$1"; }
     if [ "$(in_root 'echo here')" = here ]; then
         row 'a system of busybox alone: replay' 0 "$told" '' in_root './replay crates/trace/data/sample.log'
         row 'a system of busybox alone: explain' 0 '*create a task, priority 5*' '' in_root './explain crates/trace/data/sample.log'
