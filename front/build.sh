@@ -30,7 +30,7 @@ tell_progress() { # WHAT PARTS SINCE
 }
 end_progress() { ! terminal || printf '\r\033[K' >&2; }
 
-# Tells it again, each second on a terminal, else each minute, until it is ended or `tebalung` is gone.
+# Tells it again, each second on a terminal, else each minute, until it is ended or `tebalung` is gone. It is to hold no lock.
 keep_telling() { # WHAT PARTS SINCE
     nap='' turn=0
     trap 'kill ${nap:+"$nap"} 2>/dev/null; exit 0' TERM
@@ -108,7 +108,7 @@ prove() { # WHAT PROGRAM..
     tell_progress "$what" "$parts" "$since"
     (cd -- "${here:-/}" && exec setsid "$rt" check "$@") >"$here/target/front.out" 2>&1 </dev/null &
     builder=$!
-    keep_telling "$what" "$parts" "$since" 9>&- &
+    (exec 9>&- && keep_telling "$what" "$parts" "$since") &
     teller=$!
     wait "$builder"
     status=$?

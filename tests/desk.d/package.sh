@@ -73,7 +73,7 @@ if can_be_nobody && static; then
     cp -R "$p" "$r/package"
     mknod -m 666 "$r/dev/null" c 1 3
     # shellcheck disable=SC2016
-    in_root() { unshare -m sh -c 'mount -t proc proc "$0/proc" && exec chroot --userspec=65534:65534 "$0" /bin/sh -c "cd /package && $1"' "$r" "$1"; }
+    in_root() { unshare -m sh -c 'mount -t proc proc "$0/proc" && unset TMPDIR && exec chroot --userspec=65534:65534 "$0" /bin/sh -c "cd /package && $1"' "$r" "$1"; }
     if [ "$(in_root 'echo here')" = here ]; then
         row 'a system of busybox alone: replay' 0 "$told" '' in_root './replay crates/trace/data/sample.log'
         for command in explain summary timeline; do the_same "a system of busybox alone: $command" $command in_root "./tebalung $command crates/trace/data/sample.log"; done
