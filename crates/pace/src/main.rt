@@ -13,6 +13,7 @@ use rules::Tasks;
 use text::Text;
 ghost use Rattle.rules.specs.Tables.{tables};
 ghost use Rattle.kernel.specs.Safe.{Safe};
+ghost use Rattle.io.specs.Counts.{Counts};
 
 // Call k of the log: number 0xffffffff, which no call has, past its end.
 fn call_at(calls: &Calls, k: usize) -> Call {
@@ -120,9 +121,17 @@ fn print_sum(sum: u32) {
     write_sum(&mut out, sum);
 }
 
+// Reads standard input, once: a file gives all that fits.
+fn read_log(log: &mut [u8]) -> usize
+    ensures { λ r. ⌜ Counts r (now (log .exit)) ⌝ }
+{
+    let got = libc::read(libc::STDIN_FILENO, log);
+    io::count(got, log)
+}
+
 fn main() {
     let mut log = [0u8; 65520];
-    let n = pacing::read_log(&mut log) / 20;
+    let n = read_log(&mut log) / 20;
     let mut calls = [0u32; 16380];
     pacing::as_calls(&log, &mut calls, n);
     let mut sum = 0;

@@ -1,6 +1,7 @@
 // The same with the two entries that test the tables before each call: with `call_in_place`, or with `call` if a second argument is there.
 use pacing::Calls;
 use text::Text;
+ghost use Rattle.io.specs.Counts.{Counts};
 
 // The calls in place on tables that are kept, from fresh ones.
 fn in_place(calls: &Calls, n: usize, from: u32) -> u32 {
@@ -88,9 +89,17 @@ fn print_sum(sum: u32) {
     write_sum(&mut out, sum);
 }
 
+// Reads standard input, once: a file gives all that fits.
+fn read_log(log: &mut [u8]) -> usize
+    ensures { λ r. ⌜ Counts r (now (log .exit)) ⌝ }
+{
+    let got = libc::read(libc::STDIN_FILENO, log);
+    io::count(got, log)
+}
+
 fn main() {
     let mut log = [0u8; 65520];
-    let n = pacing::read_log(&mut log) / 20;
+    let n = read_log(&mut log) / 20;
     let mut calls = [0u32; 16380];
     pacing::as_calls(&log, &mut calls, n);
     let kept = os::arg_count() < 3;

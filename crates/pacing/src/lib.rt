@@ -6,7 +6,6 @@ ghost use mathlib.Core.Path.{_≡_};
 ghost use mathlib.Core.List.{_++_};
 ghost use Prim.Native.Nat.{min};
 ghost use lib.Seq.{sets};
-ghost use Rattle.io.specs.Counts.{Counts};
 ghost use Rattle.rules.specs.Text.{wordText, lineFeed};
 ghost use Rattle.text.specs.Put.{Put};
 ghost use Rattle.pacing.specs.Pace.{callWords, threadWord, added, roundsFor, sumWord};
@@ -16,14 +15,6 @@ pub type Log = [u8; 65520];
 
 // A call's number and its four arguments, one call after the other.
 pub type Calls = [u32; 16380];
-
-// Reads standard input, once: a file gives all that fits.
-pub fn read_log(log: &mut [u8]) -> usize
-    ensures { λ r. ⌜ Counts r (now (log .exit)) ⌝ }
-{
-    let got = libc::read(libc::STDIN_FILENO, log);
-    io::count(got, log)
-}
 
 fn wide(b: u8) -> u32
     ensures { λ r. ⌜ r ≡ b ⌝ }
