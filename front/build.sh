@@ -1,4 +1,4 @@
-# Proving and building programs, once: read by `tebalung` where one is not built. It uses of `tebalung`: here, programs, find_kit, find_stale, absolute, say, die.
+# Proving and building programs, once: read by `tebalung` where one is not built. It uses of `tebalung`: here, programs, find_kit, name_kits, find_stale, absolute, say, die.
 # shellcheck shell=sh disable=SC2034,SC2154
 
 terminal() { [ -t 2 ] && [ "${TERM:-dumb}" != dumb ]; }
@@ -125,9 +125,9 @@ check_kit() { # WHY
         [ -w "$here/$folder" ] || { [ $folder != target ] && [ ! -e "$here/$folder" ]; } || die "$1, and $(absolute) cannot be written: ask its owner to run 'tebalung build'"
     done
     find_kit || die "$1, and building needs the Rattle kit: put its rt on the PATH, or set RATTLE_HOME"
-    pinned=$(cat "$here/KIT" 2>/dev/null) || die "$1, and the file KIT, which names the kit, is not there"
+    name_kits 2>/dev/null || die "$1, and the file KIT, which names the kit, is not there"
     there=$("$rt" version 2>&1 </dev/null) || die "$1, and $rt does not say which kit it is of: $there"
-    [ "$there" = "$pinned" ] || die "$1, and the kit at $kit is '$there', not '$pinned' as in the file KIT: put that one's rt on the PATH, or set RATTLE_HOME"
+    grep -qxF -e "$there" "$here/KIT" || die "$1, and the kit at $kit is '$there', not '$kits' as in the file KIT: put that one's rt on the PATH, or set RATTLE_HOME"
 }
 
 build() { # PROGRAM..

@@ -173,8 +173,11 @@ fresh
 row 'no kit' 2 '' 'tebalung: replay is not built yet, and building needs the Rattle kit: put its rt on the PATH, or set RATTLE_HOME' env PATH="$room/tools" "$b/replay" "$sample"
 row 'RATTLE_HOME names no kit' 2 '' 'tebalung: replay is not built yet, and building needs the Rattle kit: *' env RATTLE_HOME="$room/nosuch" "$b/replay" "$sample"
 cp -R "$room/kit" "$room/other"
+tail -n 1 "$top/KIT" >"$room/other/KIT-ID"
+row 'the last kit that is named' 0 "$told" '?*' env PATH="$room/other/bin:$PATH" "$b/replay" "$sample"
+fresh
 echo 'another kit' >"$room/other/KIT-ID"
-row 'another kit' 2 '' "tebalung: replay is not built yet, and the kit at $room/other is 'another kit', not '$(cat "$top/KIT")' as in the file KIT: *" env PATH="$room/other/bin:$PATH" "$b/replay" "$sample"
+row 'another kit' 2 '' "tebalung: replay is not built yet, and the kit at $room/other is 'another kit', not '$kits' as in the file KIT: *" env PATH="$room/other/bin:$PATH" "$b/replay" "$sample"
 row 'another kit by RATTLE_HOME' 2 '' "tebalung: replay is not built yet, and the kit at $room/other is *" env RATTLE_HOME="$room/other" "$b/replay" "$sample"
 row 'the right kit by RATTLE_HOME' 0 "$told" '?*' env RATTLE_HOME="$room/kit" PATH="$room/tools" "$b/replay" "$sample"
 row 'another kit, and all is built with the right one' 0 "$told" '' env PATH="$room/other/bin:$PATH" "$b/replay" "$sample"

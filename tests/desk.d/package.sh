@@ -10,7 +10,7 @@ echo target/ >"$desk/.gitignore"
 g init && g add -A && g commit -m x
 touch "$desk/target/stamp/replay" "$desk/target/stamp/trace"
 commit=$(git -C "$desk" rev-parse --short=12 HEAD)
-version="tebalung $commit (kit $(cat "$top/KIT"), package for x86-64 Linux)"
+version="tebalung $commit (kit $kits, package for x86-64 Linux)"
 row '--version in a checkout' 0 "tebalung $commit (kit *)" '' "$t" --version
 if [ ! -d "$room/kit/on" ]; then
     missing 'the kit'

@@ -20,7 +20,7 @@ row 'two commands in one word' 2 '' "tebalung: there is no command 'replay expla
 row 'a log for a command' 2 '' "tebalung: there is no command '$room/good.log'; to replay that log: tebalung replay $room/good.log" "$t" "$room/good.log"
 row 'a full disk for help' 2 '' 'tebalung: standard output: cannot be written' sh -c "'$t' help >/dev/full"
 row 'closed output for help' 2 '' 'tebalung: standard output: is closed' sh -c "'$t' help >&-"
-row '--version' 0 "tebalung * (kit $(cat "$top/KIT"))" '' "$t" --version
+row '--version' 0 "tebalung * (kit $kits)" '' "$t" --version
 row "'--' ends the options" 2 '' 'tebalung: --help: no such file' "$t" replay -- --help
 row "'--' and a log" 0 "$told" '' "$t" replay -- "$sample"
 row "'-' after '--' is standard input" 0 "$told" '' sh -c "'$t' replay -- - <'$sample'"
