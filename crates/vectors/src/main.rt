@@ -1,9 +1,42 @@
-// Replays each log that an argument names, under a line with its name.
+// Replays each log that an argument names, whole in memory, under a line with its name.
 
 // The log's name in a line.
 fn print_name(name: &[u8]) {
     io::write_all(libc::STDOUT_FILENO, name);
     io::write_all(libc::STDOUT_FILENO, b"\n");
+}
+
+// The text of a log.
+fn print_text(log: &[u8]) {
+    let mut out = io::large_buffer();
+    let put = whole::replay_log(log, &mut out);
+    io::write_all(libc::STDOUT_FILENO, text::front(&out, put));
+}
+
+// Whether the log has ended where reading stopped, which one more read tells; `name` is told where it has not.
+fn has_ended(fd: i32, name: &[u8]) -> bool {
+    let mut more = [0u8; 1];
+    let got = libc::read(fd, &mut more);
+    if got < 0 {
+        os::fail(name);
+    }
+    if 0 < got {
+        io::write_all(libc::STDERR_FILENO, name);
+        io::write_all(
+            libc::STDERR_FILENO,
+            b": was not read to its end, and a log has at most 40,000 bytes here\n",
+        );
+    }
+    got == 0
+}
+
+// The log that can be read at fd. It has at most 2,000 records, each with a line of at most 25 bytes, so that the text fits.
+fn replay_whole(fd: i32, name: &[u8]) {
+    let mut log = [0u8; 40000];
+    let length = io::read_full(fd, &mut log);
+    if has_ended(fd, name) {
+        print_text(&log[..length]);
+    }
 }
 
 // The log that argument i names.
@@ -20,7 +53,7 @@ fn replay_named(i: usize) {
         os::fail(&name[..length]);
         return;
     }
-    replaying::replay_all(fd, &name[..length]);
+    replay_whole(fd, &name[..length]);
     libc::close(fd);
 }
 

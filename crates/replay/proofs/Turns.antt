@@ -1,22 +1,25 @@
 -- What is handed from turn to turn: what the reads so far leave, whether or not the replay was stopped.
-use Prim.Native.Nat.{ℕ, _-_, _≤_, _<_}
+use Prim.Native.Nat.{ℕ, _-_, _≤_, _<_, zero-le}
 use mathlib.Core.Path.{_≡_, refl, sym, ap, _∙_}
 use mathlib.Core.Logic.{_⊎_, inl, inr, ⊎-elim}
 use mathlib.Core.Bool.{Bool, true, false, not, _&&_, true≢false, false≢true}
 use mathlib.Core.List.{List, [], _∷_, _++_}
 use native.Mathlib.Omega.{arith}
 use lib.Dec.{ltb, eqb}
+use lib.IntN.{ℤ, pos, negsuc}
+use lib.Signed.{ltZ}
 use lib.ListN.{length, take, drop, length-take, length-drop}
 use lib.Seq.{length-take-le}
-use borrow.Author.Tests.{ltb-true, not-true}
+use borrow.Author.Tests.{ltb-true, le-ltb, not-true}
+use Rattle.io.specs.Counts.{clamped}
 use Rattle.rules.specs.Sound.{Sound}
 use Rattle.rules.specs.declared.Tables.{Tables}
 use Rattle.parts.specs.Part.{Left, turn, begins, start, leftBy}
 use Rattle.parts.proofs.ByReads.{left-more}
 use Rattle.desk.specs.declared.Progress.{Progress}
 use Rattle.desk.specs.Done.{leftOf, progressOf, behind, Turned}
-use Rattle.replaying.specs.declared.Came.{Came}
-use Rattle.replaying.specs.Turns.{Behind, stopped, stop, HandedIf, Handed, Replayed}
+use Rattle.replay.specs.declared.Came.{Came}
+use Rattle.replay.specs.Turns.{cameBy, Behind, stopped, stop, HandedIf, Handed, Replayed}
 
 -- a turn that is made was left, and the replay had not ended
 both : (a b : Bool) → (a && b) ≡ true → (a ≡ true) × (b ≡ true)
@@ -26,9 +29,20 @@ both false b h = absurd (true≢false (sym h))
 pub goes-on : (n : ℕ) (b : Bool) → (ltb 0 n && not b) ≡ true → (0 < n) × (b ≡ false)
 goes-on n b h = let k = both (ltb 0 n) (not b) h in (ltb-true 0 n (k .0), not-true b (k .1))
 
--- what a read counts has room behind the bytes that wait
-pub has-room : (held : ℕ) (qs : List ℕ) {more : ℕ} → more ≤ length (take (length qs - held) (drop held qs)) → more ≤ length qs - held
-has-room held qs h = omega (arith, length-take (length qs - held) (drop held qs))
+-- ---- what a read brought
+-- the count of its answer, and the answer's test against 0
+pub by-answer : (z : ℤ) (n : ℕ) → _≡_ {A = Came} (record { more = clamped z n; failed = ltZ z (pos 0) }) (cameBy z n)
+by-answer (pos k) n = rw (le-ltb k 0 zero-le)
+by-answer (negsuc k) n = refl
+
+-- there is room for the bytes behind the first
+pub room : (held : ℕ) (qs : List ℕ) → length (take (length qs - held) (drop held qs)) ≡ length qs - held
+room held qs = omega (arith, length-take (length qs - held) (drop held qs), length-drop held qs)
+
+-- no more came than there is room for
+pub has-room : (z : ℤ) (n : ℕ) → cameBy z n .more ≤ n
+has-room (pos k) n = omega arith
+has-room (negsuc k) n = zero-le
 
 -- ---- a turn
 -- the read failed
@@ -90,7 +104,7 @@ module _ (t₀ : Tables) where
 
       next-is : turn (eqb (r .more) 0) bytes (leftOf t qs xs p) ≡ leftBy (v .came ++ (bytes ∷ [])) (begins t₀)
       next-is =
-          let all : length bytes ≡ r .more = length-take-le (r .more) (drop (p .held) qs) (omega (arith, b .room, length-drop (p .held) qs)) in
+          let all : length bytes ≡ r .more = length-take-le (r .more) (drop (p .held) qs) (omega (arith, ap (λ (k : Came). k .more) (b .came), has-room (b .answer) (length qs - p .held), length-drop (p .held) qs)) in
           ap (turn (eqb (r .more) 0) bytes) before-is ∙ sym (rw all at (left-more (v .came) bytes (begins t₀) not-over))
 
       pub sofar-next : {u : Tables} {qs′ ys : List ℕ} {q : Progress} → Handed r bytes (leftOf t qs xs p) (leftOf u qs′ ys q) → Sofar u qs′ ys q

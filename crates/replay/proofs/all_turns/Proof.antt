@@ -1,4 +1,4 @@
--- `replaying::all_turns` meets its contract: what is handed from turn to turn is what the reads so far leave, and the tables with it.
+-- `all_turns` meets its contract: what is handed from turn to turn is what the reads so far leave, and the tables with it.
 use Prim.Native.Nat.{_<_}
 use mathlib.Core.Path.{_≡_}
 use mathlib.Core.Bool.{false}
@@ -6,9 +6,9 @@ use native.Mathlib.Omega.{arith}
 use Rattle.rules.specs.Tables.{tables}
 use Rattle.kernel.specs.Safe.{Safe}
 use Rattle.lent.specs.Lent.{lent}
-use Rattle.replaying.proofs.Turns.{goes-on, Sofar, sofar-none, sofar-next, sofar-tables}
-use Rattle.replaying.proofs.all_turns.Statement.{statement}
-use Rattle.replaying.proofs.all_turns.Tie as tie
+use Rattle.replay.proofs.Turns.{goes-on, Sofar, sofar-none, sofar-next, sofar-tables}
+use Rattle.replay.proofs.all_turns.Statement.{statement}
+use Rattle.replay.proofs.all_turns.Tie as tie
 
 abbrev Inv-loop : tie.InvT-loop
 Inv-loop tasks₀ lines₀ semaphores₀ events₀ mailboxes₀ swis₀ clocks₀ heap₀ state₀ fd name part₀ out₀ p₀ turns₀ tasks lines semaphores events mailboxes swis clocks heap state part out p turns =

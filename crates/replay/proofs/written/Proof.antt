@@ -1,9 +1,9 @@
--- `replaying::written` meets its contract: the text could be written, or the replay is stopped.
+-- `written` meets its contract: the text could be written, or the replay is stopped.
 use mathlib.Core.Path.{refl}
 use mathlib.Core.Logic.{inl, inr}
 use borrow.Author.Needs.{needs}
-use Rattle.replaying.proofs.written.Statement.{statement}
-use Rattle.replaying.proofs.written.Tie as tie
+use Rattle.replay.proofs.written.Statement.{statement}
+use Rattle.replay.proofs.written.Tie as tie
 
 pub written-spec : {M : Type 1} → statement M
 written-spec =

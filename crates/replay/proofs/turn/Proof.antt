@@ -1,10 +1,10 @@
--- `replaying::turn` meets its contract: where the read failed nothing is done; else what the turn left is handed on, or stopped.
+-- `turn` meets its contract: where the read failed nothing is done; else what the turn left is handed on, or stopped.
 use borrow.Author.Needs.{needs}
 use Rattle.lent.specs.Lent.{lent}
 use Rattle.desk.specs.Done.{leftOf, behind}
-use Rattle.replaying.proofs.Turns.{handed-none, handed-on}
-use Rattle.replaying.proofs.turn.Statement.{statement}
-use Rattle.replaying.proofs.turn.Tie as tie
+use Rattle.replay.proofs.Turns.{handed-none, handed-on}
+use Rattle.replay.proofs.turn.Statement.{statement}
+use Rattle.replay.proofs.turn.Tie as tie
 
 -- the read failed
 returns : tie.Need-returns

@@ -1,8 +1,8 @@
--- `replaying::replay_all` meets its contract: it begins with fresh tables, and hands back those that all turns left.
+-- `replay_all` meets its contract: it begins with fresh tables, and hands back those that all turns left.
 use borrow.Author.Needs.{needs}
-use Rattle.replaying.proofs.Turns.{replayed-from}
-use Rattle.replaying.proofs.replay_all.Statement.{statement}
-use Rattle.replaying.proofs.replay_all.Tie as tie
+use Rattle.replay.proofs.Turns.{replayed-from}
+use Rattle.replay.proofs.replay_all.Statement.{statement}
+use Rattle.replay.proofs.replay_all.Tie as tie
 
 abbrev at-fresh : tie.After-all-turns → tie.After-fresh
 at-fresh c =

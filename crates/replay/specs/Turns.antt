@@ -1,21 +1,28 @@
 -- What is handed from turn to turn, whatever is read and whether or not it can be written.
-use Prim.Native.Nat.{ℕ, _-_, _≤_}
+use Prim.Native.Nat.{ℕ, _-_, min}
 use mathlib.Core.Path.{_≡_}
 use mathlib.Core.Logic.{_⊎_}
 use mathlib.Core.Bool.{Bool, true, false}
 use mathlib.Core.List.{List}
 use lib.Dec.{eqb}
+use lib.IntN.{ℤ, pos, negsuc}
 use lib.ListN.{length, take}
 use Rattle.rules.specs.Sound.{Sound}
 use Rattle.rules.specs.declared.Tables.{Tables}
 use Rattle.parts.specs.Part.{Left, turn, begins, leftBy}
 use Rattle.desk.specs.declared.Progress.{Progress}
-use Rattle.replaying.specs.declared.Came.{Came}
+use Rattle.replay.specs.declared.Came.{Came}
 
--- a read behind the first bytes of part ps, which is now qs: those stay, and what came has room behind them
+-- what a read brought that answered z and had room for n bytes: z bytes, or as many as have room; an answer below 0 is a read that failed, and brought none
+abbrev pub cameBy : ℤ → ℕ → Came
+cameBy (pos k) n = record { more = min k n; failed = false }
+cameBy (negsuc k) n = record { more = 0; failed = true }
+
+-- a read behind the first bytes of part ps, which is now qs: those stay, and what came is what the read's answer says, with the room behind them
 pub record Behind (held : ℕ) (ps qs : List ℕ) (r : Came) : Type 0 where
   pub waits : take held qs ≡ take held ps
-  pub room : r .more ≤ length qs - held
+  pub answer : ℤ
+  pub came : r ≡ cameBy answer (length qs - held)
 
 -- a replay that is stopped has ended, and all else is as it was
 abbrev pub stopped : Progress → Progress

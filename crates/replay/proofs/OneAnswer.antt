@@ -6,8 +6,8 @@ use mathlib.Core.Bool.{Bool, true, false}
 use mathlib.Core.List.{List}
 use lib.Dec.{eqb}
 use Rattle.parts.specs.Part.{Left, turn}
-use Rattle.replaying.specs.declared.Came.{Came}
-use Rattle.replaying.specs.Turns.{stop, HandedIf, Handed}
+use Rattle.replay.specs.declared.Came.{Came}
+use Rattle.replay.specs.Turns.{stop, HandedIf, Handed}
 
 stops : (next m : Left) → (m ≡ next) ⊎ (m ≡ stop next) → stop m ≡ stop next
 stops next m p = ⊎-elim (λ (e : m ≡ next). ap stop e) (λ (e : m ≡ stop next). ap stop e) p
