@@ -5,7 +5,7 @@ b=$room/b
 fresh() { # a checkout that is not built, of six parts
     rm -rf "$b"
     clone b
-    printf '%s\n' '# six parts' 'fold:' 'rules: fold' 'text: rules' 'replaying: rules text io' 'replay: replaying io libc os' 'trace: rules text io libc os' >"$b/crates.txt"
+    printf '%s\n' '# six parts' 'fold:' 'rules: fold' 'text: rules' 'desk: rules text' 'replay: desk io libc os' 'trace: rules text io libc os' >"$b/crates.txt"
     : >"$room/kit/calls"
 }
 later() { touch -d '+2 seconds' "$1"; } # saved after all that is there

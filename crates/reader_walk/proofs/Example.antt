@@ -26,7 +26,7 @@ pub two-and-a-fault : walked example
       third = Version 40;
       at = 40;
     }
-unfolding walked startOf readAt handedOut argumentBytes moveTo
+unfolding walked readAt handedOut argumentBytes moveTo
 two-and-a-fault = refl
 
 pub as-expected : {w : Walked} → w ≡ walked example → {first one second two third : Bool}
@@ -34,5 +34,4 @@ pub as-expected : {w : Walked} → w ≡ walked example → {first one second tw
     → second ≡ isRecord (w .second) 0x22 24 → two ≡ areIn (w .two) 0 0xffffffff
     → third ≡ isVersion (w .third) 40
     → (first && one && second && two && third && eqb (w .at) 40) ≡ true
-unfolding isRecord isVersion
 as-expected e a b c d f = rw (a, b, c, d, f, e, two-and-a-fault)

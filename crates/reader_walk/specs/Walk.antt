@@ -11,7 +11,7 @@ use Rattle.reader_walk.specs.declared.Arguments.{Arguments}
 use Rattle.reader_walk.specs.declared.Walked.{Walked}
 
 -- where the arguments of what was found start; 0 for what is no record
-unfoldable pub startOf : Read → ℕ
+abbrev pub startOf : Read → ℕ
 startOf (Record number start) = start
 startOf End = 0
 startOf (Cut n) = 0
@@ -44,14 +44,14 @@ walked s =
     walkedBy s first second third (moveTo third (moveTo second (moveTo first 0)))
 
 -- ---- what the program expects
-unfoldable pub isRecord : Read → ℕ → ℕ → Bool
+abbrev pub isRecord : Read → ℕ → ℕ → Bool
 isRecord (Record number start) n s = eqb number n && eqb start s
 isRecord End n s = false
 isRecord (Cut k) n s = false
 isRecord (Length k) n s = false
 isRecord (Version k) n s = false
 
-unfoldable pub isVersion : Read → ℕ → Bool
+abbrev pub isVersion : Read → ℕ → Bool
 isVersion (Record number start) n = false
 isVersion End n = false
 isVersion (Cut k) n = false
