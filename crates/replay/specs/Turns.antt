@@ -18,7 +18,7 @@ abbrev pub cameBy : ℤ → ℕ → Came
 cameBy (pos k) n = record { more = min k n; failed = false }
 cameBy (negsuc k) n = record { more = 0; failed = true }
 
--- a read behind the first bytes of part ps, which is now qs: those stay, and what came is what the read's answer says, with the room behind them
+-- a read behind the first bytes of part ps, which is now qs: those stay, and what came is what a read's answer says, with the room behind them
 pub record Behind (held : ℕ) (ps qs : List ℕ) (r : Came) : Type 0 where
   pub waits : take held qs ≡ take held ps
   pub answer : ℤ
