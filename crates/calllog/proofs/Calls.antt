@@ -27,7 +27,7 @@ use denote.Lend.{lends-ref, ref-back}
 use denote.Memory.{mem, cellAt, partAt, partOf}
 use denote.Plain.{uint-makes}
 use denote.Builtin.{u8, usize}
-use denote.Ref.{RefT, NamedLft, MutRef, now}
+use denote.Ref.{RefT, NamedLft, MutRef}
 use denote.Slice.{sliceVal, ShrSlice, shr-slice-tells}
 use denote.Steps.{owned, peeks, heard, nothing}
 use denote.Enum.Laws as EL
@@ -37,10 +37,10 @@ use denote.Triple.Statement.{Contract}
 use denote.Triple.Clauses.{ensured, lasts}
 use denote.Triple.Entry.{onEntry}
 use denote.Triple.Spec.{tripleOf}
-use Rattle.rules.specs.Log.{handedOut}
 use Rattle.rules.specs.declared.Read.{Read}
 use Rattle.rules.proofs.Read as R
 use Rattle.rules.proofs.Read.Laws as R′
+use Rattle.calllog.specs.Part.{PartAt}
 use Rattle.calllog.specs.declared.reader.Reader.{Reader}
 use Rattle.calllog.proofs.OneAnswer.{Begun, Found}
 use Rattle.calllog.proofs.reader.Reader as T
@@ -147,12 +147,12 @@ module _ {M : Type 1} (𝓤 : URA M) (H : Heap 𝓤) (A : Atoms 𝓤) (W : Given
       nothing ! $ move ! (3 ∷ 0 ∷ []) $ join ! $ use2 W (raw (HandsOut 𝓤 H A at-mem run .pre (to-hand z n))) (goes-hand z n) $ frame ! $ done !
 
   abbrev pub Gives-hand : Reader → ℕ → Val → Item 𝓤
-  Gives-hand z n u = Gave 𝓤 H A W Lent slice (λ p. now p ≡ handedOut (now (z .log)) n) token u
+  Gives-hand z n u = Gave 𝓤 H A W Lent slice (PartAt (z .log) n) token u
 
   pub gives-hand : (z : Reader) (n : ℕ) (u : Val) → ent 𝓤 (HandsOut 𝓤 H A at-mem run .post (to-hand z n) u) (mean 𝓤 H A (Gives-hand z n u))
   gives-hand z n u =
-      gave 𝓤 H A W Lent slice (λ p. now p ≡ handedOut (now (z .log)) n) token (shr-slice-tells (named 0) κ u8) (ensured 𝓤 H A arguments.ended (arguments.clauses 𝓤 H A at-mem run) (κ, tt) (z, (n, tt)) tt)
-      (λ p. exE 𝓤 _ (λ ws. snd∗ 𝓤 (sem 𝓤 H A (lasts arguments.ended (κ, tt) (z, (n, tt)) ws)) (fact 𝓤 (now p ≡ handedOut (now (z .log)) n)))) u
+      gave 𝓤 H A W Lent slice (PartAt (z .log) n) token (shr-slice-tells (named 0) κ u8) (ensured 𝓤 H A arguments.ended (arguments.clauses 𝓤 H A at-mem run) (κ, tt) (z, (n, tt)) tt)
+      (λ p. exE 𝓤 _ (λ ws. snd∗ 𝓤 (sem 𝓤 H A (lasts arguments.ended (κ, tt) (z, (n, tt)) ws)) (fact 𝓤 (PartAt (z .log) n p)))) u
 
   -- ---- `Reader::next`, on a local at l that holds the reader z
   abbrev pub Held : ℕ → Reader → Fml

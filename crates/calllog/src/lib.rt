@@ -3,7 +3,8 @@ use rules::Read;
 ghost use mathlib.Core.Path.{_≡_};
 ghost use Prim.Native.Nat.{_%_, _^_, _<_};
 ghost use lib.ListN.{getD};
-ghost use Rattle.rules.specs.Log.{halfAt, wordAt, readAt, handedOut, argument, moveTo};
+ghost use Rattle.rules.specs.Log.{halfAt, wordAt, readAt, argument, moveTo};
+ghost use Rattle.calllog.specs.Part.{PartAt};
 
 pub mod reader;
 
@@ -73,7 +74,7 @@ pub fn read_at(log: &[u8], at: usize) -> Read
 
 // The sixteen argument bytes from `start` on, as that part of the log; an empty part where sixteen are not there.
 pub fn arguments<'a>(log: &'a [u8], start: usize) -> &'a [u8]
-    ensures { λ r. ⌜ now r ≡ handedOut (now (log .entry)) start ⌝ }
+    ensures { λ r. ⌜ PartAt (log .entry) start r ⌝ }
 {
     let len = log.len();
     if len < start {

@@ -1,7 +1,8 @@
 // The reader: it holds the lent log and its position. Each function over it is thin, above one on the slice and a number.
 use rules::Read;
 ghost use mathlib.Core.Path.{_≡_};
-ghost use Rattle.rules.specs.Log.{readAt, handedOut, moveTo};
+ghost use Rattle.rules.specs.Log.{readAt, moveTo};
+ghost use Rattle.calllog.specs.Part.{PartAt};
 
 // What stands at a position, and the position after it.
 pub struct Step {
@@ -44,7 +45,7 @@ impl<'a> Reader<'a> {
 
     // The sixteen argument bytes of the record whose `start` was found, as that part of the log; an empty part where sixteen are not there.
     pub fn arguments(self, start: usize) -> &'a [u8]
-        ensures { λ r. ⌜ now r ≡ handedOut (now (self .entry .log)) start ⌝ }
+        ensures { λ r. ⌜ PartAt (self .entry .log) start r ⌝ }
     {
         super::arguments(self.log, start)
     }
@@ -66,7 +67,7 @@ pub fn read_next(log: &[u8], at: usize) -> Step
 
 // What a reader of the log hands out from `start` on.
 pub fn read_arguments<'a>(log: &'a [u8], start: usize) -> &'a [u8]
-    ensures { λ r. ⌜ now r ≡ handedOut (now (log .entry)) start ⌝ }
+    ensures { λ r. ⌜ PartAt (log .entry) start r ⌝ }
 {
     Reader { log, at: 0 }.arguments(start)
 }

@@ -1,10 +1,10 @@
 // The text of a replay in a lent buffer. Each function writes at a place and says where the text ends; what does not fit is left off.
 use rules::Answer;
 use rules::Thread;
-ghost use mathlib.Core.Path.{_≡_};
 ghost use mathlib.Core.List.{_∷_, [], _++_};
-ghost use lib.ListN.{length, take};
+ghost use lib.ListN.{length};
 ghost use Rattle.rules.specs.Text.{digits, decimal, space, lineFeed, threadText, lineText, wordText};
+ghost use Rattle.text.specs.Part.{FrontOf};
 ghost use Rattle.text.specs.Put.{PutIn, Put};
 
 // A buffer of text.
@@ -117,9 +117,9 @@ pub fn put_word(out: &mut Text, at: usize, word: &[u8], n: u64) -> usize
     put_byte(out, end, b'\n')
 }
 
-// The first n bytes; all where there are fewer.
+// The first n bytes, as that part; all where there are fewer.
 pub fn front<'a>(bytes: &'a [u8], n: usize) -> &'a [u8]
-    ensures { λ r. ⌜ now r ≡ take n (now (bytes .entry)) ⌝ }
+    ensures { λ r. ⌜ FrontOf (bytes .entry) n r ⌝ }
 {
     if n < bytes.len() {
         return &bytes[..n];

@@ -35,7 +35,7 @@ returns c =
           (read .before .front-arg2 .given .0)
           (end .before .sized .ensures)
           (end .end-of .ensures)
-          (read .front .ensures)
+          (read .front .ensures .bytes)
           (ran .result)
           (ran .ensures .0)
           (c .before .to-front .ensures)

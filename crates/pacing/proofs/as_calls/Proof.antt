@@ -55,5 +55,5 @@ as-calls-spec =
     (λ c. search needs)
     (λ c. search needs)
     (λ c. search needs)
-    (λ c. (search needs, search needs, next-words (c .before .before .before .before .before .before .before .before .before .before .before .args .log .now) (c .before .before .before .before .before .before .before .before .before .before .before .args .calls .now) (c .before .before .before .before .before .before .before .before .before .before .loop .calls) (c .before .before .before .before .before .before .before .before .before .before .loop .k) (c .before .before .before .before .before .before .before .before .before .before .loop .inv .2) (c .before .before .before .before .wide .ensures) (c .before .before .before .before .before .before .read-arguments .ensures) (c .before .before .before .argument .ensures) (c .before .before .argument2 .ensures) (c .before .argument3 .ensures) (c .argument4 .ensures)))
+    (λ c. (search needs, search needs, next-words (c .before .before .before .before .before .before .before .before .before .before .before .args .log .now) (c .before .before .before .before .before .before .before .before .before .before .before .args .calls .now) (c .before .before .before .before .before .before .before .before .before .before .loop .calls) (c .before .before .before .before .before .before .before .before .before .before .loop .k) (c .before .before .before .before .before .before .before .before .before .before .loop .inv .2) (c .before .before .before .before .wide .ensures) (c .before .before .before .before .before .before .read-arguments .ensures .bytes) (c .before .before .before .argument .ensures) (c .before .before .argument2 .ensures) (c .before .argument3 .ensures) (c .argument4 .ensures)))
     (λ c. all-words (c .before .before .args .log .now) (c .before .before .args .calls .now) (c .before .loop .calls) (c .before .loop .k) (c .before .loop .inv .2) (c .before .loop .inv .1) (inr (c .loop-test .left)) (c .before .loop .inv .0)))

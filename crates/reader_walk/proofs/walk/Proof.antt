@@ -214,7 +214,7 @@ module _ {M : Type 1} (𝓤 : URA M) (H : Heap 𝓤) (A : Atoms 𝓤) (W : Given
         assigns ! (agg ! (and-then ! (load ! (from ! (stop !)) (look ! 26 refl)) (and-then ! (load ! (from ! (stop !)) (look ! 24 refl)) (and-then ! (load ! (from ! (stop !)) (look ! 22 refl)) (and-then ! (load ! (from ! (stop !)) (look ! 20 refl)) (and-then ! (load ! (from ! (stop !)) (look ! 18 refl)) (and-then ! (load ! (from ! (stop !)) (look ! 10 refl)) (no-more !)))))))) (from ! (stop !)) (init ! 31 refl (walked-typed (answer r₁ a₁ r₂ a₂ r₃ (z₃ .at)) (answer-is r₁ a₁ r₂ a₂ r₃ (z₃ .at) (f₁ .is) (g₁ .is) (f₂ .is) (g₂ .is) (f₃ .is) (small z₃ (f₃ .ensured .0))))) $
         returns ! (look ! 31 refl) $ forget ! 1 refl $ forget ! 4 refl $ forget ! 6 refl $ forget ! 8 refl $ forget ! 10 refl $ forget ! 12 refl $ forget ! 14 refl $ forget ! 16 refl $ forget ! 18 refl $ forget ! 20 refl $ forget ! 22 refl $ forget ! 24 refl $ forget ! 26 refl $ forget ! 29 refl $ forget ! 31 refl $
         move ! (31 ∷ 32 ∷ []) $ free1 ! $ move ! (29 ∷ 30 ∷ []) $ free1 ! $ move ! (1 ∷ 28 ∷ []) $ free1 ! $ move ! (25 ∷ 26 ∷ []) $ free1 ! $ move ! (23 ∷ 24 ∷ []) $ free1 ! $ move ! (21 ∷ 22 ∷ []) $ free1 ! $ move ! (19 ∷ 20 ∷ []) $ free1 ! $ move ! (17 ∷ 18 ∷ []) $ free1 ! $ move ! (15 ∷ 16 ∷ []) $ free1 ! $ move ! (13 ∷ 14 ∷ []) $ free1 ! $ move ! (11 ∷ 12 ∷ []) $ free1 ! $ move ! (9 ∷ 10 ∷ []) $ free1 ! $ move ! (7 ∷ 8 ∷ []) $ free1 ! $ move ! (5 ∷ 6 ∷ []) $ free1 ! $ move ! (3 ∷ 4 ∷ []) $ free1 ! $ free0 ! $
-        keep ! (0 ∷ 2 ∷ []) $ by ! (exits (answer r₁ a₁ r₂ a₂ r₃ (z₃ .at)) (answer-is r₁ a₁ r₂ a₂ r₃ (z₃ .at) (f₁ .is) (g₁ .is) (f₂ .is) (g₂ .is) (f₃ .is) (small z₃ (f₃ .ensured .0))) (walked-is s (b .ensured) (f₁ .ensured .1) (record { start = m₁ .ensured; part = h₁ .ensured; words = g₁ .ensured }) (f₂ .ensured .1) (record { start = m₂ .ensured; part = h₂ .ensured; words = g₂ .ensured }) (f₃ .ensured .1)))))))))))))))))))))))))))))))))))))))))))))))))))))))))
+        keep ! (0 ∷ 2 ∷ []) $ by ! (exits (answer r₁ a₁ r₂ a₂ r₃ (z₃ .at)) (answer-is r₁ a₁ r₂ a₂ r₃ (z₃ .at) (f₁ .is) (g₁ .is) (f₂ .is) (g₂ .is) (f₃ .is) (small z₃ (f₃ .ensured .0))) (walked-is s (b .ensured) (f₁ .ensured .1) (record { start = m₁ .ensured; part = h₁ .ensured .bytes; words = g₁ .ensured }) (f₂ .ensured .1) (record { start = m₂ .ensured; part = h₂ .ensured .bytes; words = g₂ .ensured }) (f₃ .ensured .1)))))))))))))))))))))))))))))))))))))))))))))))))))))))))
 
 module _ {M : Type 1} (𝓤 : URA M) (H : Heap 𝓤) (A : Atoms 𝓤) (W : Given 𝓤 H A) (mem : Memory → SProp 𝓤) (run : Routine → Fun 𝓤) where
   walk-walks : (C : Calls 𝓤 H) (Λ : Loops 𝓤 H) → FmC 𝓤 H (W .laws) C → Triple 𝓤 (C #new) (New 𝓤 H A mem run) → Triple 𝓤 (C #next) (Next 𝓤 H A mem run) → Triple 𝓤 (C #start-of) (StartOf 𝓤 H A mem run) → Triple 𝓤 (C #arguments) (HandsOut 𝓤 H A mem run) → Triple 𝓤 (C #arguments-in) (ArgumentsIn 𝓤 H A mem run)

@@ -13,4 +13,4 @@ record-call-spec =
     (λ c κs. search needs)
     (λ c κs. search needs)
     (λ c κs. search needs)
-    (λ c. let a = c .before .before .before .before .before .before .args in asked-is (a .log .now) (a .start) (a .number) (c .before .before .before .before .read-arguments .ensures) (c .before .before .before .argument .ensures) (c .before .before .argument2 .ensures) (c .before .argument3 .ensures) (c .argument4 .ensures)))
+    (λ c. let a = c .before .before .before .before .before .before .args in asked-is (a .log .now) (a .start) (a .number) (c .before .before .before .before .read-arguments .ensures .bytes) (c .before .before .before .argument .ensures) (c .before .before .argument2 .ensures) (c .before .argument3 .ensures) (c .argument4 .ensures)))

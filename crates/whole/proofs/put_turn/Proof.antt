@@ -4,7 +4,7 @@ use Rattle.whole.proofs.put_turn.Statement.{statement}
 use Rattle.whole.proofs.put_turn.Tie as tie
 
 returns : tie.Need-returns
-returns c = rw (c .before .before .before .front .ensures) at (c .before .before .put-in .ensures)
+returns c = rw (c .before .before .before .front .ensures .bytes) at (c .before .before .put-in .ensures)
 
 pub put-turn-spec : {M : Type 1} → statement M
 put-turn-spec =

@@ -1,6 +1,6 @@
 -- `calllog::reader::read_arguments` meets its contract: a walk of its MIR, by hand. A `Reader` of the log is made in a local and passed to `arguments` with the start (`Calls`), and what it hands out depends on its log alone. All that the proof knows of `arguments` is that it meets its contract.
 -- Assumes nothing.
-use mathlib.Core.Path.{_≡_, refl, ap}
+use mathlib.Core.Path.{refl, ap}
 use Prim.Native.Nat.{ℕ, _<_, _^_}
 use mathlib.Core.List.{List, [], _∷_}
 use lib.Dec.{lit<}
@@ -25,7 +25,7 @@ use denote.RattleType.{owns}
 use denote.Laws.{Is}
 use denote.Plain.{uint-makes, uint-vals, uint-tells}
 use denote.Builtin.{u8, usize}
-use denote.Ref.{RefT, now}
+use denote.Ref.{RefT}
 use denote.Signature.{plain}
 use denote.Slice.{sliceTy, sliceVal, slice-vals, shr-slice-tells, shr-slice-lawful, shr-slice-copy}
 use denote.Steps.{only, owned, nothing}
@@ -37,7 +37,7 @@ use denote.Triple.Spec.{Meets, tripleOf}
 use denote.Triple.Table.{entered, cited}
 use denote.Triple.Walked.{says, Stays, stay-none, stay-none-slice, walkOf, goes-none, goes-none-slice, Walks, ends-at, walked, walk-meets}
 use denote.Exit.{yes}
-use Rattle.rules.specs.Log.{handedOut}
+use Rattle.calllog.specs.Part.{PartAt}
 use Rattle.calllog.specs.declared.reader.Reader.{Reader}
 use Rattle.calllog.proofs.Calls as c
 use Rattle.calllog.proofs.Calls.{HandsOut, slice}
@@ -82,7 +82,7 @@ module _ {M : Type 1} (𝓤 : URA M) (H : Heap 𝓤) (A : Atoms 𝓤) (W : Given
       nothing ! $ owned ! usize (Is usize) (uint-makes 𝓤 H A W w64) 0 _ (refl, lit< tt) $ fjoin ! $ move ! (1 ∷ 0 ∷ []) $ fjoin ! $
       use1 W (‵ OwnR) (own-shut 𝓤 H A W (T.the-type (c.α 𝓤 H A W at-mem run κ q)) (T′.the-laws (c.α 𝓤 H A W at-mem run κ q)) (s, (0, tt))) $ frame ! $ done !
 
-  exits : (r : RefT (List ℕ)) → now r ≡ handedOut (now s) n → ent 𝓤 (⋆ 𝓤 H A (‵ (flft κ q) ∷ ‵ (c.Lent 𝓤 H A W at-mem run κ q .own r (slice r)) ∷ ‵ Own ∷ [])) (Post (sliceVal (r .ptr) (length (r .now))))
+  exits : (r : RefT (List ℕ)) → PartAt s n r → ent 𝓤 (⋆ 𝓤 H A (‵ (flft κ q) ∷ ‵ (c.Lent 𝓤 H A W at-mem run κ q .own r (slice r)) ∷ ‵ Own ∷ [])) (Post (sliceVal (r .ptr) (length (r .now))))
   exits r e =
       qed W (‵ (flft κ q) ∷ ‵ (c.Lent 𝓤 H A W at-mem run κ q .own r (slice r)) ∷ ‵ Own ∷ []) ∵
       suffices ! _ (ends-at 𝓤 H A read-arguments.ended stayed (read-arguments.clauses 𝓤 H A at-mem run) W (((κ, tt), (q, tt), tt, (s, (n, tt)), at), tt) (sliceVal (r .ptr) (length (r .now))) r (tt, (tt, tt)) (tt, (tt, tt))) $ says ! e $
