@@ -30,11 +30,12 @@ tell_progress() { # WHAT PARTS SINCE
 }
 end_progress() { ! terminal || printf '\r\033[K' >&2; }
 
-# Tells it again, each second on a terminal, else each minute, until it is ended or `tebalung` is gone. It is to hold no lock.
-keep_telling() { # WHAT PARTS SINCE
+# Tells it again, each second on a terminal, else each minute, until it is ended, or `tebalung` or its rt is gone: a signal may be lost on its way to a
+# shell that has just begun, or be ignored. It is to hold no lock.
+keep_telling() { # WHAT PARTS SINCE RT
     nap='' turn=0
     trap 'kill ${nap:+"$nap"} 2>/dev/null; exit 0' TERM
-    while kill -0 $$ 2>/dev/null; do
+    while kill -0 $$ 2>/dev/null && kill -0 "$4" 2>/dev/null; do
         sleep 1 &
         nap=$!
         wait "$nap" 2>/dev/null
@@ -108,7 +109,7 @@ prove() { # WHAT PROGRAM..
     tell_progress "$what" "$parts" "$since"
     (cd -- "${here:-/}" && exec setsid "$rt" check "$@") >"$here/target/front.out" 2>&1 </dev/null &
     builder=$!
-    (exec 9>&- && keep_telling "$what" "$parts" "$since") &
+    (exec 9>&- && keep_telling "$what" "$parts" "$since" "$builder") &
     teller=$!
     wait "$builder"
     status=$?

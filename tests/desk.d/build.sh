@@ -147,7 +147,7 @@ check 'INT while waiting: the other goes on' [ "$(tail -n 6 "$room/out1")" = "$t
 killed() { kill -KILL "$(cut -d ' ' -f 1 "$b/target/front.lock")"; }
 fresh
 (DESK_PAUSE=0.6 "$b/replay" "$sample" >"$room/out1" 2>&1) &
-soon [ -s "$b/target/front.lock" ]
+soon grep -q check "$room/kit/calls"
 killed
 row 'the builder was killed, and its rt goes on: waited for' 0 "$told" 'tebalung: process * builds replay; waiting: *' "$b/replay" "$sample"
 check 'the builder was killed: rt was called once' [ "$(cat "$room/kit/calls")" = 'check replay' ]
@@ -159,6 +159,12 @@ killed
 for process in $(left_running kit | sed 's,/proc/\([0-9]*\)/.*,\1,'); do kill -KILL "-$process" 2>/dev/null; done
 soon unlocked
 row 'a lock of the dead is taken over' 0 "$told" 'tebalung: replay is not built yet; *' "$b/replay" "$sample"
+
+# Who tells of a build is told to end by a signal, and ends without it too.
+# shellcheck disable=SC2016
+deaf() { timeout -k 1 20 sh -c 'trap "" TERM; exec "$0" "$@"' "$@"; }
+fresh
+row 'where TERM is ignored a build ends too' 0 "$told" '?*' deaf "$b/replay" "$sample"
 
 # What cannot be done: one sentence, status 2.
 fresh

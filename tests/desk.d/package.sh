@@ -52,18 +52,20 @@ tried() { # HOW WORD..: the package, called by WORD..
     row "$how: build has nothing to do" 0 'both programs are built: replay and trace' '' "$@" ./tebalung build
     row "$how: package" 2 '' "tebalung: this is a package already: copy $p" "$@" ./tebalung package
 }
-tried 'no environment' env -i
-if can_be_nobody; then tried 'another user' as_nobody env -i; fi
-chmod -R a-w "$p"
-tried 'cannot be written' env -i
-chmod -R u+w "$p"
+if [ "$(uname -m)" = x86_64 ] || have qemu-x86_64; then
+    tried 'no environment' env -i
+    if can_be_nobody; then tried 'another user' as_nobody env -i; fi
+    chmod -R a-w "$p"
+    tried 'cannot be written' env -i
+    chmod -R u+w "$p"
+fi
 # The programs open no library but the package's own.
-if have strace; then
+if [ "$(uname -m)" = x86_64 ] && have strace; then
     strace -e trace=open,openat -o "$room/opened" lib/ld-linux-x86-64.so.2 --library-path lib bin/replay crates/trace/data/sample.log >/dev/null 2>&1
     check 'no library of the system is opened' [ "$(sed -n 's/.*"\(.*\.so[.0-9]*\)".*= [0-9].*/\1/p' "$room/opened")" = lib/libc.so.6 ]
 fi
 # A system that has busybox alone, and no C library.
-static() { have busybox unshare chroot && ! ldd "$(command -v busybox)" >/dev/null 2>&1; }
+static() { [ "$(uname -m)" = x86_64 ] && have busybox unshare chroot && ! ldd "$(command -v busybox)" >/dev/null 2>&1; }
 if can_be_nobody && static; then
     r=$room/root
     mkdir -p "$r/bin" "$r/proc" "$r/dev" "$r/tmp"
@@ -82,6 +84,6 @@ if can_be_nobody && static; then
         missing 'a root of its own'
     fi
 else
-    missing 'a static busybox'
+    missing 'an x86-64 processor with a static busybox'
 fi
 mv "$room/away" "$desk"

@@ -32,6 +32,14 @@ for shell in sh dash bash 'bash --posix' 'busybox sh'; do
     rm -f "$room/written"
 done
 
+# A tee that does not tell that it could not write.
+if have busybox; then
+    mkdir -p "$room/tee"
+    ln -sf "$(command -v busybox)" "$room/tee/tee"
+    row 'busybox tee: replay' 0 "$told" '' env PATH="$room/tee:$PATH" "$desk/replay" "$sample"
+    row 'busybox tee: a full disk' 2 '' 'tebalung: standard output: no space left on the device' full env PATH="$room/tee:$PATH" "$desk/replay" "$sample"
+fi
+
 for awk in mawk gawk 'gawk --posix' original-awk 'busybox awk'; do
     command -v "${awk%% *}" >/dev/null || { missing "$awk"; continue; }
     use_awk "$awk"
@@ -48,4 +56,4 @@ done
 mkdir -p "$room/few"
 for word in sh cat tee tail readlink tr sed uname find; do ln -sf "$(command -v "$word")" "$room/few/$word"; done
 row 'no awk' 2 '' 'tebalung: awk is not there, and explain needs it' env PATH="$room/few" "$desk/explain" "$sample"
-row 'no awk, but replay needs none' 0 "$told" '' env PATH="$room/few" "$desk/replay" "$sample"
+row 'no awk, but replay needs none' 0 "$told" '' env RATTLE_HOME="$room/kit" PATH="$room/few" "$desk/replay" "$sample"

@@ -15,7 +15,11 @@ row '-o over a file that is another'\''s' 2 '' "tebalung: $room/mine: cannot be 
 chmod -R a-w "$desk"
 row 'a checkout that cannot be written, and is built' 0 "$told" '' as_nobody "$desk/replay" "$sample"
 chmod -R u+w "$desk"
-row 'no kit, and the checkout is built' 0 "$told" '' as_nobody env -i PATH="$room/tools" "$desk/replay" "$sample"
+if [ -x /lib64/ld-linux-x86-64.so.2 ]; then
+    row 'no kit, and the checkout is built' 0 "$told" '' as_nobody env -i PATH="$room/tools" "$desk/replay" "$sample"
+else
+    missing 'a loader for x86-64 programs'
+fi
 row '--version by a second user' 0 'tebalung *' '' as_nobody "$desk/tebalung" --version
 clone b
 chmod -R a+rX "$room/b"
