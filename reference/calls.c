@@ -2,46 +2,47 @@
 #include "calls.h"
 
 #include <stddef.h>
+#include <string.h>
 
 const struct call_form call_forms[CALLS] = {
     { 0x00, "create task", { "priority" }, "0246" },
-    { 0x01, "delete task", { "task" }, "02345" },
-    { 0x02, "set priority", { "task", "priority" }, "02345" },
+    { 0x01, "delete task", { "task" }, "023b45" },
+    { 0x02, "set priority", { "task", "priority" }, "023b45" },
     { 0x03, "yield", { NULL }, "0249" },
     { 0x04, "end task", { NULL }, "02459" },
     { 0x05, "sleep", { "ticks" }, "02459" },
-    { 0x06, "last result", { "task" }, "034" },
+    { 0x06, "last result", { "task" }, "03b4" },
 
     { 0x10, "create Swi", { "priority", "trigger" }, "0246" },
-    { 0x11, "delete Swi", { "Swi" }, "02345" },
-    { 0x12, "post Swi", { "Swi" }, "034" },
-    { 0x13, "add one and post", { "Swi" }, "034" },
-    { 0x14, "take one and post if 0", { "Swi" }, "034" },
-    { 0x15, "set bits and post", { "Swi", "mask" }, "034" },
-    { 0x16, "clear bits and post if 0", { "Swi", "mask" }, "034" },
+    { 0x11, "delete Swi", { "Swi" }, "023b45" },
+    { 0x12, "post Swi", { "Swi" }, "03b4" },
+    { 0x13, "add one and post", { "Swi" }, "03b4" },
+    { 0x14, "take one and post if 0", { "Swi" }, "03b4" },
+    { 0x15, "set bits and post", { "Swi", "mask" }, "03b4" },
+    { 0x16, "clear bits and post if 0", { "Swi", "mask" }, "03b4" },
     { 0x17, "end Swi", { NULL }, "0249" },
     { 0x18, "taken trigger", { NULL }, "024" },
 
     { 0x20, "create semaphore", { "kind", "count" }, "0246" },
-    { 0x21, "delete semaphore", { "semaphore" }, "02345" },
-    { 0x22, "pend semaphore", { "semaphore", "limit" }, "023459" },
-    { 0x23, "post semaphore", { "semaphore" }, "0347" },
-    { 0x24, "reset semaphore", { "semaphore", "count" }, "02345" },
+    { 0x21, "delete semaphore", { "semaphore" }, "023b45" },
+    { 0x22, "pend semaphore", { "semaphore", "limit" }, "023b459" },
+    { 0x23, "post semaphore", { "semaphore" }, "03b47" },
+    { 0x24, "reset semaphore", { "semaphore", "count" }, "023b45" },
 
     { 0x30, "create event", { NULL }, "0246" },
-    { 0x31, "delete event", { "event" }, "02345" },
-    { 0x32, "pend event", { "event", "and-mask", "or-mask", "limit" }, "023459" },
-    { 0x33, "post event", { "event", "mask" }, "034" },
+    { 0x31, "delete event", { "event" }, "023b45" },
+    { 0x32, "pend event", { "event", "and-mask", "or-mask", "limit" }, "023b459" },
+    { 0x33, "post event", { "event", "mask" }, "03b4" },
 
     { 0x40, "create mailbox", { "capacity" }, "0246" },
-    { 0x41, "delete mailbox", { "mailbox" }, "02345" },
-    { 0x42, "post mailbox", { "mailbox", "word", "limit" }, "023459" },
-    { 0x43, "pend mailbox", { "mailbox", "limit" }, "023459" },
+    { 0x41, "delete mailbox", { "mailbox" }, "023b45" },
+    { 0x42, "post mailbox", { "mailbox", "word", "limit" }, "023b459" },
+    { 0x43, "pend mailbox", { "mailbox", "limit" }, "023b459" },
 
-    { 0x50, "create clock", { "Swi", "first ticks", "period" }, "02346" },
-    { 0x51, "delete clock", { "clock" }, "0234" },
-    { 0x52, "start clock", { "clock" }, "034" },
-    { 0x53, "stop clock", { "clock" }, "034" },
+    { 0x50, "create clock", { "Swi", "first ticks", "period" }, "023b46" },
+    { 0x51, "delete clock", { "clock" }, "023b4" },
+    { 0x52, "start clock", { "clock" }, "03b4" },
+    { 0x53, "stop clock", { "clock" }, "03b4" },
 
     { 0x60, "take", { "bytes" }, "0248" },
     { 0x61, "give back", { "offset", "bytes" }, "024" },
@@ -61,6 +62,11 @@ const struct call_form *form_of(uint32_t number)
         if (call_forms[i].number == number)
             return &call_forms[i];
     return NULL;
+}
+
+int can_give(const struct call_form *form, uint32_t code)
+{
+    return strchr(form->codes, "0123456789ab"[code]) != NULL;
 }
 
 void print_call(FILE *file, const struct call *call)

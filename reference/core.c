@@ -1,7 +1,7 @@
 /*
- * The call core. Each call checks in the order of the codes; what passes its checks is carried out at once, in place. The dispatch rule follows
- * each accepted call that can give it something to do. After the others nothing is left to do: at depth 0 they move no task and post no Swi, and
- * they turn no switch on.
+ * The call core. Each call checks in the order of document 01's table of codes; what passes its checks is carried out at once, in place. The
+ * dispatch rule follows each accepted call that can give it something to do. After the others nothing is left to do: at depth 0 they move no task
+ * and post no Swi, and they turn no switch on.
  */
 #include "core.h"
 
@@ -27,6 +27,15 @@ static inline struct answer now_waiting(void)
 static inline struct answer refused(enum code code)
 {
     return (struct answer){ .code = (uint16_t)code, .outcome = DONE, .value = 0 };
+}
+
+/* No object in use has that number: it is outside its table, or inside and free. The value names the table. */
+static inline struct answer absent(enum table table, uint32_t number)
+{
+    static const uint8_t size[] = { [TASK_TABLE] = TASKS,   [SWI_TABLE] = SWIS,          [SEMAPHORE_TABLE] = SEMAPHORES,
+                                    [EVENT_TABLE] = EVENTS, [MAILBOX_TABLE] = MAILBOXES, [CLOCK_TABLE] = CLOCKS };
+
+    return (struct answer){ .code = number < size[table] ? OBJECT_NOT_IN_USE : OUTSIDE_TABLE, .outcome = DONE, .value = table };
 }
 
 /* Sets of numbers */
@@ -254,7 +263,7 @@ static struct answer task_delete(struct tables *t, uint32_t number, uint32_t b, 
     if (!in_task(t))
         return refused(WRONG_CONTEXT);
     if (!in_use(t->tasks_in_use, number, TASKS))
-        return refused(NO_SUCH_OBJECT);
+        return absent(TASK_TABLE, number);
     if ((b | c | d) != 0)
         return refused(BAD_ARGUMENT);
     task = &t->task[number];
@@ -273,7 +282,7 @@ static struct answer task_set_priority(struct tables *t, uint32_t number, uint32
     if (in_interrupt(t))
         return refused(WRONG_CONTEXT);
     if (!in_use(t->tasks_in_use, number, TASKS))
-        return refused(NO_SUCH_OBJECT);
+        return absent(TASK_TABLE, number);
     if (!is_task_priority(priority) || (c | d) != 0)
         return refused(BAD_ARGUMENT);
     task = &t->task[number];
@@ -345,7 +354,7 @@ static struct answer task_sleep(struct tables *t, uint32_t ticks, uint32_t b, ui
 static struct answer task_last_result(struct tables *t, uint32_t number, uint32_t b, uint32_t c, uint32_t d)
 {
     if (!in_use(t->tasks_in_use, number, TASKS))
-        return refused(NO_SUCH_OBJECT);
+        return absent(TASK_TABLE, number);
     if ((b | c | d) != 0)
         return refused(BAD_ARGUMENT);
     return (struct answer){ .code = ACCEPTED, .outcome = t->task[number].outcome, .value = t->task[number].value };
@@ -382,7 +391,7 @@ static struct answer swi_delete(struct tables *t, uint32_t number, uint32_t b, u
     if (!in_task(t))
         return refused(WRONG_CONTEXT);
     if (!in_use(t->swis_in_use, number, SWIS))
-        return refused(NO_SUCH_OBJECT);
+        return absent(SWI_TABLE, number);
     if ((b | c | d) != 0)
         return refused(BAD_ARGUMENT);
     /* A task runs only while no Swi is active. */
@@ -396,7 +405,7 @@ static struct answer swi_delete(struct tables *t, uint32_t number, uint32_t b, u
 static struct answer swi_post(struct tables *t, uint32_t number, uint32_t b, uint32_t c, uint32_t d)
 {
     if (!in_use(t->swis_in_use, number, SWIS))
-        return refused(NO_SUCH_OBJECT);
+        return absent(SWI_TABLE, number);
     if ((b | c | d) != 0)
         return refused(BAD_ARGUMENT);
     post_swi(t, number);
@@ -406,7 +415,7 @@ static struct answer swi_post(struct tables *t, uint32_t number, uint32_t b, uin
 static struct answer swi_add_one(struct tables *t, uint32_t number, uint32_t b, uint32_t c, uint32_t d)
 {
     if (!in_use(t->swis_in_use, number, SWIS))
-        return refused(NO_SUCH_OBJECT);
+        return absent(SWI_TABLE, number);
     if ((b | c | d) != 0)
         return refused(BAD_ARGUMENT);
     t->swi[number].trigger++;
@@ -417,7 +426,7 @@ static struct answer swi_add_one(struct tables *t, uint32_t number, uint32_t b, 
 static struct answer swi_take_one(struct tables *t, uint32_t number, uint32_t b, uint32_t c, uint32_t d)
 {
     if (!in_use(t->swis_in_use, number, SWIS))
-        return refused(NO_SUCH_OBJECT);
+        return absent(SWI_TABLE, number);
     if ((b | c | d) != 0)
         return refused(BAD_ARGUMENT);
     if (--t->swi[number].trigger != 0)
@@ -429,7 +438,7 @@ static struct answer swi_take_one(struct tables *t, uint32_t number, uint32_t b,
 static struct answer swi_set_bits(struct tables *t, uint32_t number, uint32_t mask, uint32_t c, uint32_t d)
 {
     if (!in_use(t->swis_in_use, number, SWIS))
-        return refused(NO_SUCH_OBJECT);
+        return absent(SWI_TABLE, number);
     if ((c | d) != 0)
         return refused(BAD_ARGUMENT);
     t->swi[number].trigger |= mask;
@@ -440,7 +449,7 @@ static struct answer swi_set_bits(struct tables *t, uint32_t number, uint32_t ma
 static struct answer swi_clear_bits(struct tables *t, uint32_t number, uint32_t mask, uint32_t c, uint32_t d)
 {
     if (!in_use(t->swis_in_use, number, SWIS))
-        return refused(NO_SUCH_OBJECT);
+        return absent(SWI_TABLE, number);
     if ((c | d) != 0)
         return refused(BAD_ARGUMENT);
     t->swi[number].trigger &= ~mask;
@@ -505,7 +514,7 @@ static struct answer semaphore_delete(struct tables *t, uint32_t number, uint32_
     if (!in_task(t))
         return refused(WRONG_CONTEXT);
     if (!in_use(t->semaphores_in_use, number, SEMAPHORES))
-        return refused(NO_SUCH_OBJECT);
+        return absent(SEMAPHORE_TABLE, number);
     if ((b | c | d) != 0)
         return refused(BAD_ARGUMENT);
     if (!nobody_in(t, HEAD_OF_SEMAPHORE + number))
@@ -523,7 +532,7 @@ static struct answer semaphore_pend(struct tables *t, uint32_t number, uint32_t 
     if (limit != 0 && !in_task(t))
         return refused(WRONG_CONTEXT);
     if (!in_use(t->semaphores_in_use, number, SEMAPHORES))
-        return refused(NO_SUCH_OBJECT);
+        return absent(SEMAPHORE_TABLE, number);
     if ((c | d) != 0)
         return refused(BAD_ARGUMENT);
     semaphore = &t->semaphore[number];
@@ -557,7 +566,7 @@ static struct answer semaphore_post(struct tables *t, uint32_t number, uint32_t 
     struct semaphore *semaphore;
 
     if (!in_use(t->semaphores_in_use, number, SEMAPHORES))
-        return refused(NO_SUCH_OBJECT);
+        return absent(SEMAPHORE_TABLE, number);
     if ((b | c | d) != 0)
         return refused(BAD_ARGUMENT);
     if (!nobody_in(t, HEAD_OF_SEMAPHORE + number)) {
@@ -580,7 +589,7 @@ static struct answer semaphore_reset(struct tables *t, uint32_t number, uint32_t
     if (!in_task(t))
         return refused(WRONG_CONTEXT);
     if (!in_use(t->semaphores_in_use, number, SEMAPHORES))
-        return refused(NO_SUCH_OBJECT);
+        return absent(SEMAPHORE_TABLE, number);
     if (!is_count(t->semaphore[number].kind, count) || (c | d) != 0)
         return refused(BAD_ARGUMENT);
     if (!nobody_in(t, HEAD_OF_SEMAPHORE + number))
@@ -621,7 +630,7 @@ static struct answer event_delete(struct tables *t, uint32_t number, uint32_t b,
     if (!in_task(t))
         return refused(WRONG_CONTEXT);
     if (!in_use(t->events_in_use, number, EVENTS))
-        return refused(NO_SUCH_OBJECT);
+        return absent(EVENT_TABLE, number);
     if ((b | c | d) != 0)
         return refused(BAD_ARGUMENT);
     if (t->event[number].waiter != 0)
@@ -639,7 +648,7 @@ static struct answer event_pend(struct tables *t, uint32_t number, uint32_t and_
     if (limit != 0 && !in_task(t))
         return refused(WRONG_CONTEXT);
     if (!in_use(t->events_in_use, number, EVENTS))
-        return refused(NO_SUCH_OBJECT);
+        return absent(EVENT_TABLE, number);
     if ((and_mask | or_mask) == 0)
         return refused(BAD_ARGUMENT);
     event = &t->event[number];
@@ -677,7 +686,7 @@ static struct answer event_post(struct tables *t, uint32_t number, uint32_t mask
     uint32_t waiter, matched;
 
     if (!in_use(t->events_in_use, number, EVENTS))
-        return refused(NO_SUCH_OBJECT);
+        return absent(EVENT_TABLE, number);
     if ((c | d) != 0)
         return refused(BAD_ARGUMENT);
     event = &t->event[number];
@@ -733,7 +742,7 @@ static struct answer mailbox_delete(struct tables *t, uint32_t number, uint32_t 
     if (!in_task(t))
         return refused(WRONG_CONTEXT);
     if (!in_use(t->mailboxes_in_use, number, MAILBOXES))
-        return refused(NO_SUCH_OBJECT);
+        return absent(MAILBOX_TABLE, number);
     if ((b | c | d) != 0)
         return refused(BAD_ARGUMENT);
     if (!nobody_in(t, HEAD_OF_MAILBOX + number) || t->mailbox[number].count != 0)
@@ -751,7 +760,7 @@ static struct answer mailbox_post(struct tables *t, uint32_t number, uint32_t wo
     if (limit != 0 && !in_task(t))
         return refused(WRONG_CONTEXT);
     if (!in_use(t->mailboxes_in_use, number, MAILBOXES))
-        return refused(NO_SUCH_OBJECT);
+        return absent(MAILBOX_TABLE, number);
     if (d != 0)
         return refused(BAD_ARGUMENT);
     mailbox = &t->mailbox[number];
@@ -783,7 +792,7 @@ static struct answer mailbox_pend(struct tables *t, uint32_t number, uint32_t li
     if (limit != 0 && !in_task(t))
         return refused(WRONG_CONTEXT);
     if (!in_use(t->mailboxes_in_use, number, MAILBOXES))
-        return refused(NO_SUCH_OBJECT);
+        return absent(MAILBOX_TABLE, number);
     if ((c | d) != 0)
         return refused(BAD_ARGUMENT);
     mailbox = &t->mailbox[number];
@@ -818,7 +827,7 @@ static struct answer clock_create(struct tables *t, uint32_t swi, uint32_t first
     if (!in_task(t))
         return refused(WRONG_CONTEXT);
     if (!in_use(t->swis_in_use, swi, SWIS))
-        return refused(NO_SUCH_OBJECT);
+        return absent(SWI_TABLE, swi);
     if (first == 0 || d != 0)
         return refused(BAD_ARGUMENT);
     if (is_full(t->clocks_in_use, CLOCKS))
@@ -834,7 +843,7 @@ static struct answer clock_delete(struct tables *t, uint32_t number, uint32_t b,
     if (!in_task(t))
         return refused(WRONG_CONTEXT);
     if (!in_use(t->clocks_in_use, number, CLOCKS))
-        return refused(NO_SUCH_OBJECT);
+        return absent(CLOCK_TABLE, number);
     if ((b | c | d) != 0)
         return refused(BAD_ARGUMENT);
     t->clock[number] = (struct clock){ .swi = 0 };
@@ -846,7 +855,7 @@ static struct answer clock_delete(struct tables *t, uint32_t number, uint32_t b,
 static struct answer clock_start(struct tables *t, uint32_t number, uint32_t b, uint32_t c, uint32_t d)
 {
     if (!in_use(t->clocks_in_use, number, CLOCKS))
-        return refused(NO_SUCH_OBJECT);
+        return absent(CLOCK_TABLE, number);
     if ((b | c | d) != 0)
         return refused(BAD_ARGUMENT);
     t->clock[number].ticks_left = t->clock[number].first;
@@ -857,7 +866,7 @@ static struct answer clock_start(struct tables *t, uint32_t number, uint32_t b, 
 static struct answer clock_stop(struct tables *t, uint32_t number, uint32_t b, uint32_t c, uint32_t d)
 {
     if (!in_use(t->clocks_in_use, number, CLOCKS))
-        return refused(NO_SUCH_OBJECT);
+        return absent(CLOCK_TABLE, number);
     if ((b | c | d) != 0)
         return refused(BAD_ARGUMENT);
     t->clock[number].ticks_left = 0;

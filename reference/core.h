@@ -82,11 +82,13 @@ enum call_number {
     TICK
 };
 
+/* In the order of the checks. With OUTSIDE_TABLE and OBJECT_NOT_IN_USE the value names the table, with any other refusal it is 0. */
 enum code {
     ACCEPTED = 0,
     UNKNOWN_CALL = 1,
     WRONG_CONTEXT = 2,
-    NO_SUCH_OBJECT = 3,
+    OUTSIDE_TABLE = 3,
+    OBJECT_NOT_IN_USE = 11,
     BAD_ARGUMENT = 4,
     STATE_FORBIDS = 5,
     TABLE_FULL = 6,
@@ -94,6 +96,9 @@ enum code {
     NO_HEAP_ROOM = 8,
     SWITCH_IS_OFF = 9
 };
+
+/* The tables of objects, as a value names them. */
+enum table { TASK_TABLE = 1, SWI_TABLE, SEMAPHORE_TABLE, EVENT_TABLE, MAILBOX_TABLE, CLOCK_TABLE };
 
 enum outcome { DONE = 0, NOT_MET = 1, NOW_WAITING = 2 };
 

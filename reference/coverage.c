@@ -1,6 +1,17 @@
 /* Counts what a run of calls reached: the codes of each call, and the deep states. */
 #include "coverage.h"
+#include "objects.h"
 #include "states.h"
+
+#include <string.h>
+
+/* Of each table, the set of the numbers that were in use at some time since the tables were fresh. */
+static uint32_t made[CLOCK_TABLE + 1];
+
+void coverage_fresh(void)
+{
+    memset(made, 0, sizeof made);
+}
 
 static void at_least(enum most which, uint32_t number)
 {
@@ -205,13 +216,37 @@ static void note_heap(const struct tables *before, const struct tables *after, c
     note(HOLE_CLOSED, first > 0 && !is_taken(before, first - 1) && last + 1 < UNITS && !is_taken(before, last + 1));
 }
 
+/* Of a call that takes an object number. */
+static void note_object(const struct tables *before, const struct call_form *form, const struct call *call, uint32_t code)
+{
+    uint32_t table = table_of(form), size = table_size(table), number = call->argument[0];
+    int is_there = number < size && (table_in_use(before, table) >> number & 1) != 0, is_spoilt = 0;
+
+    for (unsigned i = 1; i < 4; i++)
+        is_spoilt |= form->argument[i] == NULL && call->argument[i] != 0;
+    note(CONTEXT_BEFORE_OBJECT, code == WRONG_CONTEXT && !is_there);
+    note(OBJECT_BEFORE_ARGUMENT, (code == OUTSIDE_TABLE || code == OBJECT_NOT_IN_USE) && is_spoilt);
+    note(ONE_PAST_TABLE, code == OUTSIDE_TABLE && number == size);
+    note(FAR_OUTSIDE_TABLE, code == OUTSIDE_TABLE && number == 4294967295u);
+    if (code != OBJECT_NOT_IN_USE)
+        return;
+    note(LAST_NUMBER_FREE, number == size - 1);
+    note(NEVER_MADE, (made[table] >> number & 1) == 0);
+    note(DELETED, (made[table] >> number & 1) != 0);
+}
+
 void coverage_note(const struct tables *before, const struct tables *after, const struct call *call, struct answer answer)
 {
+    const struct call_form *form = form_of(call->number);
     uint32_t number = call->number, a = call->argument[0];
     int swi_started;
 
     coverage.calls++;
     coverage.pair[number & 255][answer.code]++;
+    for (uint32_t table = TASK_TABLE; table <= CLOCK_TABLE; table++)
+        made[table] |= table_in_use(before, table);
+    if (form != NULL && table_of(form) != 0)
+        note_object(before, form, call, answer.code);
     if (number == HEAP_TAKE || number == HEAP_GIVE_BACK)
         note_heap(before, after, call, answer);
     if (answer.code == STATE_FORBIDS)

@@ -5,6 +5,9 @@
 #include "calls.h"
 #include "core.h"
 
+/* Fresh tables: no object was made so far. */
+void coverage_fresh(void);
+
 /* Notes one call: the tables before and after it, and its answer. */
 void coverage_note(const struct tables *before, const struct tables *after, const struct call *call, struct answer answer);
 

@@ -53,7 +53,7 @@ static void check_row(struct tables *t, const char *name, size_t number, const s
     }
 }
 
-/* Each code that each call of the kind can give is in the table, and so is an unknown number. */
+/* Each code that each call of the kind can give is in the table, and no other. */
 static void check_codes(unsigned which)
 {
     const char *name = tables_by_name[which]->name;
@@ -66,14 +66,15 @@ static void check_codes(unsigned which)
 
         if (form == NULL)
             continue;
-        for (const char *code = form->codes; *code != '\0'; code++) {
+        for (uint32_t code = 0; code < CODES; code++) {
             size_t i = 0;
 
             while (i < tables_by_name[which]->rows
-                   && (tables_by_name[which]->row[i].call != number || tables_by_name[which]->row[i].code != (uint32_t)(*code - '0')))
+                   && (tables_by_name[which]->row[i].call != number || tables_by_name[which]->row[i].code != code))
                 i++;
-            if (i == tables_by_name[which]->rows) {
-                fprintf(stderr, "kinds: %s: call %02lX never gives code %c\n", name, (unsigned long)number, *code);
+            if (can_give(form, code) != (i < tables_by_name[which]->rows)) {
+                fprintf(stderr, "kinds: %s: call %02lX %s code %lu\n", name, (unsigned long)number,
+                        can_give(form, code) ? "never gives" : "cannot give", (unsigned long)code);
                 faults++;
             }
         }

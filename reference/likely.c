@@ -1,6 +1,7 @@
 /* Calls with arguments that the tables make likely to be accepted. */
 #include "chance.h"
 #include "likely.h"
+#include "objects.h"
 #include "sight.h"
 
 struct call call_of(uint32_t number, uint32_t a, uint32_t b, uint32_t c, uint32_t d)
@@ -249,7 +250,7 @@ struct call likely(struct maker *m, uint32_t number)
         argument[1] = mask(m);
         break;
     case MAILBOX_CREATE:
-        argument[0] = 1 + below(m, chance(m, 60) ? 3 : 8);
+        argument[0] = chance(m, 25) ? MESSAGES : 1 + below(m, chance(m, 60) ? 3 : MESSAGES);
         break;
     case MAILBOX_DELETE:
         argument[0] = object(m, t->mailboxes_in_use, MAILBOXES);
@@ -307,6 +308,56 @@ struct call any(struct maker *m)
     if (in_task(m) && (!m->tables.swis_on || !m->tables.tasks_on) && chance(m, 20))
         return likely(m, chance(m, 50) ? SWIS_RESTORE : TASKS_RESTORE);
     return likely(m, call_forms[below(m, CALLS)].number);
+}
+
+/* A number that no object of the table has. */
+static uint32_t absent_number(struct maker *m, uint32_t table)
+{
+    uint32_t size = table_size(table), in_use = table_in_use(&m->tables, table);
+    uint32_t unused = ~in_use & FULL >> (32 - size), deleted = unused & m->made[table];
+
+    switch (below(m, 8)) {
+    case 0:
+    case 1:
+        return size;
+    case 2:
+        return in_use != 0 ? size + member(m, in_use) : FULL; /* an object's number if it went round */
+    case 3:
+        return FULL - below(m, 2);
+    case 4:
+        return (unused & bit(size - 1)) != 0 ? size - 1 : size;
+    case 5:
+        return unused != 0 ? member(m, unused) : size;
+    default:
+        return deleted != 0 ? member(m, deleted) : size;
+    }
+}
+
+/* A call that takes an object's number: of that table, or of any if it is 0. */
+static struct call on_object(struct maker *m, uint32_t table)
+{
+    const struct call_form *form;
+
+    do
+        form = &call_forms[below(m, CALLS)];
+    while (table_of(form) == 0 || (table != 0 && table_of(form) != table));
+    return likely(m, form->number);
+}
+
+struct call absent_call(struct maker *m)
+{
+    struct call call = on_object(m, 0);
+
+    call.argument[0] = absent_number(m, table_of(form_of(call.number)));
+    return call;
+}
+
+struct call deleted_call(struct maker *m)
+{
+    struct call call = on_object(m, m->deleted_from);
+
+    call.argument[0] = m->deleted;
+    return call;
 }
 
 struct call wild_call(struct maker *m)

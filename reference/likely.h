@@ -37,6 +37,12 @@ struct call likely(struct maker *m, uint32_t number);
 /* Any call, those rarely refused for their context rather more often. */
 struct call any(struct maker *m);
 
+/* A call on an object that is not there: deleted, never made, or a number outside its table. */
+struct call absent_call(struct maker *m);
+
+/* A call on the object that the last call deleted. */
+struct call deleted_call(struct maker *m);
+
 /* Any number as call or argument. */
 struct call wild_call(struct maker *m);
 

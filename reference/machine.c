@@ -4,24 +4,41 @@
 /* Swi 0: priority 3. Swi 1: priority 7. Clock 0: Swi 0, first 2, period 3. Clock 1: Swi 1, first 3, once. Clock 2: Swi 0, as long as can be. */
 static const struct row clocks[] = {
     { 0x54, 0, 0, 0, 0, 1, 0, 0, "T0", 0 },
-    { CLOCK_CREATE, 0, 1, 0, 0, 3, 0, 0, "T0", 0 },         /* there is no Swi 0 */
-    { CLOCK_CREATE, 16, 1, 0, 0, 3, 0, 0, "T0", 0 },
+    { CLOCK_CREATE, 0, 1, 0, 0, 11, 0, 2, "T0", 0 },        /* there is no Swi 0: Swis are table 2 */
+    { CLOCK_CREATE, 15, 1, 0, 0, 11, 0, 2, "T0", 0 },
+    { CLOCK_CREATE, 16, 1, 0, 0, 3, 0, 2, "T0", 0 },
+    { CLOCK_CREATE, F, 1, 0, 0, 3, 0, 2, "T0", 0 },
     { SWI_CREATE, 3, 0, 0, 0, 0, 0, 0, "T0", 0 },
     { SWI_CREATE, 7, 0, 0, 0, 0, 0, 1, "T0", 0 },
     { CLOCK_CREATE, 0, 0, 1, 0, 4, 0, 0, "T0", 0 },         /* first ticks from 1 */
     { CLOCK_CREATE, 0, 1, 0, 1, 4, 0, 0, "T0", 0 },
-    { CLOCK_CREATE, 2, 0, 0, 0, 3, 0, 0, "T0", 0 },         /* 3 before 4 */
+    { CLOCK_CREATE, 16, 0, 0, 0, 3, 0, 2, "T0", 0 },        /* 3 before 4 */
+    { CLOCK_CREATE, 17, 1, 0, 0, 3, 0, 2, "T0", 0 },        /* 16 + 1, and there is a Swi 1 */
+    { CLOCK_CREATE, 2, 0, 0, 0, 11, 0, 2, "T0", 0 },        /* 11 before 4 */
     { CLOCK_CREATE, 0, 2, 3, 0, 0, 0, 0, "T0", 0 },
     { CLOCK_CREATE, 1, 3, 0, 0, 0, 0, 1, "T0", 0 },
     { CLOCK_CREATE, 0, F, F, 0, 0, 0, 2, "T0", 0 },
-    { CLOCK_START, 16, 0, 0, 0, 3, 0, 0, "T0", 0 },
-    { CLOCK_START, 3, 1, 0, 0, 3, 0, 0, "T0", 0 },
+    { CLOCK_CREATE, 2, 1, 0, 0, 11, 0, 2, "T0", 0 },        /* there is a clock 2, but no Swi 2 */
+    { CLOCK_START, 16, 0, 0, 0, 3, 0, 6, "T0", 0 },         /* outside its table, table 6 */
+    { CLOCK_START, 17, 0, 0, 0, 3, 0, 6, "T0", 0 },         /* 16 + 1, and there is a clock 1 */
+    { CLOCK_START, F, 0, 0, 0, 3, 0, 6, "T0", 0 },
+    { CLOCK_START, 16, 1, 0, 0, 3, 0, 6, "T0", 0 },         /* 3 before 4 */
+    { CLOCK_START, 3, 1, 0, 0, 11, 0, 6, "T0", 0 },         /* inside it, not in use; 11 before 4 */
+    { CLOCK_START, 15, 0, 0, 0, 11, 0, 6, "T0", 0 },
     { CLOCK_START, 0, 1, 0, 0, 4, 0, 0, "T0", 0 },
-    { CLOCK_STOP, 16, 0, 0, 0, 3, 0, 0, "T0", 0 },
-    { CLOCK_STOP, 3, 0, 0, 0, 3, 0, 0, "T0", 0 },
+    { CLOCK_STOP, 16, 0, 0, 0, 3, 0, 6, "T0", 0 },
+    { CLOCK_STOP, F, 0, 0, 0, 3, 0, 6, "T0", 0 },
+    { CLOCK_STOP, 16, 0, 1, 0, 3, 0, 6, "T0", 0 },
+    { CLOCK_STOP, 3, 0, 0, 0, 11, 0, 6, "T0", 0 },
+    { CLOCK_STOP, 15, 0, 0, 0, 11, 0, 6, "T0", 0 },
+    { CLOCK_STOP, 15, 0, 1, 0, 11, 0, 6, "T0", 0 },
     { CLOCK_STOP, 0, 0, 1, 0, 4, 0, 0, "T0", 0 },
-    { CLOCK_DELETE, 16, 0, 0, 0, 3, 0, 0, "T0", 0 },
-    { CLOCK_DELETE, 3, 0, 0, 0, 3, 0, 0, "T0", 0 },
+    { CLOCK_DELETE, 16, 0, 0, 0, 3, 0, 6, "T0", 0 },
+    { CLOCK_DELETE, F, 0, 0, 0, 3, 0, 6, "T0", 0 },
+    { CLOCK_DELETE, 16, 0, 0, 1, 3, 0, 6, "T0", 0 },
+    { CLOCK_DELETE, 3, 0, 0, 0, 11, 0, 6, "T0", 0 },
+    { CLOCK_DELETE, 15, 0, 0, 0, 11, 0, 6, "T0", 0 },
+    { CLOCK_DELETE, 15, 0, 0, 1, 11, 0, 6, "T0", 0 },
     { CLOCK_DELETE, 0, 0, 0, 1, 4, 0, 0, "T0", 0 },
     { INTERRUPT_IN, 0, 0, 0, 0, 0, 0, 0, "I", 0 },
     { TICK, 0, 0, 0, 0, 0, 0, 0, "I", 4 },                  /* the clocks are stopped */
@@ -40,12 +57,27 @@ static const struct row clocks[] = {
     { CLOCK_START, 1, 0, 0, 0, 0, 0, 0, "I", 0 },           /* 3 again */
     { CLOCK_CREATE, 0, 1, 0, 0, 2, 0, 0, "I", 0 },
     { CLOCK_CREATE, 16, 0, 0, 0, 2, 0, 0, "I", 0 },         /* 2 before 3 and 4 */
+    { CLOCK_CREATE, 15, 0, 0, 0, 2, 0, 0, "I", 0 },         /* 2 before 11 and 4 */
     { CLOCK_DELETE, 0, 0, 0, 0, 2, 0, 0, "I", 0 },
+    { CLOCK_DELETE, 16, 0, 0, 0, 2, 0, 0, "I", 0 },
+    { CLOCK_DELETE, 15, 0, 0, 0, 2, 0, 0, "I", 0 },
+    { CLOCK_START, 16, 0, 0, 0, 3, 0, 6, "I", 0 },
+    { CLOCK_START, 15, 0, 0, 0, 11, 0, 6, "I", 0 },
+    { CLOCK_STOP, 16, 0, 0, 0, 3, 0, 6, "I", 0 },
+    { CLOCK_STOP, 15, 0, 0, 0, 11, 0, 6, "I", 0 },
     { INTERRUPT_OUT, 0, 0, 0, 0, 0, 0, 0, "S1", 0 },        /* above Swi 0 */
     { CLOCK_STOP, 1, 0, 0, 0, 0, 0, 0, "S1", 0 },
     { CLOCK_START, 2, 0, 0, 0, 0, 0, 0, "S1", 0 },
     { CLOCK_CREATE, 0, 1, 0, 0, 2, 0, 0, "S1", 0 },
+    { CLOCK_CREATE, 16, 1, 0, 0, 2, 0, 0, "S1", 0 },
+    { CLOCK_CREATE, 15, 1, 0, 0, 2, 0, 0, "S1", 0 },
     { CLOCK_DELETE, 0, 0, 0, 0, 2, 0, 0, "S1", 0 },
+    { CLOCK_DELETE, 16, 0, 0, 0, 2, 0, 0, "S1", 0 },
+    { CLOCK_DELETE, 15, 0, 0, 0, 2, 0, 0, "S1", 0 },
+    { CLOCK_START, 16, 0, 0, 0, 3, 0, 6, "S1", 0 },
+    { CLOCK_START, 15, 0, 0, 0, 11, 0, 6, "S1", 0 },
+    { CLOCK_STOP, 16, 0, 0, 0, 3, 0, 6, "S1", 0 },
+    { CLOCK_STOP, 15, 0, 0, 0, 11, 0, 6, "S1", 0 },
     { SWI_END, 0, 0, 0, 0, 0, 0, 0, "S0", 0 },
     { SWI_END, 0, 0, 0, 0, 0, 0, 0, "T0", 0 },
     { INTERRUPT_IN, 0, 0, 0, 0, 0, 0, 0, "I", 0 },
@@ -63,9 +95,9 @@ static const struct row clocks[] = {
     { INTERRUPT_OUT, 0, 0, 0, 0, 0, 0, 0, "T0", 0 },        /* a stopped clock posts nothing */
     { CLOCK_START, 0, 0, 0, 0, 0, 0, 0, "T0", 0 },
     { CLOCK_DELETE, 0, 0, 0, 0, 0, 0, 0, "T0", 0 },         /* running */
-    { CLOCK_DELETE, 0, 0, 0, 0, 3, 0, 0, "T0", 0 },
-    { CLOCK_START, 0, 0, 0, 0, 3, 0, 0, "T0", 0 },
-    { CLOCK_STOP, 0, 0, 0, 0, 3, 0, 0, "T0", 0 },
+    { CLOCK_DELETE, 0, 0, 0, 0, 11, 0, 6, "T0", 0 },        /* deleted */
+    { CLOCK_START, 0, 0, 0, 0, 11, 0, 6, "T0", 0 },
+    { CLOCK_STOP, 0, 0, 0, 0, 11, 0, 6, "T0", 0 },
     { INTERRUPT_IN, 0, 0, 0, 0, 0, 0, 0, "I", 0 },
     { TICK, 0, 0, 0, 0, 0, 0, 0, "I", 3 },
     { INTERRUPT_OUT, 0, 0, 0, 0, 0, 0, 0, "T0", 0 },
@@ -87,10 +119,20 @@ static const struct row clocks[] = {
     { INTERRUPT_OUT, 0, 0, 0, 0, 0, 0, 0, "S3", 0 },
     { SWI_END, 0, 0, 0, 0, 0, 0, 0, "S2", 0 },
     { SWI_END, 0, 0, 0, 0, 0, 0, 0, "T0", 0 },
+    { SWI_CREATE, 5, 0, 0, 0, 0, 0, 4, "T0", 0 },
+    { SWI_DELETE, 4, 0, 0, 0, 0, 0, 0, "T0", 0 },
+    { CLOCK_CREATE, 4, 1, 0, 0, 11, 0, 2, "T0", 0 },        /* Swi 4 is deleted, clock 4 is in use */
     { CLOCK_CREATE, 0, 1, 0, 0, 0, 0, 5, "T0", RISING + 11 }, /* 5 to 15 */
     { CLOCK_CREATE, 0, 1, 0, 0, 6, 0, 0, "T0", 0 },
     { CLOCK_CREATE, 0, 0, 0, 0, 4, 0, 0, "T0", 0 },         /* 4 before 6 */
-    { CLOCK_CREATE, 9, 1, 0, 0, 3, 0, 0, "T0", 0 },         /* 3 before 6 */
+    { CLOCK_CREATE, 16, 1, 0, 0, 3, 0, 2, "T0", 0 },        /* 3 before 6 */
+    { CLOCK_CREATE, 9, 1, 0, 0, 11, 0, 2, "T0", 0 },        /* 11 before 6 */
+    { CLOCK_CREATE, 4, 1, 0, 0, 11, 0, 2, "T0", 0 },
+    { CLOCK_START, 16, 0, 0, 0, 3, 0, 6, "T0", 0 },         /* all 16 are in use */
+    { CLOCK_DELETE, 15, 0, 0, 0, 0, 0, 0, "T0", 0 },
+    { CLOCK_DELETE, 15, 0, 0, 0, 11, 0, 6, "T0", 0 },       /* the last number, deleted */
+    { CLOCK_START, 15, 0, 0, 0, 11, 0, 6, "T0", 0 },
+    { CLOCK_STOP, 15, 0, 0, 0, 11, 0, 6, "T0", 0 },
 };
 
 const struct named_table clocks_table = TABLE(clocks, 0x50);
@@ -248,13 +290,13 @@ static const struct row switches[] = {
 
 const struct named_table switches_table = TABLE(switches, 0x70);
 
-/* The replay that document 01 prints. */
+/* The replay that document 01 prints, its fifth line as No. 2 amends it. */
 static const struct row five[] = {
     { TASK_CREATE, 5, 0, 0, 0, 0, 0, 1, "T1", 0 },
     { SEMAPHORE_CREATE, 0, 0, 0, 0, 0, 0, 0, "T1", 0 },
     { SEMAPHORE_PEND, 0, F, 0, 0, 0, 2, 0, "T0", 0 },
     { SEMAPHORE_POST, 0, 0, 0, 0, 0, 0, 1, "T1", 0 },
-    { SEMAPHORE_POST, 7, 0, 0, 0, 3, 0, 0, "T1", 0 },
+    { SEMAPHORE_POST, 7, 0, 0, 0, 11, 0, 3, "T1", 0 },
 };
 
 const struct named_table five_table = TABLE(five, 0x100);

@@ -2,6 +2,7 @@
 #include "chance.h"
 #include "likely.h"
 #include "maker.h"
+#include "objects.h"
 #include "sight.h"
 #include "steps.h"
 
@@ -168,14 +169,35 @@ static void spoil(struct maker *m, struct call *call)
     } while (chance(m, 35));
 }
 
+/* What the last call made or deleted. */
+static void look_back(struct maker *m)
+{
+    m->deleted_from = 0;
+    for (uint32_t table = TASK_TABLE; table <= CLOCK_TABLE; table++) {
+        uint32_t in_use = table_in_use(&m->tables, table), deleted = m->in_use[table] & ~in_use;
+
+        if (deleted != 0) {
+            m->deleted_from = table;
+            m->deleted = (uint32_t)__builtin_ctz(deleted);
+        }
+        m->in_use[table] = in_use;
+        m->made[table] |= in_use;
+    }
+}
+
 struct call maker_next(struct maker *m)
 {
     struct call call;
 
+    look_back(m);
     if (m->steps_left == 0)
         choose_phase(m);
     m->steps_left--;
-    if (chance(m, m->style->stray))
+    if (m->deleted_from != 0 && chance(m, 10))
+        call = deleted_call(m);
+    else if (chance(m, 1))
+        call = absent_call(m);
+    else if (chance(m, m->style->stray))
         call = chance(m, 20) ? likely(m, in_swi(m) ? SWI_TAKEN_TRIGGER : TASK_LAST_RESULT) : any(m);
     else
         call = phase_step(m);

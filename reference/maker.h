@@ -16,6 +16,9 @@ struct maker {
     unsigned descending;       /* whether the phase is past its goal */
     uint32_t levels;           /* new tasks get a priority from 1 to this */
     unsigned endless;          /* of 100 waits begun in this phase, those without limit */
+    uint32_t in_use[CLOCK_TABLE + 1];  /* of each table, the set of the numbers in use before the last call */
+    uint32_t made[CLOCK_TABLE + 1];    /* and of those that were in use at some time */
+    uint32_t deleted_from, deleted;    /* the table and the number of the object that the last call deleted; table 0 if it deleted none */
 };
 
 /* The style is chosen by the seed. */

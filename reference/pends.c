@@ -19,10 +19,19 @@ static const struct row semaphores[] = {
     { SEMAPHORE_POST, 1, 0, 0, 0, 0, 0, 0, "T0", 0 },       /* stays 1 */
     { SEMAPHORE_PEND, 1, 0, 0, 0, 0, 0, 0, "T0", 0 },
     { SEMAPHORE_PEND, 1, 0, 0, 0, 0, 1, 0, "T0", 0 },       /* it was 1, not 2 */
-    { SEMAPHORE_POST, 16, 0, 0, 0, 3, 0, 0, "T0", 0 },
-    { SEMAPHORE_POST, 4, 1, 0, 0, 3, 0, 0, "T0", 0 },
-    { SEMAPHORE_PEND, 16, 0, 0, 0, 3, 0, 0, "T0", 0 },
-    { SEMAPHORE_PEND, 4, F, 0, 1, 3, 0, 0, "T0", 0 },
+    { SEMAPHORE_POST, 16, 0, 0, 0, 3, 0, 3, "T0", 0 },      /* outside its table, table 3 */
+    { SEMAPHORE_POST, 17, 0, 0, 0, 3, 0, 3, "T0", 0 },      /* 16 + 1, and there is a semaphore 1 */
+    { SEMAPHORE_POST, F, 0, 0, 0, 3, 0, 3, "T0", 0 },
+    { SEMAPHORE_POST, 16, 1, 0, 0, 3, 0, 3, "T0", 0 },      /* 3 before 4 */
+    { SEMAPHORE_POST, 4, 1, 0, 0, 11, 0, 3, "T0", 0 },      /* inside it, not in use; 11 before 4 */
+    { SEMAPHORE_POST, 15, 0, 0, 0, 11, 0, 3, "T0", 0 },
+    { SEMAPHORE_PEND, 16, 0, 0, 0, 3, 0, 3, "T0", 0 },
+    { SEMAPHORE_PEND, F, 0, 0, 0, 3, 0, 3, "T0", 0 },
+    { SEMAPHORE_PEND, 16, F, 0, 0, 3, 0, 3, "T0", 0 },      /* not 5, though task 0 names a limit */
+    { SEMAPHORE_PEND, 16, F, 0, 1, 3, 0, 3, "T0", 0 },
+    { SEMAPHORE_PEND, 4, F, 0, 1, 11, 0, 3, "T0", 0 },
+    { SEMAPHORE_PEND, 15, 0, 0, 0, 11, 0, 3, "T0", 0 },
+    { SEMAPHORE_PEND, 15, F, 0, 0, 11, 0, 3, "T0", 0 },     /* not 5 here too */
     { SEMAPHORE_PEND, 1, 0, 1, 0, 4, 0, 0, "T0", 0 },
     { SEMAPHORE_PEND, 1, F, 0, 1, 4, 0, 0, "T0", 0 },       /* 4 before 5 */
     { SEMAPHORE_PEND, 1, F, 0, 0, 5, 0, 0, "T0", 0 },       /* task 0 would wait */
@@ -30,8 +39,11 @@ static const struct row semaphores[] = {
     { SEMAPHORE_PEND, 0, 5, 0, 0, 0, 0, 0, "T0", 0 },       /* done at once */
     { SEMAPHORE_RESET, 0, 65536, 0, 0, 4, 0, 0, "T0", 0 },
     { SEMAPHORE_RESET, 1, 2, 0, 0, 4, 0, 0, "T0", 0 },
-    { SEMAPHORE_RESET, 16, 0, 0, 0, 3, 0, 0, "T0", 0 },
-    { SEMAPHORE_RESET, 4, 65536, 0, 0, 3, 0, 0, "T0", 0 },
+    { SEMAPHORE_RESET, 16, 0, 0, 0, 3, 0, 3, "T0", 0 },
+    { SEMAPHORE_RESET, F, 0, 0, 0, 3, 0, 3, "T0", 0 },
+    { SEMAPHORE_RESET, 16, 65536, 0, 0, 3, 0, 3, "T0", 0 }, /* 3 before 4 */
+    { SEMAPHORE_RESET, 4, 65536, 0, 0, 11, 0, 3, "T0", 0 }, /* 11 before 4 */
+    { SEMAPHORE_RESET, 15, 0, 0, 0, 11, 0, 3, "T0", 0 },
     { SEMAPHORE_RESET, 0, 0, 1, 0, 4, 0, 0, "T0", 0 },
     { SEMAPHORE_RESET, 0, 0, 0, 0, 0, 0, 0, "T0", 0 },
     { SEMAPHORE_PEND, 0, 0, 0, 0, 0, 1, 0, "T0", 0 },
@@ -70,18 +82,28 @@ static const struct row semaphores[] = {
     { SEMAPHORE_POST, 3, 0, 0, 0, 0, 0, 0, "I", 0 },        /* nobody: count 1 */
     { SEMAPHORE_PEND, 3, 1, 0, 0, 2, 0, 0, "I", 0 },        /* a limit outside a task, though there is a count */
     { SEMAPHORE_PEND, 16, F, 0, 0, 2, 0, 0, "I", 0 },       /* 2 before 3 */
-    { SEMAPHORE_PEND, 16, 0, 0, 0, 3, 0, 0, "I", 0 },
+    { SEMAPHORE_PEND, 15, F, 0, 0, 2, 0, 0, "I", 0 },       /* 2 before 11 */
+    { SEMAPHORE_PEND, 16, 0, 0, 0, 3, 0, 3, "I", 0 },
+    { SEMAPHORE_PEND, 15, 0, 0, 0, 11, 0, 3, "I", 0 },
+    { SEMAPHORE_POST, 16, 0, 0, 0, 3, 0, 3, "I", 0 },
+    { SEMAPHORE_POST, 15, 0, 0, 0, 11, 0, 3, "I", 0 },
     { SEMAPHORE_PEND, 3, 0, 0, 0, 0, 0, 0, "I", 0 },
     { SEMAPHORE_PEND, 3, 0, 0, 0, 0, 1, 0, "I", 0 },
     { SEMAPHORE_CREATE, 0, 0, 0, 0, 2, 0, 0, "I", 0 },
     { SEMAPHORE_DELETE, 1, 0, 0, 0, 2, 0, 0, "I", 0 },
+    { SEMAPHORE_DELETE, 16, 0, 0, 0, 2, 0, 0, "I", 0 },
+    { SEMAPHORE_DELETE, 15, 0, 0, 0, 2, 0, 0, "I", 0 },
     { SEMAPHORE_RESET, 1, 0, 0, 0, 2, 0, 0, "I", 0 },
+    { SEMAPHORE_RESET, 16, 0, 0, 0, 2, 0, 0, "I", 0 },
+    { SEMAPHORE_RESET, 15, 0, 0, 0, 2, 0, 0, "I", 0 },
     { SEMAPHORE_POST, 0, 0, 0, 0, 0, 0, 1, "I", 0 },        /* task 4, line 1 5 */
     { INTERRUPT_OUT, 0, 0, 0, 0, 0, 0, 0, "T3", 0 },        /* 15: 3, 5: 2, 4: 4 */
     { TASK_LAST_RESULT, 2, 0, 0, 0, 0, 1, 0, "T3", 0 },
     { TASK_LAST_RESULT, 3, 0, 0, 0, 0, 0, 0, "T3", 0 },
     { TASKS_OFF, 0, 0, 0, 0, 0, 0, 1, "T3", 0 },
     { SEMAPHORE_PEND, 1, F, 0, 0, 9, 0, 0, "T3", 0 },
+    { SEMAPHORE_PEND, 16, F, 0, 0, 3, 0, 3, "T3", 0 },      /* not 9 */
+    { SEMAPHORE_PEND, 15, F, 0, 0, 11, 0, 3, "T3", 0 },
     { SEMAPHORE_PEND, 1, 0, 0, 0, 0, 1, 0, "T3", 0 },
     { SEMAPHORE_POST, 1, 0, 0, 0, 0, 0, 0, "T3", 0 },
     { SEMAPHORE_PEND, 1, F, 0, 0, 0, 0, 0, "T3", 0 },       /* no wait begins */
@@ -90,14 +112,19 @@ static const struct row semaphores[] = {
     { SEMAPHORE_PEND, 1, 3, 0, 0, 9, 0, 0, "T3", 0 },
     { SEMAPHORE_PEND, 1, 3, 1, 0, 4, 0, 0, "T3", 0 },       /* 4 before 9 */
     { SWIS_RESTORE, 1, 0, 0, 0, 0, 0, 0, "T3", 0 },
-    { SEMAPHORE_DELETE, 16, 0, 0, 0, 3, 0, 0, "T3", 0 },
-    { SEMAPHORE_DELETE, 4, 0, 0, 0, 3, 0, 0, "T3", 0 },
+    { SEMAPHORE_DELETE, 16, 0, 0, 0, 3, 0, 3, "T3", 0 },
+    { SEMAPHORE_DELETE, F, 0, 0, 0, 3, 0, 3, "T3", 0 },
+    { SEMAPHORE_DELETE, 16, 1, 0, 0, 3, 0, 3, "T3", 0 },
+    { SEMAPHORE_DELETE, 4, 0, 0, 0, 11, 0, 3, "T3", 0 },
+    { SEMAPHORE_DELETE, 15, 0, 0, 0, 11, 0, 3, "T3", 0 },
+    { SEMAPHORE_DELETE, 15, 1, 0, 0, 11, 0, 3, "T3", 0 },
     { SEMAPHORE_DELETE, 1, 1, 0, 0, 4, 0, 0, "T3", 0 },
     { SEMAPHORE_DELETE, 1, 0, 0, 0, 0, 0, 0, "T3", 0 },
-    { SEMAPHORE_DELETE, 1, 0, 0, 0, 3, 0, 0, "T3", 0 },
-    { SEMAPHORE_POST, 1, 0, 0, 0, 3, 0, 0, "T3", 0 },
-    { SEMAPHORE_PEND, 1, 0, 0, 0, 3, 0, 0, "T3", 0 },
-    { SEMAPHORE_RESET, 1, 0, 0, 0, 3, 0, 0, "T3", 0 },
+    { SEMAPHORE_DELETE, 1, 0, 0, 0, 11, 0, 3, "T3", 0 },    /* deleted */
+    { SEMAPHORE_POST, 1, 0, 0, 0, 11, 0, 3, "T3", 0 },
+    { SEMAPHORE_PEND, 1, 0, 0, 0, 11, 0, 3, "T3", 0 },
+    { SEMAPHORE_PEND, 1, F, 0, 0, 11, 0, 3, "T3", 0 },
+    { SEMAPHORE_RESET, 1, 0, 0, 0, 11, 0, 3, "T3", 0 },
     { SEMAPHORE_CREATE, 1, 0, 0, 0, 0, 0, 1, "T3", 0 },
     { SEMAPHORE_POST, 0, 0, 0, 0, 0, 0, 1, "T3", 0 },       /* task 1 at 3 */
     { SEMAPHORE_POST, 0, 0, 0, 0, 0, 0, 1, "T3", 0 },       /* task 5: 15: 3 5 */
@@ -110,16 +137,32 @@ static const struct row semaphores[] = {
     { SWI_CREATE, 0, 0, 0, 0, 0, 0, 0, "T3", 0 },
     { SWI_POST, 0, 0, 0, 0, 0, 0, 0, "S0", 0 },
     { SEMAPHORE_PEND, 0, 1, 0, 0, 2, 0, 0, "S0", 0 },
+    { SEMAPHORE_PEND, 16, 1, 0, 0, 2, 0, 0, "S0", 0 },
+    { SEMAPHORE_PEND, 15, 1, 0, 0, 2, 0, 0, "S0", 0 },
+    { SEMAPHORE_PEND, 16, 0, 0, 0, 3, 0, 3, "S0", 0 },
+    { SEMAPHORE_PEND, 15, 0, 0, 0, 11, 0, 3, "S0", 0 },
+    { SEMAPHORE_POST, 16, 0, 0, 0, 3, 0, 3, "S0", 0 },
+    { SEMAPHORE_POST, 15, 0, 0, 0, 11, 0, 3, "S0", 0 },
     { SEMAPHORE_PEND, 0, 0, 0, 0, 0, 1, 0, "S0", 0 },
     { SEMAPHORE_POST, 0, 0, 0, 0, 0, 0, 0, "S0", 0 },
     { SEMAPHORE_PEND, 0, 0, 0, 0, 0, 0, 0, "S0", 0 },
     { SEMAPHORE_CREATE, 0, 0, 0, 0, 2, 0, 0, "S0", 0 },
     { SEMAPHORE_DELETE, 0, 0, 0, 0, 2, 0, 0, "S0", 0 },
+    { SEMAPHORE_DELETE, 16, 0, 0, 0, 2, 0, 0, "S0", 0 },
+    { SEMAPHORE_DELETE, 15, 0, 0, 0, 2, 0, 0, "S0", 0 },
     { SEMAPHORE_RESET, 0, 0, 0, 0, 2, 0, 0, "S0", 0 },
+    { SEMAPHORE_RESET, 16, 0, 0, 0, 2, 0, 0, "S0", 0 },
+    { SEMAPHORE_RESET, 15, 0, 0, 0, 2, 0, 0, "S0", 0 },
     { SWI_END, 0, 0, 0, 0, 0, 0, 0, "T3", 0 },
     { SEMAPHORE_CREATE, 3, 1, 0, 0, 0, 0, 4, "T3", RISING + 12 }, /* 4 to 15 */
     { SEMAPHORE_CREATE, 3, 1, 0, 0, 6, 0, 0, "T3", 0 },
     { SEMAPHORE_CREATE, 4, 0, 0, 0, 4, 0, 0, "T3", 0 },     /* 4 before 6 */
+    { SEMAPHORE_POST, 16, 0, 0, 0, 3, 0, 3, "T3", 0 },      /* all 16 are in use */
+    { SEMAPHORE_DELETE, 15, 0, 0, 0, 0, 0, 0, "T3", 0 },
+    { SEMAPHORE_DELETE, 15, 0, 0, 0, 11, 0, 3, "T3", 0 },   /* the last number, deleted */
+    { SEMAPHORE_PEND, 15, F, 0, 0, 11, 0, 3, "T3", 0 },
+    { SEMAPHORE_POST, 15, 0, 0, 0, 11, 0, 3, "T3", 0 },
+    { SEMAPHORE_RESET, 15, 1, 0, 0, 11, 0, 3, "T3", 0 },
 };
 
 const struct named_table semaphores_table = TABLE(semaphores, 0x20);
@@ -129,12 +172,21 @@ static const struct row events[] = {
     { EVENT_CREATE, 1, 0, 0, 0, 4, 0, 0, "T0", 0 },
     { EVENT_CREATE, 0, 0, 0, 0, 0, 0, 0, "T0", 0 },
     { EVENT_CREATE, 0, 0, 0, 0, 0, 0, 1, "T0", 0 },
-    { EVENT_POST, 8, 1, 0, 0, 3, 0, 0, "T0", 0 },
-    { EVENT_POST, 2, 1, 1, 0, 3, 0, 0, "T0", 0 },
+    { EVENT_POST, 8, 1, 0, 0, 3, 0, 4, "T0", 0 },           /* outside its table, table 4 */
+    { EVENT_POST, 9, 1, 0, 0, 3, 0, 4, "T0", 0 },           /* 8 + 1, and there is an event 1 */
+    { EVENT_POST, F, 1, 0, 0, 3, 0, 4, "T0", 0 },
+    { EVENT_POST, 8, 1, 1, 0, 3, 0, 4, "T0", 0 },           /* 3 before 4 */
+    { EVENT_POST, 2, 1, 1, 0, 11, 0, 4, "T0", 0 },          /* inside it, not in use; 11 before 4 */
+    { EVENT_POST, 7, 1, 0, 0, 11, 0, 4, "T0", 0 },
     { EVENT_POST, 0, 1, 1, 0, 4, 0, 0, "T0", 0 },
     { EVENT_POST, 0, 1, 0, 1, 4, 0, 0, "T0", 0 },
-    { EVENT_PEND, 8, 1, 0, 0, 3, 0, 0, "T0", 0 },
-    { EVENT_PEND, 2, 0, 0, 0, 3, 0, 0, "T0", 0 },           /* 3 before 4 */
+    { EVENT_PEND, 8, 1, 0, 0, 3, 0, 4, "T0", 0 },
+    { EVENT_PEND, F, 1, 0, 0, 3, 0, 4, "T0", 0 },
+    { EVENT_PEND, 8, 0, 0, 0, 3, 0, 4, "T0", 0 },           /* 3 before 4 */
+    { EVENT_PEND, 8, 1, 0, F, 3, 0, 4, "T0", 0 },           /* not 5, though task 0 names a limit */
+    { EVENT_PEND, 2, 0, 0, 0, 11, 0, 4, "T0", 0 },          /* 11 before 4 */
+    { EVENT_PEND, 7, 1, 0, 0, 11, 0, 4, "T0", 0 },
+    { EVENT_PEND, 7, 1, 0, F, 11, 0, 4, "T0", 0 },
     { EVENT_PEND, 0, 0, 0, 0, 4, 0, 0, "T0", 0 },           /* both masks 0 */
     { EVENT_PEND, 0, 0, 0, F, 4, 0, 0, "T0", 0 },
     { EVENT_POST, 0, 5, 0, 0, 0, 0, 0, "T0", 0 },           /* bits 101 */
@@ -153,6 +205,8 @@ static const struct row events[] = {
     { TASK_CREATE, 5, 0, 0, 0, 0, 0, 1, "T1", 0 },
     { TASKS_OFF, 0, 0, 0, 0, 0, 0, 1, "T1", 0 },
     { EVENT_PEND, 0, 1, 0, F, 9, 0, 0, "T1", 0 },
+    { EVENT_PEND, 8, 1, 0, F, 3, 0, 4, "T1", 0 },           /* not 9 */
+    { EVENT_PEND, 7, 1, 0, F, 11, 0, 4, "T1", 0 },
     { EVENT_PEND, 0, 1, 0, 0, 0, 1, 0, "T1", 0 },
     { EVENT_POST, 0, 1, 0, 0, 0, 0, 0, "T1", 0 },
     { EVENT_PEND, 0, 1, 0, F, 0, 0, 1, "T1", 0 },
@@ -184,10 +238,17 @@ static const struct row events[] = {
     { EVENT_POST, 0, 9, 0, 0, 0, 0, 0, "I", 0 },            /* it is the waiter no more */
     { EVENT_PEND, 0, 1, 8, 1, 2, 0, 0, "I", 0 },
     { EVENT_PEND, 9, 0, 0, 1, 2, 0, 0, "I", 0 },            /* 2 before 3 and 4 */
+    { EVENT_PEND, 7, 0, 0, 1, 2, 0, 0, "I", 0 },            /* 2 before 11 and 4 */
+    { EVENT_PEND, 8, 1, 0, 0, 3, 0, 4, "I", 0 },
+    { EVENT_PEND, 7, 1, 0, 0, 11, 0, 4, "I", 0 },
+    { EVENT_POST, 8, 1, 0, 0, 3, 0, 4, "I", 0 },
+    { EVENT_POST, 7, 1, 0, 0, 11, 0, 4, "I", 0 },
     { EVENT_PEND, 0, 1, 8, 0, 0, 0, 9, "I", 0 },            /* both masks */
     { EVENT_PEND, 0, 1, 8, 0, 0, 1, 0, "I", 0 },
     { EVENT_CREATE, 0, 0, 0, 0, 2, 0, 0, "I", 0 },
     { EVENT_DELETE, 0, 0, 0, 0, 2, 0, 0, "I", 0 },
+    { EVENT_DELETE, 8, 0, 0, 0, 2, 0, 0, "I", 0 },
+    { EVENT_DELETE, 7, 0, 0, 0, 2, 0, 0, "I", 0 },
     { EVENT_PEND, 1, 1, 0, 0, 5, 0, 0, "I", 0 },            /* task 1 waits there */
     { EVENT_POST, 1, 6, 0, 0, 0, 0, 1, "I", 0 },            /* matched 010, 100 is left */
     { INTERRUPT_OUT, 0, 0, 0, 0, 0, 0, 0, "T1", 0 },
@@ -196,19 +257,32 @@ static const struct row events[] = {
     { SWI_CREATE, 1, 0, 0, 0, 0, 0, 0, "T1", 0 },
     { SWI_POST, 0, 0, 0, 0, 0, 0, 0, "S0", 0 },
     { EVENT_PEND, 1, 4, 0, 5, 2, 0, 0, "S0", 0 },
+    { EVENT_PEND, 8, 4, 0, 5, 2, 0, 0, "S0", 0 },
+    { EVENT_PEND, 7, 4, 0, 5, 2, 0, 0, "S0", 0 },
+    { EVENT_PEND, 8, 4, 0, 0, 3, 0, 4, "S0", 0 },
+    { EVENT_PEND, 7, 4, 0, 0, 11, 0, 4, "S0", 0 },
+    { EVENT_POST, 8, 1, 0, 0, 3, 0, 4, "S0", 0 },
+    { EVENT_POST, 7, 1, 0, 0, 11, 0, 4, "S0", 0 },
     { EVENT_PEND, 1, 4, 0, 0, 0, 0, 4, "S0", 0 },
     { EVENT_PEND, 1, 4, 0, 0, 0, 1, 0, "S0", 0 },
     { EVENT_POST, 1, 1, 0, 0, 0, 0, 0, "S0", 0 },
     { EVENT_CREATE, 0, 0, 0, 0, 2, 0, 0, "S0", 0 },
     { EVENT_DELETE, 1, 0, 0, 0, 2, 0, 0, "S0", 0 },
+    { EVENT_DELETE, 8, 0, 0, 0, 2, 0, 0, "S0", 0 },
+    { EVENT_DELETE, 7, 0, 0, 0, 2, 0, 0, "S0", 0 },
     { SWI_END, 0, 0, 0, 0, 0, 0, 0, "T1", 0 },
-    { EVENT_DELETE, 8, 0, 0, 0, 3, 0, 0, "T1", 0 },
-    { EVENT_DELETE, 2, 0, 0, 0, 3, 0, 0, "T1", 0 },
+    { EVENT_DELETE, 8, 0, 0, 0, 3, 0, 4, "T1", 0 },
+    { EVENT_DELETE, F, 0, 0, 0, 3, 0, 4, "T1", 0 },
+    { EVENT_DELETE, 8, 1, 0, 0, 3, 0, 4, "T1", 0 },
+    { EVENT_DELETE, 2, 0, 0, 0, 11, 0, 4, "T1", 0 },
+    { EVENT_DELETE, 7, 0, 0, 0, 11, 0, 4, "T1", 0 },
+    { EVENT_DELETE, 7, 0, 0, 1, 11, 0, 4, "T1", 0 },
     { EVENT_DELETE, 1, 0, 0, 1, 4, 0, 0, "T1", 0 },
     { EVENT_DELETE, 1, 0, 0, 0, 0, 0, 0, "T1", 0 },         /* posted bits forbid no delete */
-    { EVENT_DELETE, 1, 0, 0, 0, 3, 0, 0, "T1", 0 },
-    { EVENT_POST, 1, 1, 0, 0, 3, 0, 0, "T1", 0 },
-    { EVENT_PEND, 1, 1, 0, 0, 3, 0, 0, "T1", 0 },
+    { EVENT_DELETE, 1, 0, 0, 0, 11, 0, 4, "T1", 0 },        /* deleted */
+    { EVENT_POST, 1, 1, 0, 0, 11, 0, 4, "T1", 0 },
+    { EVENT_PEND, 1, 1, 0, 0, 11, 0, 4, "T1", 0 },
+    { EVENT_PEND, 1, 1, 0, F, 11, 0, 4, "T1", 0 },
     { EVENT_CREATE, 0, 0, 0, 0, 0, 0, 1, "T1", 0 },
     { EVENT_PEND, 1, 0, F, 0, 0, 1, 0, "T1", 0 },           /* without bits */
     { EVENT_POST, 1, F, 0, 0, 0, 0, 0, "T1", 0 },
@@ -216,6 +290,11 @@ static const struct row events[] = {
     { EVENT_CREATE, 0, 0, 0, 0, 0, 0, 2, "T1", RISING + 6 }, /* 2 to 7 */
     { EVENT_CREATE, 0, 0, 0, 0, 6, 0, 0, "T1", 0 },
     { EVENT_CREATE, 0, 1, 0, 0, 4, 0, 0, "T1", 0 },
+    { EVENT_POST, 8, 1, 0, 0, 3, 0, 4, "T1", 0 },           /* all 8 are in use */
+    { EVENT_DELETE, 7, 0, 0, 0, 0, 0, 0, "T1", 0 },
+    { EVENT_DELETE, 7, 0, 0, 0, 11, 0, 4, "T1", 0 },        /* the last number, deleted */
+    { EVENT_PEND, 7, 1, 0, F, 11, 0, 4, "T1", 0 },
+    { EVENT_POST, 7, 1, 0, 0, 11, 0, 4, "T1", 0 },
 };
 
 const struct named_table events_table = TABLE(events, 0x30);
@@ -229,11 +308,21 @@ static const struct row mailboxes[] = {
     { MAILBOX_CREATE, 2, 0, 0, 0, 0, 0, 0, "T0", 0 },
     { MAILBOX_CREATE, 8, 0, 0, 0, 0, 0, 1, "T0", 0 },
     { MAILBOX_CREATE, 1, 0, 0, 0, 0, 0, 2, "T0", 0 },
-    { MAILBOX_POST, 8, 7, 0, 0, 3, 0, 0, "T0", 0 },
-    { MAILBOX_POST, 3, 7, 0, 1, 3, 0, 0, "T0", 0 },
+    { MAILBOX_POST, 8, 7, 0, 0, 3, 0, 5, "T0", 0 },         /* outside its table, table 5 */
+    { MAILBOX_POST, 9, 7, 0, 0, 3, 0, 5, "T0", 0 },         /* 8 + 1, and there is a mailbox 1 */
+    { MAILBOX_POST, F, 7, 0, 0, 3, 0, 5, "T0", 0 },
+    { MAILBOX_POST, 8, 7, 0, 1, 3, 0, 5, "T0", 0 },         /* 3 before 4 */
+    { MAILBOX_POST, 3, 7, 0, 1, 11, 0, 5, "T0", 0 },        /* inside it, not in use; 11 before 4 */
+    { MAILBOX_POST, 7, 7, 0, 0, 11, 0, 5, "T0", 0 },
+    { MAILBOX_POST, 7, 7, F, 0, 11, 0, 5, "T0", 0 },
     { MAILBOX_POST, 0, 7, 0, 1, 4, 0, 0, "T0", 0 },
-    { MAILBOX_PEND, 8, 0, 0, 0, 3, 0, 0, "T0", 0 },
-    { MAILBOX_PEND, 3, 0, 1, 0, 3, 0, 0, "T0", 0 },
+    { MAILBOX_PEND, 8, 0, 0, 0, 3, 0, 5, "T0", 0 },
+    { MAILBOX_PEND, F, 0, 0, 0, 3, 0, 5, "T0", 0 },
+    { MAILBOX_PEND, 8, 0, 1, 0, 3, 0, 5, "T0", 0 },
+    { MAILBOX_PEND, 8, F, 0, 0, 3, 0, 5, "T0", 0 },         /* not 5, though task 0 names a limit */
+    { MAILBOX_PEND, 3, 0, 1, 0, 11, 0, 5, "T0", 0 },
+    { MAILBOX_PEND, 7, 0, 0, 0, 11, 0, 5, "T0", 0 },
+    { MAILBOX_PEND, 7, F, 0, 0, 11, 0, 5, "T0", 0 },
     { MAILBOX_PEND, 0, 0, 1, 0, 4, 0, 0, "T0", 0 },
     { MAILBOX_POST, 0, 100, 0, 0, 0, 0, 0, "T0", 0 },
     { MAILBOX_POST, 0, 200, F, 0, 0, 0, 0, "T0", 0 },       /* room: done at once */
@@ -258,10 +347,18 @@ static const struct row mailboxes[] = {
     { MAILBOX_POST, 0, 9, 0, 0, 0, 1, 0, "I", 0 },
     { MAILBOX_POST, 0, 9, 1, 0, 2, 0, 0, "I", 0 },
     { MAILBOX_POST, 9, 9, 1, 0, 2, 0, 0, "I", 0 },          /* 2 before 3 */
+    { MAILBOX_POST, 7, 9, 1, 0, 2, 0, 0, "I", 0 },          /* 2 before 11 */
+    { MAILBOX_POST, 8, 9, 0, 0, 3, 0, 5, "I", 0 },
+    { MAILBOX_POST, 7, 9, 0, 0, 11, 0, 5, "I", 0 },
     { MAILBOX_PEND, 0, 1, 0, 0, 2, 0, 0, "I", 0 },
     { MAILBOX_PEND, 9, F, 0, 0, 2, 0, 0, "I", 0 },
+    { MAILBOX_PEND, 7, F, 0, 0, 2, 0, 0, "I", 0 },
+    { MAILBOX_PEND, 8, 0, 0, 0, 3, 0, 5, "I", 0 },
+    { MAILBOX_PEND, 7, 0, 0, 0, 11, 0, 5, "I", 0 },
     { MAILBOX_CREATE, 1, 0, 0, 0, 2, 0, 0, "I", 0 },
     { MAILBOX_DELETE, 1, 0, 0, 0, 2, 0, 0, "I", 0 },
+    { MAILBOX_DELETE, 8, 0, 0, 0, 2, 0, 0, "I", 0 },
+    { MAILBOX_DELETE, 7, 0, 0, 0, 2, 0, 0, "I", 0 },
     { INTERRUPT_OUT, 0, 0, 0, 0, 0, 0, 0, "T3", 0 },        /* 7: 3, 6: 2, 5: 1 */
     { TASK_LAST_RESULT, 3, 0, 0, 0, 0, 1, 0, "T3", 0 },
     { TASK_LAST_RESULT, 2, 0, 0, 0, 0, 0, 0, "T3", 0 },
@@ -285,6 +382,8 @@ static const struct row mailboxes[] = {
     { MAILBOX_PEND, 0, 0, 0, 0, 0, 0, 33, "T3", 0 },
     { TASKS_OFF, 0, 0, 0, 0, 0, 0, 1, "T3", 0 },
     { MAILBOX_PEND, 0, F, 0, 0, 9, 0, 0, "T3", 0 },
+    { MAILBOX_PEND, 8, F, 0, 0, 3, 0, 5, "T3", 0 },         /* not 9 */
+    { MAILBOX_PEND, 7, F, 0, 0, 11, 0, 5, "T3", 0 },
     { MAILBOX_PEND, 0, F, 1, 0, 4, 0, 0, "T3", 0 },         /* 4 before 9 */
     { MAILBOX_PEND, 0, 0, 0, 0, 0, 1, 0, "T3", 0 },
     { MAILBOX_POST, 2, 1, 3, 0, 0, 0, 0, "T3", 0 },
@@ -294,16 +393,28 @@ static const struct row mailboxes[] = {
     { SWIS_OFF, 0, 0, 0, 0, 0, 0, 1, "T3", 0 },
     { MAILBOX_PEND, 0, 3, 0, 0, 9, 0, 0, "T3", 0 },
     { MAILBOX_POST, 2, 2, F, 0, 9, 0, 0, "T3", 0 },
+    { MAILBOX_POST, 8, 2, F, 0, 3, 0, 5, "T3", 0 },
+    { MAILBOX_POST, 7, 2, F, 0, 11, 0, 5, "T3", 0 },
     { SWIS_RESTORE, 1, 0, 0, 0, 0, 0, 0, "T3", 0 },
     { SWI_CREATE, 0, 0, 0, 0, 0, 0, 0, "T3", 0 },
     { SWI_POST, 0, 0, 0, 0, 0, 0, 0, "S0", 0 },
     { MAILBOX_PEND, 2, 1, 0, 0, 2, 0, 0, "S0", 0 },
+    { MAILBOX_PEND, 8, 1, 0, 0, 2, 0, 0, "S0", 0 },
+    { MAILBOX_PEND, 7, 1, 0, 0, 2, 0, 0, "S0", 0 },
+    { MAILBOX_PEND, 8, 0, 0, 0, 3, 0, 5, "S0", 0 },
+    { MAILBOX_PEND, 7, 0, 0, 0, 11, 0, 5, "S0", 0 },
     { MAILBOX_PEND, 2, 0, 0, 0, 0, 0, 1, "S0", 0 },
     { MAILBOX_POST, 2, 5, 1, 0, 2, 0, 0, "S0", 0 },
+    { MAILBOX_POST, 8, 5, 1, 0, 2, 0, 0, "S0", 0 },
+    { MAILBOX_POST, 7, 5, 1, 0, 2, 0, 0, "S0", 0 },
+    { MAILBOX_POST, 8, 5, 0, 0, 3, 0, 5, "S0", 0 },
+    { MAILBOX_POST, 7, 5, 0, 0, 11, 0, 5, "S0", 0 },
     { MAILBOX_POST, 2, 5, 0, 0, 0, 0, 0, "S0", 0 },
     { MAILBOX_POST, 2, 6, 0, 0, 0, 1, 0, "S0", 0 },
     { MAILBOX_CREATE, 1, 0, 0, 0, 2, 0, 0, "S0", 0 },
     { MAILBOX_DELETE, 1, 0, 0, 0, 2, 0, 0, "S0", 0 },
+    { MAILBOX_DELETE, 8, 0, 0, 0, 2, 0, 0, "S0", 0 },
+    { MAILBOX_DELETE, 7, 0, 0, 0, 2, 0, 0, "S0", 0 },
     { SWI_END, 0, 0, 0, 0, 0, 0, 0, "T3", 0 },
     { MAILBOX_POST, 1, 31, 0, 0, 0, 0, 0, "T3", 0 },
     { MAILBOX_POST, 1, 32, 0, 0, 0, 0, 0, "T3", 0 },
@@ -322,17 +433,27 @@ static const struct row mailboxes[] = {
     { MAILBOX_POST, 1, 0, 0, 0, 0, 0, 0, "T3", 0 },
     { MAILBOX_PEND, 1, 0, 0, 0, 0, 0, F, "T3", 0 },
     { MAILBOX_PEND, 1, 0, 0, 0, 0, 0, 0, "T3", 0 },         /* the word 0 */
-    { MAILBOX_DELETE, 8, 0, 0, 0, 3, 0, 0, "T3", 0 },
-    { MAILBOX_DELETE, 3, 0, 0, 0, 3, 0, 0, "T3", 0 },
+    { MAILBOX_DELETE, 8, 0, 0, 0, 3, 0, 5, "T3", 0 },
+    { MAILBOX_DELETE, F, 0, 0, 0, 3, 0, 5, "T3", 0 },
+    { MAILBOX_DELETE, 8, 1, 0, 0, 3, 0, 5, "T3", 0 },
+    { MAILBOX_DELETE, 3, 0, 0, 0, 11, 0, 5, "T3", 0 },
+    { MAILBOX_DELETE, 7, 0, 0, 0, 11, 0, 5, "T3", 0 },
+    { MAILBOX_DELETE, 7, 1, 0, 0, 11, 0, 5, "T3", 0 },
     { MAILBOX_DELETE, 1, 1, 0, 0, 4, 0, 0, "T3", 0 },
     { MAILBOX_DELETE, 1, 0, 0, 0, 0, 0, 0, "T3", 0 },
-    { MAILBOX_DELETE, 1, 0, 0, 0, 3, 0, 0, "T3", 0 },
-    { MAILBOX_POST, 1, 1, 0, 0, 3, 0, 0, "T3", 0 },
-    { MAILBOX_PEND, 1, 0, 0, 0, 3, 0, 0, "T3", 0 },
+    { MAILBOX_DELETE, 1, 0, 0, 0, 11, 0, 5, "T3", 0 },      /* deleted */
+    { MAILBOX_POST, 1, 1, 0, 0, 11, 0, 5, "T3", 0 },
+    { MAILBOX_PEND, 1, 0, 0, 0, 11, 0, 5, "T3", 0 },
+    { MAILBOX_PEND, 1, F, 0, 0, 11, 0, 5, "T3", 0 },
     { MAILBOX_CREATE, 1, 0, 0, 0, 0, 0, 1, "T3", 0 },
     { MAILBOX_CREATE, 1, 0, 0, 0, 0, 0, 3, "T3", RISING + 5 }, /* 3 to 7 */
     { MAILBOX_CREATE, 1, 0, 0, 0, 6, 0, 0, "T3", 0 },
     { MAILBOX_CREATE, 9, 0, 0, 0, 4, 0, 0, "T3", 0 },       /* 4 before 6 */
+    { MAILBOX_POST, 8, 1, 0, 0, 3, 0, 5, "T3", 0 },         /* all 8 are in use */
+    { MAILBOX_DELETE, 7, 0, 0, 0, 0, 0, 0, "T3", 0 },
+    { MAILBOX_DELETE, 7, 0, 0, 0, 11, 0, 5, "T3", 0 },      /* the last number, deleted */
+    { MAILBOX_PEND, 7, F, 0, 0, 11, 0, 5, "T3", 0 },
+    { MAILBOX_POST, 7, 1, 0, 0, 11, 0, 5, "T3", 0 },
 };
 
 const struct named_table mailboxes_table = TABLE(mailboxes, 0x40);

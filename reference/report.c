@@ -2,7 +2,9 @@
 #include "coverage.h"
 #include "states.h"
 
-#include <string.h>
+/* The codes in the order of the checks; 10 cannot occur. */
+static const uint8_t order[] = { ACCEPTED,      UNKNOWN_CALL, WRONG_CONTEXT, OUTSIDE_TABLE, OBJECT_NOT_IN_USE, BAD_ARGUMENT,
+                                 STATE_FORBIDS, TABLE_FULL,   AT_ITS_END,    NO_HEAP_ROOM,  SWITCH_IS_OFF };
 
 static int can_have_outcome(uint32_t number, unsigned outcome)
 {
@@ -28,17 +30,17 @@ unsigned coverage_print(FILE *file)
 
     fprintf(file, "%lu calls\n\n", coverage.calls);
     fprintf(file, "%-28s%9s", "call", "accepted");
-    for (unsigned code = 1; code < 10; code++)
-        fprintf(file, "   code %u", code);
+    for (unsigned i = 1; i < sizeof order; i++)
+        fprintf(file, "%*s%u", order[i] < 10 ? 8 : 7, "code ", order[i]);
     fprintf(file, "  outcome 1 outcome 2\n");
     for (unsigned i = 0; i < CALLS; i++) {
         const struct call_form *form = &call_forms[i];
 
         fprintf(file, "%02lX %-25s", (unsigned long)form->number, form->name);
-        for (unsigned code = 0; code < 10; code++) {
-            unsigned long count = coverage.pair[form->number][code];
+        for (unsigned place = 0; place < sizeof order; place++) {
+            unsigned long count = coverage.pair[form->number][order[place]];
 
-            if (strchr(form->codes, (int)('0' + code)) == NULL) {
+            if (!can_give(form, order[place])) {
                 stray += count;
                 fprintf(file, "%9s", count == 0 ? "-" : "NOT ITS");
                 continue;
@@ -64,7 +66,7 @@ unsigned coverage_print(FILE *file)
     for (unsigned number = 0; number < 256; number++)
         if (form_of(number) == NULL) {
             unknown += coverage.pair[number][UNKNOWN_CALL];
-            for (unsigned code = 0; code < 10; code++)
+            for (unsigned code = 0; code < CODES; code++)
                 if (code != UNKNOWN_CALL)
                     stray += coverage.pair[number][code];
         }
@@ -84,9 +86,9 @@ unsigned coverage_print(FILE *file)
             fprintf(file, "never: %s\n", happened[i]);
         }
     for (unsigned i = 0; i < CALLS; i++)
-        for (const char *code = call_forms[i].codes; *code != '\0'; code++)
-            if (coverage.pair[call_forms[i].number][*code - '0'] == 0)
-                fprintf(file, "never: call %02lX (%s) with code %c\n", (unsigned long)call_forms[i].number, call_forms[i].name, *code);
+        for (unsigned code = 0; code < CODES; code++)
+            if (can_give(&call_forms[i], code) && coverage.pair[call_forms[i].number][code] == 0)
+                fprintf(file, "never: call %02lX (%s) with code %u\n", (unsigned long)call_forms[i].number, call_forms[i].name, code);
     if (stray != 0)
         fprintf(file, "%lu answers with a code that the call cannot give\n", stray);
     fprintf(file, "%u pairs of call and code and %u deep states, %u of them never reached\n", pairs, (unsigned)HAPPENED, missing);

@@ -85,6 +85,13 @@ const char *const happened[HAPPENED] = {
     [RESULT_NOT_MET] = "last result with outcome 1",
     [RESULT_VALUE] = "last result with a value",
     [TAKEN_NOT_INITIAL] = "taken trigger other than the initial one",
+    [ONE_PAST_TABLE] = "code 3 for the number one past its table",
+    [FAR_OUTSIDE_TABLE] = "code 3 for 4,294,967,295",
+    [LAST_NUMBER_FREE] = "code 11 for the last number of a table",
+    [NEVER_MADE] = "code 11 for an object never made",
+    [DELETED] = "code 11 for a deleted object",
+    [CONTEXT_BEFORE_OBJECT] = "code 2 although no object has the number",
+    [OBJECT_BEFORE_ARGUMENT] = "code 3 or 11 although an unused argument is not 0",
 };
 
 struct counts coverage;

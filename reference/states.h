@@ -2,7 +2,7 @@
 #ifndef STATES_H
 #define STATES_H
 
-#include <stdint.h>
+#include "calls.h"
 
 /* Greatest numbers at any one time. */
 enum most {
@@ -98,6 +98,13 @@ enum happened {
     RESULT_NOT_MET,
     RESULT_VALUE,
     TAKEN_NOT_INITIAL,
+    ONE_PAST_TABLE,
+    FAR_OUTSIDE_TABLE,
+    LAST_NUMBER_FREE,
+    NEVER_MADE,
+    DELETED,
+    CONTEXT_BEFORE_OBJECT,
+    OBJECT_BEFORE_ARGUMENT,
     HAPPENED
 };
 
@@ -105,7 +112,7 @@ extern const char *const happened[HAPPENED]; /* in words */
 
 struct counts {
     unsigned long calls;
-    unsigned long pair[256][10];       /* of call and code */
+    unsigned long pair[256][CODES];    /* of call and code */
     unsigned long outcome[256][3];     /* of accepted calls */
     uint32_t most[MOSTS];
     unsigned long count[HAPPENED];

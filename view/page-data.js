@@ -304,8 +304,8 @@ function stepShares(lane, n, from, per, columns, out) {
 }
 
 // ---- words: a text has '#' for each number in it, '$' for each hexadecimal one, '@' for words that are written out
-function readText([call, code, outcome, mark, before, after]) {
-  return { call, code, outcome, mark, before, after, sought: soughtForm(before + ": " + after), slots: (before + after).replace(/[^#$@]/g, "") };
+function readText([call, code, outcome, table, mark, before, after]) {
+  return { call, code, outcome, table, mark, before, after, sought: soughtForm(before + ": " + after), slots: (before + after).replace(/[^#$@]/g, "") };
 }
 // Words as they are searched: small letters, and no commas or colons between them.
 function soughtForm(words) { return words.toLowerCase().replace(/[:;,]?\s+/g, " "); }

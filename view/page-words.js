@@ -111,9 +111,16 @@ function rangeTip(from, to, lane) {
   if (lane) lines.push([laneName(lane.lane, true) + ": " + (lane.bars ? barWords(lane, from, to) : stepWords(lane, from, to)), "more"]);
   for (const mark of shownMarks()) {
     const list = mark.list(), at = below(list, from), count = below(list, to) - at;
-    if (count) lines.push([mark.name.toLowerCase() + ": " + count + ", first record " + plain(list[at]), mark.key === "refused" ? "no" : ""]);
+    const refused = mark.key === "refused", codes = refused && count ? " (" + codeWords(list.slice(at, at + count)) + ")" : "";
+    if (count) lines.push([mark.name.toLowerCase() + ": " + count + codes + ", first record " + plain(list[at]), refused ? "no" : ""]);
   }
   return lines;
+}
+// How many of the refused records have each code.
+function codeWords(list) {
+  const times = new Map();
+  for (const k of list) { const { code } = log.texts[log.text[k]]; times.set(code, (times.get(code) || 0) + 1); }
+  return [...times].sort(([a], [b]) => a - b).map(([code, count]) => commas(count) + " with code " + code).join(", ");
 }
 const CLASS_WORDS = ["", "runs", "ready", "posted", "blocked", "asleep", "terminated", "inactive", "off", "running"];
 function barWords(lane, from, to) {
@@ -140,9 +147,13 @@ function tellDetails(k) {
   const came = element("p", "", text.code ? "no" : "");
   came.append(...withLinks(result));
   $("details").replaceChildren(element("h2", recordTitle(k)), element("p", call), came,
-    element("p", place + ", call " + text.call + ", code " + text.code + ", outcome " + text.outcome + ". After it:"));
+    element("p", place + ", call " + text.call + ", " + answerWords(text) + ". After it:"));
   tellStates("Threads", [INTERRUPT, ...counted(SWI, INTERRUPT), ...counted(0, SWI), SWITCHES], k);
   tellStates("Objects", counted(SEMAPHORE, SWITCHES), k);
+}
+// The answer's numbers, with what a code means and which table a value names.
+function answerWords({ code, outcome, table }) {
+  return "code " + code + (code ? " (" + shared.codeName[code] + ")" : "") + ", outcome " + outcome + (table ? ", value " + table + " (" + shared.tableName[table] + ")" : "");
 }
 // The whole numbers from one to before another.
 const counted = (first, end) => Array.from({ length: Math.max(0, end - first) }, (_, i) => first + i);

@@ -14,22 +14,40 @@ function verb(   words) { words = callWords[call]; sub(/[ ,].*/, "", words); ret
 
 # ---- what is noted at each record
 
-# Refused calls by code, call and object (numbers out of range together); calls not met, as code 0, by call and object. The first of each is kept whole.
-function noteAnswer(   key) {
+# Refused calls by code, call and object (numbers outside their table together, an object apart from one that had its number before); calls not met, as
+# code 0, by call and object. The first of each is kept whole.
+function noteAnswer(   key, gone) {
     if (code == 0 && !isNotMet()) return
-    key = code SUBSEP call SUBSEP (numberNamed + 0 < tableSize[kindNamed] + 0 ? numberNamed : "")
+    gone = code == 11 && ((kindNamed, numberNamed) in goneAt) ? goneAt[kindNamed, numberNamed] : ""
+    key = code SUBSEP call SUBSEP (numberNamed + 0 < tableSize[kindNamed] + 0 ? numberNamed : "") SUBSEP gone
     if (!(key in misses)) {
         missKeys[++missMany] = key
         missCode[key] = code; missName[key] = shortName(); missKind[key] = kindNamed; missNumber[key] = numberNamed
         missFirst[key] = record; missBy[key] = caller
         missWhy[key] = code == 0 ? resultInWords() : reasonInWords()
-        missGone[key] = code == 3 && ((kindNamed, numberNamed) in goneAt)
+        missGone[key] = gone
         missFree[key] = code == 8 ? 2048 - units * 8 : 0
         missAsked[key] = given[1]
         if (code == 9) offKey = key
     }
     misses[key]++; missLast[key] = record; missesOf[code]++
+    if (code == 11) noteUnused(kindNamed, numberNamed, gone)
     if (code == 0 && kindNamed == "mailbox" && verb() == "post") noteDrop(key)
+}
+# A call named an object not in use: all such calls since its deletion, or before it was made, together, and each call and who made it.
+function noteUnused(kindOf, n, deleted,   key, by) {
+    key = kindOf " " n SUBSEP deleted
+    if (!(key in unusedCalls)) {
+        unusedKeys[++unusedMany] = key
+        unusedKind[key] = kindOf; unusedNumber[key] = n; unusedSince[key] = deleted; unusedFirst[key] = record
+        if (deleted != "") unusedMade[key] = madeAt[kindOf, n]
+        unusedNow[kindOf, n] = key
+    }
+    unusedCalls[key]++; unusedLast[key] = record
+    if (verb() != "delete") unusedWanted[key] = 1
+    by = shortName() " by " threadName(caller)
+    if (!((key, by) in unusedTimes)) unusedBy[key, ++unusedCallers[key]] = by
+    unusedTimes[key, by]++
 }
 # A message was dropped: what kept the mailbox's reader at that time? Kept is the most frequent wait; a reader that is ready or runs was only late.
 function noteDrop(key,   doing, r) {
@@ -94,7 +112,9 @@ function noteObjects(   what, where, n) {
     }
 }
 function noteMade(kindOf, n) {
-    madeAt[kindOf, n] = record
+    madeAt[kindOf, n] = record " by " threadName(caller)
+    if (!((kindOf, n) in firstMade)) firstMade[kindOf, n] = record
+    if ((kindOf, n) in unusedNow) { unusedAnew[unusedNow[kindOf, n]] = madeAt[kindOf, n]; delete unusedNow[kindOf, n] }
     if (kindOf == "semaphore") { taker[n] = ""; ownPosts[n] = 0; otherPosts[n] = 0; firstCount[n] = semaphoreCount[n] }
     if (kindOf == "mailbox") delete reader[n]
 }
@@ -330,13 +350,13 @@ function findMisses(   i, key, c, n, text) {
         if (c == 0) { if (key in dropsMost) findDrops(key, n); continue }
         text = missName[key] ", by " threadName(missBy[key]) " at record " missFirst[key] ": refused with code " c ": " missWhy[key]
         if (misses[key] > 1) text = text " (" missTimes(key) ", last at record " missLast[key] ")"
-        if (c == 3) findBadNumber(key, n, text)
-        else finding(c > 5 && c < 10 ? 2 : 1, missFirst[key], text, c == 8 ? roomInWords(key) : restoredInWords(key))
+        if (c == 3) noteOutside(key, text)
+        else if (c != 11) finding(c > 5 && c < 10 ? 2 : 1, missFirst[key], text, c == 8 ? roomInWords(key) : restoredInWords(key))
     }
 }
 function restoredInWords(key) { return key in missRestored ? "both switches were on again at record " missRestored[key] : "" }
-function isOutOfRange(key) { return missKind[key] != "" && missNumber[key] + 0 >= tableSize[missKind[key]] + 0 }
-function missTimes(key) { return times(misses[key]) (misses[key] > 1 && isOutOfRange(key) ? " with such numbers" : "") }
+function isOutside(key) { return missKind[key] != "" && missNumber[key] + 0 >= tableSize[missKind[key]] + 0 }
+function missTimes(key) { return times(misses[key]) (misses[key] > 1 && isOutside(key) ? " with such numbers" : "") }
 # Messages were dropped at a full mailbox: strong, where its reader was kept from reading at a quarter of them.
 function findDrops(key, n,   kept, more) {
     kept = dropsMost[key] * 4 >= misses[key]
@@ -345,13 +365,41 @@ function findDrops(key, n,   kept, more) {
         missFirst[key] " by " threadName(missBy[key]) (misses[key] > 1 ? ", last at " missLast[key] : ""),
         kept ? more : "its reader was ready, but came too late")
 }
-# The object was not made so far, and was made after the last of these calls.
-function isMadeLater(key) { return missCode[key] == 3 && !missGone[key] && madeAt[missKind[key], missNumber[key]] > missLast[key] + 0 }
-function findBadNumber(key, n, text) {
-    if (isOutOfRange(key)) finding(2, missFirst[key], text, "no create gave that number: it came from outside, such as a packet, or from memory that was spoilt")
-    else if (missGone[key]) finding(2, missFirst[key], text, "it was deleted while it was still used")
-    else if (isMadeLater(key)) finding(0, missFirst[key], text, "")
-    else finding(1, missFirst[key], text, "")
+# Numbers from outside their table are one finding: the first such call, and the others by name.
+function noteOutside(key, text) {
+    if (outsideKey == "") { outsideKey = key; outsideText = text }
+    else if (++outsideMany <= 4) outsideOthers = listing(outsideOthers, missName[key] " (" times(misses[key]) ")")
+}
+function findOutside() {
+    if (outsideKey == "") return
+    finding(2, missFirst[outsideKey], outsideText,
+        "no create gave that number: it came from outside, such as a packet, or from memory that was spoilt" \
+        (outsideOthers == "" ? "" : "; likewise " outsideOthers) (outsideMany > 4 ? " and " plural(outsideMany - 4, "other") : ""))
+}
+# An object not in use is one finding: it was deleted, too early where calls named it that were more than calls to delete it; or it was never
+# made. One that was made later is not told.
+function findUnused(   i, key, object, early) {
+    for (i = 1; i <= unusedMany; i++) {
+        key = unusedKeys[i]; object = unusedKind[key] " " unusedNumber[key]; early = key in unusedWanted
+        if (unusedSince[key] != "")
+            finding(early ? 2 : 1, unusedFirst[key],
+                object " was deleted " (early ? "too early" : "already") ", at record " unusedSince[key] ": " unusedInWords(key, " since"),
+                callersInWords(key) "; it was made at record " unusedMade[key] \
+                (key in unusedAnew ? ", and its number was given anew at record " unusedAnew[key] : ""))
+        else if (!(key in unusedAnew))
+            finding(1, unusedFirst[key], object " was never made: " unusedInWords(key, ""),
+                callersInWords(key) "; no create gave that number: it came from outside, or its create is missing")
+    }
+}
+function unusedInWords(key, since,   n) {
+    n = unusedCalls[key]
+    return plural(n, "call") " on it" since (n == 1 ? " was" : " were") " refused with code 11, " \
+        (n == 1 ? "at record " unusedFirst[key] : "first at record " unusedFirst[key] ", last at " unusedLast[key])
+}
+function callersInWords(key,   i, text) {
+    for (i = 1; i <= unusedCallers[key] && i <= 4; i++)
+        text = listing(text, unusedBy[key, i] " (" times(unusedTimes[key, unusedBy[key, i]]) ")")
+    return text (i <= unusedCallers[key] ? " and " plural(unusedCallers[key] - 4, "other") : "")
 }
 # Why there was no room: the heap was in pieces, or old blocks do not come back.
 function roomInWords(key) { return missFree[key] + 0 >= missAsked[key] + 0 ? missFree[key] " bytes were free then, but in pieces" : oldBlocksInWords() }
@@ -390,7 +438,7 @@ function findSwitches(   i, name) {
 function section(name) { print ""; print name }
 function isBefore(i, j) { return findingRank[i] != findingRank[j] ? findingRank[i] > findingRank[j] : findingSince[i] < findingSince[j] }
 function tellFindings(   i, best, told) {
-    findCircles(); findWaits(); findStarved(); findMisses(); findSwitches(); findHeap()
+    findCircles(); findWaits(); findStarved(); findMisses(); findOutside(); findUnused(); findSwitches(); findHeap()
     for (told = 0; told < 6; told++) {
         best = 0
         for (i = 1; i <= findings; i++) if (findingRank[i] > 0 && (!best || isBefore(i, best))) best = i
@@ -408,9 +456,14 @@ function tellMisses(   i, c, key, told) {
         for (i = 1; i <= missMany; i++) if (missCode[key = missKeys[i]] == c && ++told <= 5)
             print "  " missName[key] ", " missTimes(key) ", first at record " missFirst[key] " by " threadName(missBy[key]) \
                 (misses[key] > 1 ? ", last at " missLast[key] : "") ": " missWhy[key] \
-                (isMadeLater(key) ? "; made later, at record " madeAt[missKind[key], missNumber[key]] : "")
+                laterInWords(key)
         if (told > 5) print "  and " plural(told - 5, "other call")
     }
+}
+# Of an object that was not made so far: when it was.
+function laterInWords(key,   kindOf, n) {
+    kindOf = missKind[key]; n = missNumber[key]
+    return missCode[key] == 11 && missGone[key] == "" && ((kindOf, n) in firstMade) ? "; made later, at record " firstMade[kindOf, n] : ""
 }
 function tellWaits(   t, told, text) {
     told = 0

@@ -39,7 +39,7 @@ function namesOf(names,   i, text) {
 # A record's words: its text's number and the numbers in it. In a text '#' stands for a number, '$' for a hexadecimal one (its length and its digits).
 # There is room for so many texts; after that new words are written as they are, where '@' stands (the length and the words).
 function wordsShown(words,   rest, form, numbers, token, kind) {
-    rest = words; form = ""; numbers = ""; kind = call " " code " " outcome " " (mark() == "!") " "
+    rest = words; form = ""; numbers = ""; kind = call " " code " " outcome " " tableTold() " " (mark() == "!") " "
     while (match(rest, /0x[0-9a-f]+|[1-9][0-9]*|0/)) {
         token = substr(rest, RSTART, RLENGTH)
         if (RLENGTH > 2 && substr(token, 2, 1) == "x") { form = form substr(rest, 1, RSTART - 1) "$"; numbers = numbers shown(RLENGTH - 2) substr(token, 3) }
@@ -70,10 +70,11 @@ function listShown(i,   p, n, j, text) {
     for (j = 1; j <= n; j++) text = text shown(p[j])
     return text
 }
-# A text as [call, code, outcome, whether it is marked, words of the call, words of what came of it]; the words have a colon between the two.
+# A text as [call, code, outcome, the table that the answer's value names or 0, whether it is marked, words of the call, words of what came of it]; the words
+# have a colon between the two.
 function textShown(key,   p, words) {
-    split(key, p, " "); words = substr(key, length(p[1] p[2] p[3] p[4]) + 5)
-    return "[\"" p[1] "\"," p[2] "," p[3] "," p[4] "," quoted(substr(words, 1, index(words, ": ") - 1)) "," quoted(substr(words, index(words, ": ") + 2)) "]"
+    split(key, p, " "); words = substr(key, length(p[1] p[2] p[3] p[4] p[5]) + 6)
+    return "[\"" p[1] "\"," p[2] "," p[3] "," p[4] "," p[5] "," quoted(substr(words, 1, index(words, ": ") - 1)) "," quoted(substr(words, index(words, ": ") + 2)) "]"
 }
 # Copies the page, and each file that a line of it names, up to the place of the data or to the end.
 function copy(file,   line, got) {
@@ -99,7 +100,8 @@ END {
     if (lastWords == "") { print "timeline: the trace has no last line" > "/dev/stderr"; exit 2 }
     if (records) print "</script>"
     print "<script type=\"application/json\" id=\"log\">{\"title\":" quoted(title) ",\"records\":" records ",\"last\":" quoted(lastWords) ",\"whole\":" (whole ? "true" : "false") ","
-    print "\"modeName\":" namesOf(modeName) ",\"modeObject\":" namesOf(modeObject) ",\"kindName\":" namesOf(kindName) ",\"codeName\":" namesOf(codeName) ",\"texts\":["
+    print "\"modeName\":" namesOf(modeName) ",\"modeObject\":" namesOf(modeObject) ",\"kindName\":" namesOf(kindName) ",\"codeName\":" namesOf(codeName) ","
+    print "\"tableName\":" namesOf(tableName) ",\"texts\":["
     for (i = 0; i < texts; i++) print textShown(textKey[i]) (i < texts - 1 ? "," : "")
     print "]}</script>"
     copy(page)

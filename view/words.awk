@@ -9,7 +9,7 @@ function readNames(file,   line, kind, key, p, got) {
         kind = substr(line, 1, index(line, " ") - 1)
         split(substr(line, length(kind) + 2), p, "|")
         key = p[1]
-        if (kind == "table") { tableSize[key] = p[2]; tableName[key] = p[3]; tableLetter[key] = p[4] }
+        if (kind == "table") { tableKind[key] = p[2]; tableSize[p[2]] = p[3]; tableName[key] = p[4]; tableLetter[p[2]] = p[5] }
         else if (kind == "call") readCall(key, p[2], p[3])
         else if (kind == "may") mayMake[key] = p[2]
         else if (kind == "got") gotWords[key, p[2], p[3]] = p[4]
@@ -196,10 +196,11 @@ function placeInWords(place) {
     if (place == "caller") return threadName(caller)
     if (place == "may") return mayMake[callWho[call]]
     if (place == "number") return call
-    if (place == "object") return kindNamed " " numberNamed
-    if (place == "all") return tableName[kindNamed]
-    if (place == "last") return tableSize[kindNamed] - 1
-    if (place == "gone") return (kindNamed, numberNamed) in goneAt ? "deleted at record " goneAt[kindNamed, numberNamed] : "not made so far"
+    if (place == "named") return numberNamed
+    if (place == "object") return tableKind[tableTold()] " " numberNamed
+    if (place == "table") return tableName[tableTold()]
+    if (place == "last") return tableSize[tableKind[tableTold()]] - 1
+    if (place == "gone") return goneInWords(tableKind[tableTold()], numberNamed)
     if (place == "state") return taskInWords(kindNamed == "task" ? numberNamed : value)
     if (place == "waiters") return waitersInWords(kindNamed, numberNamed)
     if (place == "messages") return plural(messages[numberNamed], "message")
@@ -216,6 +217,10 @@ function placeInWords(place) {
     if (place == "swis") return "Swis are off" sinceInWords(swisSince, swisBy)
     return offInWords()
 }
+# The table that the answer's value names: with codes 3 and 11 that of the refused number, else none.
+function tableTold() { return code == 3 || code == 11 ? value : 0 }
+# An object that is not in use: what the records so far tell of it.
+function goneInWords(kind, n) { return (kind, n) in goneAt ? "deleted at record " goneAt[kind, n] : "not made so far" }
 # Until when the wait goes that the task began with this call; the count of ticks may go round before.
 function untilInWords(t) {
     if (left[t] == 0) return ""
@@ -294,7 +299,6 @@ function reasonInWords(   i) {
 }
 function holds(test) {
     if (test == "") return 1
-    if (test == "out of range") return numberNamed + 0 >= tableSize[kindNamed] + 0
     if (test == "unused") return unusedArgument() > 0
     if (test == "kind") return given[1] > 3
     if (test == "no block") return !(given[1] in blockUnits)

@@ -36,7 +36,7 @@ function readTrace(file) {
   const bar = (lane, k, name) => { if (!bars.has(lane)) bars.set(lane, new Uint8Array(lines.length)); bars.get(lane)[k] = CLASS[name]; };
   lines.forEach((line, k) => {
     const parts = line.split(";").map(part => part.trim() === "" ? [] : part.trim().split(" "));
-    const [, tick, caller, call, a, , , , code, outcome, , thread] = parts[0], changed = new Set(), lost = [];
+    const [, tick, caller, call, a, , , , code, outcome, value, thread] = parts[0], changed = new Set(), lost = [];
     const each = (part, step, take) => {
       const p = parts[part].map(Number);
       for (let i = 0; i < p.length;) { const size = step(p, i); take(p.slice(i, i + size)); i += size; }
@@ -59,7 +59,7 @@ function readTrace(file) {
     bar(48, k, depth ? "run" : "none"); bar(98, k, swisOn && tasksOn ? "none" : "off");
     for (const [lane, row] of now.steps) { if (!steps.has(lane)) steps.set(lane, []); steps.get(lane)[k] = row; }
     records.push({
-      tick: Number(tick), caller: threadNumber(caller), thread: threadNumber(thread), call: Number(call), code: Number(code), outcome: Number(outcome),
+      tick: Number(tick), caller: threadNumber(caller), thread: threadNumber(thread), call: Number(call), code: Number(code), outcome: Number(outcome), value: Number(value),
       changed, lost, taken: [...now.taken],
     });
   });
@@ -74,6 +74,8 @@ function checkRecords(log, trace) {
     check(`tick of record ${k + 1}`, log.tick[k], r.tick);
     check(`caller of record ${k + 1}`, core.callerOf(log, k), r.caller);
     check(`thread after record ${k + 1}`, log.thread[k], r.thread);
+    const { call, code, outcome, table } = log.texts[log.text[k]];
+    check(`answer of record ${k + 1}`, [parseInt(call, 16), code, outcome, table], [r.call, r.code, r.outcome, r.code === 3 || r.code === 11 ? r.value : 0]);
   });
   const where = test => trace.records.map((r, k) => test(r) ? k : -1).filter(k => k >= 0);
   check("refused", [...log.refused], where(r => r.code !== 0));
@@ -82,7 +84,7 @@ function checkRecords(log, trace) {
 }
 function checkWords(log, words) {
   for (let k = 0; k < log.n; k++) check(`words of record ${k + 1}`, core.wordsOf(log, k).join(": "), words[k]);
-  for (const sought of ["refused", "Semaphore 1", "pend mailbox 0, without end", "0x1", "woke task 1", "code 3: ", "no such words"]) {
+  for (const sought of ["refused", "Semaphore 1", "pend mailbox 0, without end", "0x1", "woke task 1", "code 3: ", "code 11: ", "outside its table", "deleted at record", "no such words"]) {
     core.log = log; core.sought = sought;
     const found = inPage("(() => { const s = wordSearch(log, sought); while (!s.done) s.step(100); return s.list.done(); })()");
     const form = text => text.toLowerCase().replace(/[:;,]?\s+/g, " ");
@@ -157,7 +159,7 @@ function checkChoosing(log, trace) {
     const named = Number(/\bsemaphore (\d+)/.exec(core.wordsOf(log, k)[0])[1]);
     check(`record ${k + 1} names its semaphore`, log.object[k], named > 15 ? 0 : 50 + named);
   }
-  for (const code of [3, 5]) check(`records with code ${code}`, [...core.chosen(log, -1, -1, String(code))], where(r => r.code === code));
+  for (const code of [3, 5, 11]) check(`records with code ${code}`, [...core.chosen(log, -1, -1, String(code))], where(r => r.code === code));
   for (let k = 0; k < log.n; k += 37) for (let s = 0; s < 16; s++) if (log.lanes[49 + s]) {
     const is = core.lastTaken(log, log.lanes[49 + s], k), used = trace.steps.get(49 + s)[k];
     if (used && used[2]) check(`semaphore ${s} last taken, at record ${k + 1}`, is, trace.records[k].taken[s]);

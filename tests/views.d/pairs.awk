@@ -1,4 +1,5 @@
 # Reads the .words files. Tells each pair of call and code of reference/calls.c that has no line there, and each `call`, `got` and `why` of view/names that no line shows.
+# A code is a hexadecimal digit there, so b is 11.
 function pattern(words,   text, c) {
     text = ""
     while (words != "") {
@@ -13,7 +14,7 @@ BEGIN {
         split(line, p, "\"")
         codes = p[n = split(line, p, "\"") - 1]
         number = substr(line, index(line, "0x") + 2, 2)
-        for (i = 1; i <= length(codes); i++) { pair[number " " substr(codes, i, 1)] = 1; pairs++ }
+        for (i = 1; i <= length(codes); i++) { pair[number " " (index("0123456789ab", substr(codes, i, 1)) - 1)] = 1; pairs++ }
     }
     pair["ff 1"] = 1; pairs++
     while ((getline line < names) > 0) if (line ~ /^(got|why) /) {

@@ -1,12 +1,12 @@
 -- 01, 'The calls': a run for each kind of object in which cases a to l show little, and the order of the checks.
 use mathlib.Core.Path.{refl}
 use mathlib.Core.List.{List, [], _∷_}
-use Rattle.rules.specs.Tables.{forever}
+use Rattle.rules.specs.Tables.{forever, minusOne}
 use Rattle.rules.specs.Fresh.{fresh}
 use Rattle.rules.proofs.Runs.{Line, _runs_, AllRun, _⇒_, asked, said, saw, T, S, I, createTask, deleteTask, setPriority, yield, end, sleep}
 use Rattle.rules.proofs.Runs.{lastResult, createSwi, deleteSwi, postSwi, endSwi, postedOf, createSemaphore, pend, createMailbox}
 use Rattle.rules.proofs.Runs.{deleteMailbox, postMailbox, pendMailbox, createClock, startClock, stopClock, ticksOf, swisOff, restoreSwis}
-use Rattle.rules.proofs.Runs.{tasksOff, restoreTasks, interruptIn, interruptOut, tick}
+use Rattle.rules.proofs.Runs.{post, deleteSemaphore, createEvent, deleteEvent, postEvent, deleteClock, tasksOff, restoreTasks, interruptIn, interruptOut, tick}
 use Rattle.rules.proofs.Faster.{faster, quickly, fresh-sound}
 
 -- "Tasks join queues at the back."; "03 yield"; "02 set priority: value the old one"; "05 sleep"; "04 end"; "01 delete: terminated only"
@@ -115,22 +115,77 @@ interrupts =
     ∷ interruptIn ⇒ said 0 0 0 I
     ∷ []
 
--- "Checks run in the order of this table": 1 before 2, 2 before 3, 3 before 4, 4 before 5 and before 7, 5 before 9
+-- No. 2: "Code 3 stays for a number outside its table. A number inside the table whose object is not in use gets a new code. The answer's value names
+-- the table": of each table the first number outside, the last inside, which is free, and one whose object was deleted; call 50 names Swis. Task 0, an
+-- inactive task and a terminated one are in use
+abbrev pub numbers : List Line
+numbers =
+    createTask minusOne ⇒ said 0 0 1 (T 0)
+    ∷ createTask 5 ⇒ said 0 0 2 (T 2)
+    ∷ end ⇒ said 0 0 0 (T 0)
+    ∷ lastResult 0 ⇒ said 0 0 0 (T 0)
+    ∷ lastResult 1 ⇒ said 0 0 0 (T 0)
+    ∷ lastResult 2 ⇒ said 0 0 0 (T 0)
+    ∷ lastResult 32 ⇒ said 3 0 1 (T 0)
+    ∷ lastResult 4294967295 ⇒ said 3 0 1 (T 0)
+    ∷ lastResult 31 ⇒ said 11 0 1 (T 0)
+    ∷ deleteTask 1 ⇒ said 0 0 0 (T 0)
+    ∷ lastResult 1 ⇒ said 11 0 1 (T 0)
+    ∷ createSwi 3 0 ⇒ said 0 0 0 (T 0)
+    ∷ createClock 0 1 0 ⇒ said 0 0 0 (T 0)
+    ∷ startClock 16 ⇒ said 3 0 6 (T 0)
+    ∷ startClock 15 ⇒ said 11 0 6 (T 0)
+    ∷ deleteClock 0 ⇒ said 0 0 0 (T 0)
+    ∷ startClock 0 ⇒ said 11 0 6 (T 0)
+    ∷ postSwi 16 ⇒ said 3 0 2 (T 0)
+    ∷ postSwi 4294967295 ⇒ said 3 0 2 (T 0)
+    ∷ postSwi 15 ⇒ said 11 0 2 (T 0)
+    ∷ createClock 16 1 0 ⇒ said 3 0 2 (T 0)
+    ∷ createClock 15 0 0 ⇒ said 11 0 2 (T 0)
+    ∷ deleteSwi 0 ⇒ said 0 0 0 (T 0)
+    ∷ postSwi 0 ⇒ said 11 0 2 (T 0)
+    ∷ createClock 0 1 0 ⇒ said 11 0 2 (T 0)
+    ∷ createSemaphore 0 0 ⇒ said 0 0 0 (T 0)
+    ∷ post 16 ⇒ said 3 0 3 (T 0)
+    ∷ post 15 ⇒ said 11 0 3 (T 0)
+    ∷ deleteSemaphore 0 ⇒ said 0 0 0 (T 0)
+    ∷ post 0 ⇒ said 11 0 3 (T 0)
+    ∷ createEvent ⇒ said 0 0 0 (T 0)
+    ∷ postEvent 8 1 ⇒ said 3 0 4 (T 0)
+    ∷ postEvent 7 1 ⇒ said 11 0 4 (T 0)
+    ∷ deleteEvent 0 ⇒ said 0 0 0 (T 0)
+    ∷ postEvent 0 1 ⇒ said 11 0 4 (T 0)
+    ∷ createMailbox 1 ⇒ said 0 0 0 (T 0)
+    ∷ postMailbox 8 7 0 ⇒ said 3 0 5 (T 0)
+    ∷ postMailbox 7 7 0 ⇒ said 11 0 5 (T 0)
+    ∷ deleteMailbox 0 ⇒ said 0 0 0 (T 0)
+    ∷ postMailbox 0 7 0 ⇒ said 11 0 5 (T 0)
+    ∷ []
+
+-- "Checks run in the order of this table": 1 before 2, 1 and 2 before 3 and 11, 3 and 11 before 4, 5 and 9, 4 before 5 and before 7, 5 before 9
 abbrev pub order : List Line
 order =
     createSemaphore 0 0 ⇒ said 0 0 0 (T 0)
     ∷ createSemaphore 0 65535 ⇒ said 0 0 1 (T 0)
-    ∷ asked 0x23 7 1 0 0 ⇒ said 3 0 0 (T 0)
+    ∷ asked 0x23 16 1 0 0 ⇒ said 3 0 3 (T 0)
+    ∷ asked 0x23 7 1 0 0 ⇒ said 11 0 3 (T 0)
     ∷ asked 0x23 1 1 0 0 ⇒ said 4 0 0 (T 0)
     ∷ setPriority 0 16 ⇒ said 4 0 0 (T 0)
     ∷ tasksOff ⇒ said 0 0 1 (T 0)
+    ∷ pend 16 1 ⇒ said 3 0 3 (T 0)
+    ∷ pend 7 1 ⇒ said 11 0 3 (T 0)
     ∷ pend 0 1 ⇒ said 5 0 0 (T 0)
     ∷ yield ⇒ said 9 0 0 (T 0)
     ∷ interruptIn ⇒ said 0 0 0 I
     ∷ asked 0x77 1 0 0 0 ⇒ said 1 0 0 I
     ∷ asked 0x80 0 0 0 0 ⇒ said 1 0 0 I
+    ∷ asked 0x07 99 0 0 0 ⇒ said 1 0 0 I
+    ∷ deleteSemaphore 16 ⇒ said 2 0 0 I
+    ∷ deleteSemaphore 7 ⇒ said 2 0 0 I
+    ∷ pend 16 1 ⇒ said 2 0 0 I
+    ∷ pend 16 0 ⇒ said 3 0 3 I
     ∷ pend 7 1 ⇒ said 2 0 0 I
-    ∷ pend 7 0 ⇒ said 3 0 0 I
+    ∷ pend 7 0 ⇒ said 11 0 3 I
     ∷ []
 
 pub record Calls : Type 0 where
@@ -140,6 +195,7 @@ pub record Calls : Type 0 where
   pub of-clocks : fresh runs clocks
   pub of-switches : fresh runs switches
   pub of-interrupts : fresh runs interrupts
+  pub of-numbers : fresh runs numbers
   pub of-order : fresh runs order
 
 abbrev all : List (List Line)
@@ -150,6 +206,7 @@ all =
     ∷ clocks
     ∷ switches
     ∷ interrupts
+    ∷ numbers
     ∷ order
     ∷ []
 
@@ -166,5 +223,6 @@ calls =
       of-clocks = all-run .1 .1 .1 .0;
       of-switches = all-run .1 .1 .1 .1 .0;
       of-interrupts = all-run .1 .1 .1 .1 .1 .0;
-      of-order = all-run .1 .1 .1 .1 .1 .1 .0;
+      of-numbers = all-run .1 .1 .1 .1 .1 .1 .0;
+      of-order = all-run .1 .1 .1 .1 .1 .1 .1 .0;
     }

@@ -24,14 +24,14 @@ sample =
     ++ (0x00 ∷ 0x12 ∷ 0x01 ∷ 0x23 ∷ 0x00 ∷ 0x00 ∷ 0x00 ∷ 0x00 ∷ 0 ∷ 0 ∷ 0 ∷ 0 ∷ 0 ∷ 0 ∷ 0 ∷ 0 ∷ 0 ∷ 0 ∷ 0 ∷ 0 ∷ [])
     ++ (0x00 ∷ 0x12 ∷ 0x01 ∷ 0x23 ∷ 0x00 ∷ 0x00 ∷ 0x00 ∷ 0x07 ∷ 0 ∷ 0 ∷ 0 ∷ 0 ∷ 0 ∷ 0 ∷ 0 ∷ 0 ∷ 0 ∷ 0 ∷ 0 ∷ 0 ∷ [])
 
--- "Columns: record, code, outcome, value, thread."
+-- "Columns: record, code, outcome, value, thread."; No. 2: "the sample's fifth line reads `5 11 0 3 T1`"
 unfoldable pub printed : List (List ℕ)
 printed =
     ascii "1 0 0 1 T1"
     ∷ ascii "2 0 0 0 T1"
     ∷ ascii "3 0 2 0 T0"
     ∷ ascii "4 0 0 1 T1"
-    ∷ ascii "5 3 0 0 T1"
+    ∷ ascii "5 11 0 3 T1"
     ∷ ascii "end 5"
     ∷ []
 
@@ -176,7 +176,7 @@ case-l =
 pub record CasesAToL : Type 0 where
   -- "(a) the five calls above": the lines, the whole text, and the first line's bytes
   pub a : replayLines sample ≡ printed
-  pub a-text : replayText sample ≡ ascii "1 0 0 1 T1\n2 0 0 0 T1\n3 0 2 0 T0\n4 0 0 1 T1\n5 3 0 0 T1\nend 5\n"
+  pub a-text : replayText sample ≡ ascii "1 0 0 1 T1\n2 0 0 0 T1\n3 0 2 0 T0\n4 0 0 1 T1\n5 11 0 3 T1\nend 5\n"
   pub a-bytes : ascii "1 0 0 1 T1" ≡ 0x31 ∷ 0x20 ∷ 0x30 ∷ 0x20 ∷ 0x30 ∷ 0x20 ∷ 0x31 ∷ 0x20 ∷ 0x54 ∷ 0x31 ∷ []
   pub b : fresh runs case-b
   pub c : fresh runs case-c
@@ -194,7 +194,7 @@ replayed : replayLines sample ≡ printed
 unfolding quickly ascii sample printed
 replayed = faster-replay sample ∙ refl
 
-replayed-text : textOf printed ≡ ascii "1 0 0 1 T1\n2 0 0 0 T1\n3 0 2 0 T0\n4 0 0 1 T1\n5 3 0 0 T1\nend 5\n"
+replayed-text : textOf printed ≡ ascii "1 0 0 1 T1\n2 0 0 0 T1\n3 0 2 0 T0\n4 0 0 1 T1\n5 11 0 3 T1\nend 5\n"
 unfolding textOf ascii printed
 replayed-text = refl
 

@@ -42,7 +42,7 @@ pub fn create_code(clocks: &Clocks, swis: &Swis, x: u32, a: u32, b: u32, d: u32)
         return 2;
     }
     if swi(swis, a as usize, USED) == 0 {
-        return 3;
+        return rows::answers::absent_code(a, rules::SWI_COUNT);
     }
     if (b == 0) | unused(0, 0, 0, d) {
         return 4;
@@ -91,7 +91,7 @@ pub fn delete_code(clocks: &Clocks, x: u32, a: u32, b: u32, c: u32, d: u32) -> u
     }
     let k = clock(clocks, a as usize);
     if k.used == 0 {
-        return 3;
+        return rows::answers::absent_code(a, rules::CLOCK_COUNT);
     }
     if unused(0, b, c, d) {
         return 4;
@@ -132,7 +132,7 @@ pub fn start_stop_code(clocks: &Clocks, a: u32, b: u32, c: u32, d: u32) -> u32
 {
     let k = clock(clocks, a as usize);
     if k.used == 0 {
-        return 3;
+        return rows::answers::absent_code(a, rules::CLOCK_COUNT);
     }
     if unused(0, b, c, d) {
         return 4;
@@ -207,5 +207,3 @@ pub fn clock_call(
         _ => refused(1),
     }
 }
-
-// ---- a clock's step at a tick

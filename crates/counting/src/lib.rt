@@ -50,7 +50,7 @@ pub fn pend_code(
         return 2;
     }
     if words::semaphore(semaphores, a as usize, USED) == 0 {
-        return 3;
+        return rows::answers::absent_code(a, rules::SEMAPHORE_COUNT);
     }
     if rows::answers::unused(0, 0, c, d) {
         return 4;
@@ -144,7 +144,7 @@ pub fn post_code(semaphores: &Semaphores, a: u32, b: u32, c: u32, d: u32) -> u32
     ensures { λ r. ⌜ r ≡ codeOf (postCases (now (semaphores .entry)) a b c d) ⌝ }
 {
     if words::semaphore(semaphores, a as usize, USED) == 0 {
-        return 3;
+        return rows::answers::absent_code(a, rules::SEMAPHORE_COUNT);
     }
     if rows::answers::unused(0, b, c, d) {
         return 4;

@@ -11,6 +11,8 @@ use Rattle.rules.specs.declared.Tables.{Tables}
 use Rattle.rules.specs.declared.Thread.{Thread}
 use Rattle.rules.specs.declared.Thread.the-variants.{Task}
 use Rattle.runs.specs.Run.{made}
+use Rattle.refusals.specs.Refusals.{valueOf}
+use Rattle.refusals.proofs.Named.{apart}
 use Rattle.refusals.proofs.Demand.{code-is, exactly-in, accepted-in, left-alone}
 use Rattle.refusals.proofs.First.{by-bool}
 use Rattle.demands.specs.One.{DemandOne, threadOf}
@@ -26,5 +28,8 @@ demand-1 t q =
       code = code-is t q;
       exactly = λ k h. (λ e. search (exactly-in t q k h .0 e), λ r. exactly-in t q k h .1 (search));
       accepted = accepted-in t q;
-      refused = λ n. left-alone t q (λ z. omega arith) ∙ ap (λ (x : Thread). stepOf t (answer (made t q .answer .code) 0 0) x) (thread-is t);
+      apart = apart t q;
+      refused =
+          let k = made t q .answer .code in
+          λ n. left-alone t q (λ z. omega arith) ∙ ap (λ (x : Thread). stepOf t (answer k 0 (valueOf q k)) x) (thread-is t);
     }

@@ -47,15 +47,15 @@ module _ (t : Tables) (typed : Typed t) (s : Sound t) (q : Asked) (w : Words q) 
   unfolding count refusal
   not-10 e = false≢true (sym (ap not (means-sound t s)) ∙ exactly-in t q 10 (omega arith) .0 e .0)
 
-  to-10 : made t q .answer .code ≤ 10
+  to-11 : made t q .answer .code ≤ 11
   unfolding allOf
-  to-10 = rw (code-is t q) (given-to 10 order (refusal t q) refl)
+  to-11 = rw (code-is t q) (given-to 11 order (refusal t q) refl)
 
   is-kept : Kept t q (made t q)
   is-kept =
       record {
         effect = is-step t s q;
-        tested = λ e. omega (arith, e, not-10, to-10);
+        tested = λ e. omega (arith, e, not-10, to-11);
         typed = next-typed t typed s q w;
         sound = next-sound t typed s q w;
         thread = subst (λ (r : Step). r .thread ≡ running (r .tables .lines) (r .tables .state)) (sym (is-step t s q)) (step-thread t q);

@@ -58,7 +58,7 @@ pub fn delete_code(lines: &Lines, events: &Events, x: u32, a: u32, b: u32, c: u3
     }
     let i = a as usize;
     if words::event(events, i, USED) == 0 {
-        return 3;
+        return rows::answers::absent_code(a, rules::EVENT_COUNT);
     }
     if rows::answers::unused(0, b, c, d) {
         return 4;

@@ -37,7 +37,7 @@ abbrev pub flood : List Line
 flood =
     asked 0x77 0 0 0 0 ⇒ said 1 0 0 (T 0)
     ∷ tick ⇒ said 2 0 0 (T 0)
-    ∷ post 7 ⇒ said 3 0 0 (T 0)
+    ∷ post 7 ⇒ said 11 0 3 (T 0)
     ∷ asked 0x23 0 1 0 0 ⇒ said 4 0 0 (T 0)
     ∷ deleteSemaphore 0 ⇒ said 5 0 0 (T 0)
     ∷ setPriority 3 minusOne ⇒ said 5 0 0 (T 0)

@@ -26,7 +26,7 @@ use Rattle.rules.proofs.Computed.{computed}
 use Rattle.rules.proofs.Faster.{quickly}
 use Rattle.runs.specs.Run.{Asked, asked, made, after, Words}
 use Rattle.runs.specs.Turn.{posts}
-use Rattle.refusals.specs.Refusals.{refusal, unknownNumber, among, None}
+use Rattle.refusals.specs.Refusals.{refusal, refusalBy, unknownNumber, among, valueOf, None}
 use Rattle.demands.specs.Two.{Kept}
 use Rattle.demands.specs.Sequence.{Entered, Sequence}
 use Rattle.demands.specs.Sequence as Entries
@@ -61,7 +61,7 @@ unfolding computed stray
 runs-there = refl
 
 pub not-the-running-thread : ((t : Tables) (q : Asked) → made t q .answer .code ≢ 0
-    → made t q ≡ stepOf t (answer (made t q .answer .code) 0 0) (running (t .lines) (t .state))) → ⊥
+    → made t q ≡ stepOf t (answer (made t q .answer .code) 0 (valueOf q (made t q .answer .code))) (running (t .lines) (t .state))) → ⊥
 not-the-running-thread every =
     let e = every stray strange (rw refused (λ z. omega (arith, z))) in
     let given = ap (λ (r : Step). r .thread) (sym refused ∙ e) ∙ runs-there in
@@ -75,7 +75,7 @@ WhateverBefore =
     → (made t q .answer .code ≡ k) ↔ ((refusal t q k ≡ true) × None (ahead 10 order) (refusal t q))
 
 unknown : (refusal stray strange 1 ≡ true) × None (ahead 10 order) (refusal stray strange)
-unfolding refusal unknownNumber among count ahead allOf
+unfolding refusal refusalBy unknownNumber among count ahead allOf
 unknown = (refl, refl)
 
 pub not-whatever-stands-before : WhateverBefore → ⊥
@@ -131,11 +131,24 @@ one-call number a h = (promised fresh (asked number a 0 0 0) refl (λ s. (fresh-
 
 -- "accepted posts": a refused one does not count. Semaphore 7 is not in use
 abbrev refusedPost : List Line
-refusedPost = post 7 ⇒ said 3 0 0 (T 0) ∷ []
+refusedPost = post 7 ⇒ said 11 0 3 (T 0) ∷ []
 
 none-posted : Leads anything 7 fresh refusedPost 0 fresh
 unfolding quickly pass inWords
 none-posted = leads anything 7 fresh fresh-typed fresh-is-sound refusedPost 0 fresh refl refl
+
+-- "for these two codes the value is no longer 0": it names the semaphores' table
+code-11 : made fresh (asked 0x23 7 0 0 0) .answer .code ≡ 11
+unfolding says
+code-11 = let e = none-posted .answers .so in cc
+
+names-semaphores : made fresh (asked 0x23 7 0 0 0) .answer .value ≡ 3
+unfolding says
+names-semaphores = let e = none-posted .answers .so in cc
+
+pub not-always-value-0 : ((t : Tables) (q : Asked) → made t q .answer .code ≢ 0 → made t q .answer .value ≡ 0) → ⊥
+not-always-value-0 every =
+    omega (arith, names-semaphores, every fresh (asked 0x23 7 0 0 0) (λ z. omega (arith, z, code-11)))
 
 unfoldable pub postsTried : ℕ → List Entered → ℕ
 postsTried s [] = 0

@@ -12,7 +12,7 @@ fn show(log: &[u8], out: &mut [u8]) {
     io::write_all(libc::STDOUT_FILENO, b"\n");
 }
 
-// The first n bytes, with room for all of the sample's text and three bytes more.
+// The first n bytes, with room for all of the sample's text and two bytes more.
 fn show_front(log: &Log, n: usize) {
     let mut out = [b'.'; 64];
     show(text::front(log, n), &mut out);
@@ -35,11 +35,11 @@ fn show_short(log: &Log) {
     show(text::front(log, 100), &mut []);
 }
 
-// All of it, which is more than one part: the text has 1,655 bytes, and the last four records' lines begin at 1,595.
+// All of it, which is more than one part: the text has 1,656 bytes, and the last four records' lines begin at 1,596.
 fn show_all(log: &Log) {
     let mut out = [b'.'; 1664];
     let put = whole::replay_log(log, &mut out);
-    io::write_all(libc::STDOUT_FILENO, &out[1595..]);
+    io::write_all(libc::STDOUT_FILENO, &out[1596..]);
     io::write_all(libc::STDOUT_FILENO, b"\n");
     io::print_decimal(libc::STDOUT_FILENO, put as u64);
     io::write_all(libc::STDOUT_FILENO, b"\n");

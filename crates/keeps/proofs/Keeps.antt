@@ -35,21 +35,21 @@ over-kept put c h = record { keeps = h }
 abbrev pub settledBy : Tables → Tables
 settledBy u = withDispatched u (dispatched (u .swis) (u .lines) (u .state))
 
-pub effect-leaves : (e : After Tables) → e .answer .code ≡ 0 → finished e .tables ≡ settledBy (e .next)
+pub effect-leaves : (n : ℕ) (e : After Tables) → e .answer .code ≡ 0 → finished n e .tables ≡ settledBy (e .next)
 unfolding finished
-effect-leaves e z = rw z
+effect-leaves n e z = rw z
 
-refusal-leaves : (k : ℕ) (t : Tables) → k ≢ 0 → finished (refused k t) .tables ≡ t
+refusal-leaves : (m k : ℕ) (t : Tables) → k ≢ 0 → finished m (refused k t) .tables ≡ t
 unfolding finished
-refusal-leaves k t n = rw (ne-eqb k 0 n)
+refusal-leaves m k t n = rw (ne-eqb k 0 n)
 
 -- so what holds of the tables before, and after dispatch, holds of what the call leaves
-leaves : (P : Tables → Type 0) (t : Tables) (c : Call Tables) → c .effect .answer .code ≡ 0 → Keeps whole c → P t
-    → ((u : Tables) → Settling u → P (settledBy u)) → P (finished (answered t c) .tables)
-leaves P t c code keeps before after =
-    chosen (λ (r : After Tables). P (finished r .tables)) (eqb (codeOf (c .cases)) 0) (c .effect) (refused (codeOf (c .cases)) t)
-    (λ e. rw (effect-leaves (c .effect) code) (after (c .effect .next) (keeps (eqb-true (codeOf (c .cases)) 0 e))))
-    (λ e. rw (refusal-leaves (codeOf (c .cases)) t (eqb-false (codeOf (c .cases)) 0 e)) before)
+leaves : (n : ℕ) (P : Tables → Type 0) (t : Tables) (c : Call Tables) → c .effect .answer .code ≡ 0 → Keeps whole c → P t
+    → ((u : Tables) → Settling u → P (settledBy u)) → P (finished n (answered t c) .tables)
+leaves n P t c code keeps before after =
+    chosen (λ (r : After Tables). P (finished n r .tables)) (eqb (codeOf (c .cases)) 0) (c .effect) (refused (codeOf (c .cases)) t)
+    (λ e. rw (effect-leaves n (c .effect) code) (after (c .effect .next) (keeps (eqb-true (codeOf (c .cases)) 0 e))))
+    (λ e. rw (refusal-leaves n (codeOf (c .cases)) t (eqb-false (codeOf (c .cases)) 0 e)) before)
 
 module _ (t : Tables) (typed : Typed t) (s : Sound t) (number a b c d : ℕ) (w : Words a b c d) where
   settled : Keeps whole (callOf t (context (t .lines) (t .state)) number a b c d)
@@ -69,7 +69,7 @@ module _ (t : Tables) (typed : Typed t) (s : Sound t) (number a b c d : ℕ) (w 
   unfolding step
   left-by P =
       let x = context (t .lines) (t .state) in
-      leaves P t (callOf t x number a b c d) (effect-code t x number a b c d) settled
+      leaves number P t (callOf t x number a b c d) (effect-code t x number a b c d) settled
 
   pub step-typed : Typed (step t number a b c d .tables)
   step-typed = left-by (λ (u : Tables). Typed u) typed settled-typed

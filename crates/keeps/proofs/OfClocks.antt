@@ -16,7 +16,7 @@ use Rattle.rules.specs.declared.Clock.{Clock}
 use Rattle.rules.specs.declared.Tables.{Tables}
 use Rattle.laws.proofs.Rows.{row-used}
 use Rattle.keeps.proofs.Groups.{Words, Settling, Keeps}
-use Rattle.keeps.proofs.Codes.{accepted-is}
+use Rattle.keeps.proofs.Codes.{accepted-is, object-used}
 use Rattle.keeps.proofs.Waiting.{neither, sound-ranges, still-ready}
 use Rattle.keeps.proofs.Chosen.{chosen-keeps, unknown-keeps}
 use Rattle.keeps.proofs.ClockRows.{clock-keeps}
@@ -33,7 +33,7 @@ module _ (t : Tables) (typed : Typed t) (s : Sound t) where
   unfolding createCases createEffect clockRule
   create-keeps x a b c d z =
       let ok = accepted-is (createCases (t .clocks) (t .swis) x a b d) z in
-      let used = used-one (t .swis) (t .lines) (s .swis) a (eqb-false (swi (t .swis) a USED) 0 (ok .at3)) in
+      let used = used-one (t .swis) (t .lines) (s .swis) a (eqb-false (swi (t .swis) a USED) 0 (object-used _ _ (ok .at3) (ok .at11))) in
       clock-settles (freeClock (t .clocks)) (record { used = 1; swi = a; first = b; period = c; left = 0 })
       (omega arith, (λ e. absurd (omega arith), λ e. (used, eqb-false b 0 (neither (eqb b 0) _ (ok .at4) .0))))
 
@@ -52,11 +52,11 @@ module _ (t : Tables) (typed : Typed t) (s : Sound t) where
   start-keeps : (a b c d : ℕ) → Keeps (withClocks t) (called (startStopCases (t .clocks) a b c d) (startEffect (t .clocks) a))
   unfolding startStopCases startEffect
   start-keeps a b c d z =
-      left-settles a (clock (t .clocks) a .first) (eqb-false _ _ (accepted-is (startStopCases (t .clocks) a b c d) z .at3))
+      left-settles a (clock (t .clocks) a .first) (eqb-false _ _ (object-used _ _ (accepted-is (startStopCases (t .clocks) a b c d) z .at3) (accepted-is (startStopCases (t .clocks) a b c d) z .at11)))
 
   stop-keeps : (a b c d : ℕ) → Keeps (withClocks t) (called (startStopCases (t .clocks) a b c d) (stopEffect (t .clocks) a))
   unfolding startStopCases stopEffect
-  stop-keeps a b c d z = left-settles a 0 (eqb-false _ _ (accepted-is (startStopCases (t .clocks) a b c d) z .at3))
+  stop-keeps a b c d z = left-settles a 0 (eqb-false _ _ (object-used _ _ (accepted-is (startStopCases (t .clocks) a b c d) z .at3) (accepted-is (startStopCases (t .clocks) a b c d) z .at11)))
 
 pub clocks-keeps : (t : Tables) → Typed t → Sound t → (number a b c d : ℕ) → Words a b c d
     → Keeps (withClocks t) (clockCall (t .clocks) (t .swis) (context (t .lines) (t .state)) number a b c d)

@@ -24,7 +24,7 @@ use Rattle.rules.specs.declared.Tables.{Tables}
 use Rattle.laws.proofs.Rows.{length-withRow, row-same, row-other, length-withField, field-same, field-other, field-row, row-used}
 use Rattle.laws.proofs.Calls.{chosen}
 use Rattle.keeps.proofs.Groups.{Words, Settling, Keeps}
-use Rattle.keeps.proofs.Codes.{accepted-is}
+use Rattle.keeps.proofs.Codes.{accepted-is, object-used}
 use Rattle.keeps.proofs.Standing.{sound-almost}
 use Rattle.keeps.proofs.Moves.{Welcome}
 use Rattle.keeps.proofs.Waiting.{neither, current-row, current-used, at-event-row}
@@ -130,7 +130,7 @@ module _ (t : Tables) (typed : Typed t) (s : Sound t) where
   unfolding deleteCases deleteEffect
   delete x a b c d z =
       let ok = accepted-is (deleteCases (t .lines) (t .events) x a b c d) z in
-      let lt : a < 8 = row-used 2 8 (t .events) a 0 (eqb-false (inUse t a) 0 (ok .at3)) in
+      let lt : a < 8 = row-used 2 8 (t .events) a 0 (eqb-false (inUse t a) 0 (object-used _ _ (ok .at3) (ok .at11))) in
       let none : waitersOf t a ≡ 0 = omega (arith, ltb-false 0 (waitersOf t a) (ok .at5)) in
       row-changes t (sound-settles t typed s) a lt 0 0 (omega arith, (λ e. (refl, none), (omega arith, λ w. absurd (w none))))
 
@@ -155,7 +155,7 @@ module _ (t : Tables) (typed : Typed t) (s : Sound t) where
   unfolding pendCases pendEffect waits
   pend a b c d word z =
       let ok = accepted-is (pendCases (t .lines) (t .events) (t .state) (context (t .lines) (t .state)) a b c d) z in
-      let used : inUse t a ≢ 0 = eqb-false (inUse t a) 0 (ok .at3) in
+      let used : inUse t a ≢ 0 = eqb-false (inUse t a) 0 (object-used _ _ (ok .at3) (ok .at11)) in
       let lt : a < 8 = row-used 2 8 (t .events) a 0 used in
       let (nobody, busy) = neither (anyone (t .lines) (eventLine a)) (waits (t .events) a b c d && idle (t .state)) (ok .at5) in
       let none : waitersOf t a ≡ 0 = omega (arith, ltb-false 0 (waitersOf t a) nobody) in
@@ -192,7 +192,7 @@ module _ (t : Tables) (typed : Typed t) (s : Sound t) where
   unfolding postCases postedBits
   post a b c d z =
       let ok = accepted-is (postCases (t .events) a c d) z in
-      let used : inUse t a ≢ 0 = eqb-false (inUse t a) 0 (ok .at3) in
+      let used : inUse t a ≢ 0 = eqb-false (inUse t a) 0 (object-used _ _ (ok .at3) (ok .at11)) in
       let lt : a < 8 = row-used 2 8 (t .events) a 0 used in
       let bits : ℕ = bitOr (bitsOf t a) b in
       let match : ℕ = waiterMatch (t .tasks) (t .lines) a bits in

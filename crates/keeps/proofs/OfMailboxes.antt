@@ -23,7 +23,7 @@ use Rattle.laws.proofs.Rows.{by-range, length-withRow, row-same, row-other, row
 use Rattle.laws.proofs.Listed.{zero-at}
 use Rattle.laws.proofs.Calls.{chosen}
 use Rattle.keeps.proofs.Groups.{Words, Settling, Keeps}
-use Rattle.keeps.proofs.Codes.{accepted-is}
+use Rattle.keeps.proofs.Codes.{accepted-is, object-used}
 use Rattle.keeps.proofs.TaskRows.{task-stands, mailbox-row}
 use Rattle.keeps.proofs.Standing.{sound-almost}
 use Rattle.keeps.proofs.Moves.{Welcome}
@@ -115,7 +115,7 @@ module _ (t : Tables) (typed : Typed t) (s : Sound t) where
   unfolding deleteCases deleteEffect
   delete x a b c d z =
       let ok = accepted-is (deleteCases (t .lines) (t .mailboxes) x a b c d) z in
-      let lt : a < 8 = row-used 10 8 (t .mailboxes) a 0 (eqb-false (capacity t a) 0 (ok .at3)) in
+      let lt : a < 8 = row-used 10 8 (t .mailboxes) a 0 (eqb-false (capacity t a) 0 (object-used _ _ (ok .at3) (ok .at11))) in
       let (nobody, rest) = neither (anyone (t .lines) (mailboxLine a)) (not (eqb (number t a) 0)) (ok .at5) in
       row-changes t (sound-settles t typed s) a lt 0 (omega arith) (omega (arith, ltb-false 0 (length (waiters t a)) nobody))
 
@@ -204,7 +204,7 @@ module _ (t : Tables) (typed : Typed t) (s : Sound t) where
   unfolding postCases postEffect postWaits isFull
   post a b c d word z =
       let ok = accepted-is (postCases (t .tasks) (t .lines) (t .mailboxes) (t .state) (context (t .lines) (t .state)) a c d) z in
-      let used : capacity t a ≢ 0 = eqb-false (capacity t a) 0 (ok .at3) in
+      let used : capacity t a ≢ 0 = eqb-false (capacity t a) 0 (object-used _ _ (ok .at3) (ok .at11)) in
       let lt : a < 8 = row-used 10 8 (t .mailboxes) a 0 used in
       let low : mailboxLine a < 32 = omega arith in
       let upto : number t a ≤ capacity t a = omega (arith, row-of a lt .held) in
@@ -230,7 +230,7 @@ module _ (t : Tables) (typed : Typed t) (s : Sound t) where
   unfolding pendCases pendEffect pendWaits oldestTaken
   pend a b c d word z =
       let ok = accepted-is (pendCases (t .mailboxes) (t .state) (context (t .lines) (t .state)) a b c d) z in
-      let used : capacity t a ≢ 0 = eqb-false (capacity t a) 0 (ok .at3) in
+      let used : capacity t a ≢ 0 = eqb-false (capacity t a) 0 (object-used _ _ (ok .at3) (ok .at11)) in
       let lt : a < 8 = row-used 10 8 (t .mailboxes) a 0 used in
       let upto : number t a ≤ capacity t a = omega (arith, row-of a lt .held) in
       chosen (Leaves t) (eqb (number t a) 0) _ _

@@ -21,7 +21,7 @@ use Rattle.rules.specs.declared.Tables.{Tables}
 use Rattle.laws.proofs.Rows.{length-withRow, row-same, row-other, length-withField, field-same, field-other, field-row, row-used}
 use Rattle.laws.proofs.Calls.{chosen}
 use Rattle.keeps.proofs.Groups.{Words, Settling, Keeps}
-use Rattle.keeps.proofs.Codes.{accepted-is}
+use Rattle.keeps.proofs.Codes.{accepted-is, object-used}
 use Rattle.keeps.proofs.Moves.{Welcome}
 use Rattle.keeps.proofs.Waiting.{neither, current-row, current-used, at-semaphore-row}
 use Rattle.keeps.proofs.Chosen.{chosen-keeps, unknown-keeps, sound-settles}
@@ -135,7 +135,7 @@ module _ (t : Tables) (typed : Typed t) (s : Sound t) where
   unfolding deleteCases deleteEffect
   delete x a b c d z =
       let ok = accepted-is (deleteCases (t .lines) (t .semaphores) x a b c d) z in
-      let lt : a < 16 = row-used 3 16 (t .semaphores) a 0 (eqb-false (inUse t a) 0 (ok .at3)) in
+      let lt : a < 16 = row-used 3 16 (t .semaphores) a 0 (eqb-false (inUse t a) 0 (object-used _ _ (ok .at3) (ok .at11))) in
       let none : waitersOf t a ≡ 0 = omega (arith, ltb-false 0 (waitersOf t a) (ok .at5)) in
       row-changes t (sound-settles t typed s) a lt 0 0 0
       (omega arith, (λ e. (refl, (refl, none)), (omega arith, (omega arith, λ w. refl))))
@@ -144,7 +144,7 @@ module _ (t : Tables) (typed : Typed t) (s : Sound t) where
   unfolding resetCases resetEffect
   reset x a b c d z =
       let ok = accepted-is (resetCases (t .lines) (t .semaphores) x a b c d) z in
-      let used : inUse t a ≢ 0 = eqb-false (inUse t a) 0 (ok .at3) in
+      let used : inUse t a ≢ 0 = eqb-false (inUse t a) 0 (object-used _ _ (ok .at3) (ok .at11)) in
       let lt : a < 16 = row-used 3 16 (t .semaphores) a 0 used in
       let (bad, rest) = neither (not (leb b (most (kindOf t a)))) (unused 0 0 c d) (ok .at4) in
       let n : b ≤ most (kindOf t a) = leb-true b (most (kindOf t a)) (not-false (leb b (most (kindOf t a))) bad) in
@@ -156,7 +156,7 @@ module _ (t : Tables) (typed : Typed t) (s : Sound t) where
   unfolding postCases postEffect
   post a b c d z =
       let ok = accepted-is (postCases (t .semaphores) a b c d) z in
-      let used : inUse t a ≢ 0 = eqb-false (inUse t a) 0 (ok .at3) in
+      let used : inUse t a ≢ 0 = eqb-false (inUse t a) 0 (object-used _ _ (ok .at3) (ok .at11)) in
       let lt : a < 16 = row-used 3 16 (t .semaphores) a 0 used in
       let (u, (off, (k, (m, w)))) = row-of a lt in
       chosen (Leaves t) (ltb 0 (waitersOf t a)) _ _
@@ -183,7 +183,7 @@ module _ (t : Tables) (typed : Typed t) (s : Sound t) where
   unfolding pendCases pendEffect waits
   pend a b c d word z =
       let ok = accepted-is (pendCases (t .semaphores) (t .state) (context (t .lines) (t .state)) a b c d) z in
-      let used : inUse t a ≢ 0 = eqb-false (inUse t a) 0 (ok .at3) in
+      let used : inUse t a ≢ 0 = eqb-false (inUse t a) 0 (object-used _ _ (ok .at3) (ok .at11)) in
       let lt : a < 16 = row-used 3 16 (t .semaphores) a 0 used in
       let (u, (off, (k, (m, w)))) = row-of a lt in
       chosen (Leaves t) (ltb 0 (countOf t a)) _ _

@@ -25,7 +25,7 @@ use Rattle.laws.proofs.Rows.{length-withRow, row-same, row-other}
 use Rattle.laws.proofs.Lines.{length-left, left-same, left-other}
 use Rattle.laws.proofs.Calls.{chosen}
 use Rattle.keeps.proofs.Groups.{Words, Almost, Settling, Keeps}
-use Rattle.keeps.proofs.Codes.{accepted-is}
+use Rattle.keeps.proofs.Codes.{accepted-is, object-used}
 use Rattle.keeps.proofs.Waiting.{neither, sound-ranges, still-ready}
 use Rattle.keeps.proofs.Chosen.{chosen-keeps, unknown-keeps, sound-settles}
 use Rattle.keeps.proofs.Objects.{other-fails, free-is}
@@ -201,7 +201,7 @@ module _ (t : Tables) (typed : Typed t) (s : Sound t) where
   delete-keeps x a b c d z =
       let ok = accepted-is (deleteCases (t .swis) (t .lines) (t .clocks) x a b c d) z in
       let r : List ℕ = zeros swiWidth in
-      let here = swi-below (t .swis) a USED (eqb-false _ _ (ok .at3)) in
+      let here = swi-below (t .swis) a USED (eqb-false _ _ (object-used _ _ (ok .at3) (ok .at11))) in
       let (quiet, unnamed) = neither (not (eqb (swi (t .swis) a POSTED) 0) || isActive (t .lines) a) _ (ok .at5) in
       let (un, idle) = neither (not (eqb (swi (t .swis) a POSTED) 0)) _ quiet in
       let none : count a (line (t .lines) activeLine) ≤ 0 = ltb-false 0 _ idle in
@@ -234,11 +234,11 @@ module _ (t : Tables) (typed : Typed t) (s : Sound t) where
 
   post-used : (a b c d : ℕ) → codeOf (postCases (t .swis) a b c d) ≡ 0 → swi (t .swis) a USED ≢ 0
   unfolding postCases
-  post-used a b c d z = eqb-false _ _ (accepted-is (postCases (t .swis) a b c d) z .at3)
+  post-used a b c d z = eqb-false _ _ (object-used _ _ (accepted-is (postCases (t .swis) a b c d) z .at3) (accepted-is (postCases (t .swis) a b c d) z .at11))
 
   mask-used : (a c d : ℕ) → codeOf (maskCases (t .swis) a c d) ≡ 0 → swi (t .swis) a USED ≢ 0
   unfolding maskCases
-  mask-used a c d z = eqb-false _ _ (accepted-is (maskCases (t .swis) a c d) z .at3)
+  mask-used a c d z = eqb-false _ _ (object-used _ _ (accepted-is (maskCases (t .swis) a c d) z .at3) (accepted-is (maskCases (t .swis) a c d) z .at11))
 
   post-keeps : (a b c d : ℕ) → Keeps (withPosts t) (called (postCases (t .swis) a b c d) (postEffect (posts (t .swis) (t .lines)) a))
   unfolding postEffect

@@ -20,7 +20,7 @@ use Rattle.rules.specs.declared.Tables.{Tables}
 use Rattle.rules.specs.declared.Task.{Task}
 use Rattle.laws.proofs.Calls.{chosen}
 use Rattle.keeps.proofs.Groups.{Words, Settling, Keeps}
-use Rattle.keeps.proofs.Codes.{accepted-is}
+use Rattle.keeps.proofs.Codes.{accepted-is, object-used}
 use Rattle.keeps.proofs.Standing.{sound-almost}
 use Rattle.keeps.proofs.Moves.{Welcome, moved-row, moved-rows, moved-keeps, row-keeps}
 use Rattle.keeps.proofs.TaskRows.{task-other, in-use, home-none}
@@ -127,7 +127,7 @@ module _ (t : Tables) (typed : Typed t) (s : Sound t) where
   delete-keeps x a b c d z =
       let ok = accepted-is (deleteCases (t .tasks) x a b c d) z in
       let m = task (t .tasks) a .mode in
-      let lt : a < taskCount = in-use (t .tasks) a (eqb-false m 0 (ok .at3)) in
+      let lt : a < taskCount = in-use (t .tasks) a (eqb-false m 0 (object-used _ _ (ok .at3) (ok .at11))) in
       let past : 6 < m =
       ⊎-elim (λ (e : m ≡ 7). omega arith) (λ (e : m ≡ 8). omega arith) (either-eq m 7 8 (not-false _ (ok .at5))) in
       let rest : m ≢ ready = λ e. omega arith in
@@ -187,7 +187,7 @@ module _ (t : Tables) (typed : Typed t) (s : Sound t) where
   set-priority-keeps x a b c d z =
       let ok = accepted-is (setPriorityCases (t .tasks) (t .state) x a b c d) z in
       let m = task (t .tasks) a .mode in
-      let used = eqb-false m 0 (ok .at3) in
+      let used = eqb-false m 0 (object-used _ _ (ok .at3) (ok .at11)) in
       let lt : a < taskCount = in-use (t .tasks) a used in
       let level = is-priority b (not-false _ (neither _ _ (ok .at4) .0)) in
       let (other, last) = neither _ _ (ok .at5) in

@@ -19,7 +19,7 @@ use Rattle.rules.specs.Mailboxes as Mailboxes
 use Rattle.laws.proofs.Rows.{row-used}
 use Rattle.laws.proofs.Calls.{chosen}
 use Rattle.keeps.proofs.Groups.{SwisStay}
-use Rattle.keeps.proofs.Codes.{accepted-is}
+use Rattle.keeps.proofs.Codes.{accepted-is, object-used}
 use Rattle.keeps.proofs.Aside.{home-aside, moved-aside, waits-aside, woken-aside, placed-aside, priority-aside}
 
 -- ---- what an accepted call leaves: the lines of Swis as they were, and all lines as they were where `moves` says of its outcome and value that
@@ -84,7 +84,7 @@ module _ (q : Served) (rows : Means (tasksRule (q .tasks))) (st : List ℕ) (x n
   unfolding Semaphores.pendCases Semaphores.pendEffect homeBy
   pend-leaves z =
       let ok = accepted-is (Semaphores.pendCases (q .objects) st x a b c d) z in
-      let lt : a < 16 = row-used 3 16 (q .objects) a 0 (eqb-false (semaphore (q .objects) a USED) 0 (ok .at3)) in
+      let lt : a < 16 = row-used 3 16 (q .objects) a 0 (eqb-false (semaphore (q .objects) a USED) 0 (object-used _ _ (ok .at3) (ok .at11))) in
       tested (ltb 0 (semaphore (q .objects) a COUNT)) (stays refl)
       (tested (eqb b 0) (stays refl) (goes refl (waits-aside (queue q) rows _ (current st) _ (omega arith))))
 
@@ -106,7 +106,7 @@ module _ (q : Served) (rows : Means (tasksRule (q .tasks))) (st : List ℕ) (x n
   unfolding Events.pendCases Events.pendEffect homeBy
   event-pend-leaves z =
       let ok = accepted-is (Events.pendCases (q .lines) (q .objects) st x a b c d) z in
-      let lt : a < 8 = row-used 2 8 (q .objects) a 0 (eqb-false (event (q .objects) a USED) 0 (ok .at3)) in
+      let lt : a < 8 = row-used 2 8 (q .objects) a 0 (eqb-false (event (q .objects) a USED) 0 (object-used _ _ (ok .at3) (ok .at11))) in
       tested (eqb (Events.matched (event (q .objects) a BITS) b c) 0)
       (tested (eqb d 0) (stays refl) (goes refl (waits-aside (queue q) rows _ (current st) _ (omega arith))))
       (stays refl)
@@ -135,7 +135,7 @@ module _ (q : Served) (rows : Means (tasksRule (q .tasks))) (st : List ℕ) (x n
   unfolding Mailboxes.postCases Mailboxes.postEffect homeBy
   mailbox-post-leaves e z =
       let ok = accepted-is (Mailboxes.postCases (q .tasks) (q .lines) (q .objects) st x a c d) z in
-      let lt : a < 8 = row-used 10 8 (q .objects) a 0 (eqb-false (mailbox (q .objects) a CAPACITY) 0 (ok .at3)) in
+      let lt : a < 8 = row-used 10 8 (q .objects) a 0 (eqb-false (mailbox (q .objects) a CAPACITY) 0 (object-used _ _ (ok .at3) (ok .at11))) in
       tested (Mailboxes.waitsFirst (q .tasks) (q .lines) a reading) (goes (rw (eqb-true number 0x42 e)) (woken-aside (queue q) rows _ 0 b))
       (tested (Mailboxes.isFull (q .objects) a)
       (tested (eqb c 0) (stays refl) (goes (rw (eqb-true number 0x42 e)) (waits-aside (queue q) rows _ (current st) _ (omega arith))))
@@ -152,7 +152,7 @@ module _ (q : Served) (rows : Means (tasksRule (q .tasks))) (st : List ℕ) (x n
   unfolding Mailboxes.pendCases Mailboxes.pendEffect homeBy
   mailbox-pend-leaves e z =
       let ok = accepted-is (Mailboxes.pendCases (q .objects) st x a b c d) z in
-      let lt : a < 8 = row-used 10 8 (q .objects) a 0 (eqb-false (mailbox (q .objects) a CAPACITY) 0 (ok .at3)) in
+      let lt : a < 8 = row-used 10 8 (q .objects) a 0 (eqb-false (mailbox (q .objects) a CAPACITY) 0 (object-used _ _ (ok .at3) (ok .at11))) in
       tested (eqb (mailbox (q .objects) a MESSAGES) 0)
       (tested (eqb b 0) (stays refl) (goes (rw (eqb-true number 0x43 e)) (waits-aside (queue q) rows _ (current st) _ (omega arith))))
       (goes (rw (eqb-true number 0x43 e)) taken-aside)

@@ -1,7 +1,7 @@
 -- `step` on any tables: the call, and of the dispatch after it the parts that the call's number and its answer say can have something to do
 -- (settling/specs/Settle). On sound tables that is 01's whole rule, and so 01's step (`kernel/proofs/Steps.quick-is-step`).
 use Prim.Native.Nat.{ℕ}
-use Rattle.rules.specs.Answer.{After, answered}
+use Rattle.rules.specs.Answer.{After, answered, named}
 use Rattle.rules.specs.Dispatch.{running, context, Dispatched}
 use Rattle.rules.specs.Step.{callOf, withDispatched, stepOf}
 use Rattle.settling.specs.Settle.{settledAfter}
@@ -11,7 +11,7 @@ use Rattle.rules.specs.declared.Step.{Step}
 unfoldable pub quickFinished : ℕ → After Tables → Step
 quickFinished number r =
     let x : Dispatched = settledAfter number (r .answer) (r .next .swis) (r .next .lines) (r .next .state) in
-    stepOf (withDispatched (r .next) x) (r .answer) (running (x .lines) (x .state))
+    stepOf (withDispatched (r .next) x) (named number (r .answer)) (running (x .lines) (x .state))
 
 unfoldable pub quickStep : Tables → ℕ → ℕ → ℕ → ℕ → ℕ → Step
 quickStep t number a b c d = quickFinished number (answered t (callOf t (context (t .lines) (t .state)) number a b c d))

@@ -86,7 +86,11 @@ pub fn step(
         asked.c,
         asked.d,
     );
+    let said = rows::answers::named(asked.number, answer);
     settling::settle(asked.number, answer, swis, lines, state);
     let thread = dispatch::running(lines, state);
-    Said { answer, thread }
+    Said {
+        answer: said,
+        thread,
+    }
 }

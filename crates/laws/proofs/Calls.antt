@@ -1,11 +1,11 @@
 -- A call: refused it leaves its code and the tables as they were, accepted its effect.
 use Prim.Native.Nat.{ℕ}
 use mathlib.Core.Path.{_≡_, refl, sym, ap, _∙_}
-use mathlib.Core.Bool.{Bool, true, false, cond as if}
-use lib.Dec.{eqb}
+use mathlib.Core.Bool.{Bool, true, false, not, cond as if}
+use lib.Dec.{eqb, ltb}
 use mathlib.Core.Logic.{_≢_}
 use borrow.Author.Tests.{eq-eqb, ne-eqb}
-use Rattle.rules.specs.Answer.{After, after, answer, answered, Call, unknown, firstGiven, refused, guarded}
+use Rattle.rules.specs.Answer.{After, after, answer, absentCode, answered, Call, unknown, firstGiven, refused, guarded}
 use Rattle.rules.specs.declared.Answer.{Answer}
 
 module _ {A : Type 0} (t : A) (e : After A) (k : ℕ) {code : ℕ} (is : code ≡ k) where
@@ -14,6 +14,15 @@ module _ {A : Type 0} (t : A) (e : After A) (k : ℕ) {code : ℕ} (is : code �
 
   pub effected : code ≡ 0 → {u : After A} → u ≡ e → u ≡ guarded k t e
   effected z q = rw (eq-eqb k 0 (sym is ∙ z)) q
+
+-- the code of an object number that names nothing in use
+pub absent-is : (a n rest : ℕ) {r : ℕ} → r ≡ absentCode a n → r ≡ if (not (ltb a n)) 3 (if (ltb a n) 11 rest)
+unfolding absentCode
+absent-is a n rest e = e ∙ go (ltb a n)
+  where
+    go : (b : Bool) → if b 11 3 ≡ if (not b) 3 (if b 11 rest)
+    go true = refl
+    go false = refl
 
 -- what holds in both cases holds of the choice
 pub chosen : {A : Type 0} (P : A → Type 0) (b : Bool) (x y : A) → (b ≡ true → P x) → (b ≡ false → P y) → P (if b x y)

@@ -83,7 +83,7 @@ pub fn delete_code(
         return 2;
     }
     if words::mailbox(mailboxes, a as usize, CAPACITY) == 0 {
-        return 3;
+        return rows::answers::absent_code(a, rules::MAILBOX_COUNT);
     }
     if rows::answers::unused(0, b, c, d) {
         return 4;

@@ -57,7 +57,7 @@ pub fn pend_code(
     }
     let i = a as usize;
     if words::event(events, i, USED) == 0 {
-        return 3;
+        return rows::answers::absent_code(a, rules::EVENT_COUNT);
     }
     if (b == 0) & (c == 0) {
         return 4;
@@ -125,7 +125,7 @@ pub fn post_code(events: &Events, a: u32, c: u32, d: u32) -> u32
     ensures { λ r. ⌜ r ≡ codeOf (postCases (now (events .entry)) a c d) ⌝ }
 {
     if words::event(events, a as usize, USED) == 0 {
-        return 3;
+        return rows::answers::absent_code(a, rules::EVENT_COUNT);
     }
     if rows::answers::unused(0, 0, c, d) {
         return 4;

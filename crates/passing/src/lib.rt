@@ -66,7 +66,7 @@ pub fn post_code(
         return 2;
     }
     if words::mailbox(mailboxes, a as usize, CAPACITY) == 0 {
-        return 3;
+        return rows::answers::absent_code(a, rules::MAILBOX_COUNT);
     }
     if rows::answers::unused(0, 0, 0, d) {
         return 4;
@@ -144,7 +144,7 @@ pub fn pend_code(
         return 2;
     }
     if words::mailbox(mailboxes, a as usize, CAPACITY) == 0 {
-        return 3;
+        return rows::answers::absent_code(a, rules::MAILBOX_COUNT);
     }
     if rows::answers::unused(0, 0, c, d) {
         return 4;

@@ -45,7 +45,7 @@ pub fn post_code(swis: &Swis, a: u32, b: u32, c: u32, d: u32) -> u32
     ensures { λ r. ⌜ r ≡ codeOf (postCases (now (swis .entry)) a b c d) ⌝ }
 {
     if words::swi(swis, a as usize, USED) == 0 {
-        return 3;
+        return rows::answers::absent_code(a, rules::SWI_COUNT);
     }
     if rows::answers::unused(0, b, c, d) {
         return 4;

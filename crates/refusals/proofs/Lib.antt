@@ -1,4 +1,5 @@
 pub mod Known
 pub mod First
 pub mod Unknown
+pub mod Named
 pub mod Demand

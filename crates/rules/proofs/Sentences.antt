@@ -5,7 +5,7 @@ use mathlib.Core.Bool.{true, false}
 use mathlib.Core.List.{List, [], _∷_, _++_}
 use Rattle.fold.specs.Lists.{zeros}
 use Rattle.fold.specs.Rule.{holds}
-use Rattle.rules.specs.Answer.{After, accepted, refused, called, answered, codeOf, given, never, done}
+use Rattle.rules.specs.Answer.{After, answer, accepted, refused, called, answered, named, codeOf, given, onObject, never, done}
 use Rattle.rules.specs.Tables.{task, forever, ready, sleeping, atSemaphore}
 use Rattle.rules.specs.Lines.{line, joined, queued, semaphoreLine, postedLine, activeLine, readyLine}
 use Rattle.rules.specs.Waits.{ticksFor, served}
@@ -64,10 +64,21 @@ pub record Sentences : Type 0 where
   pub accepts : (t : List ℕ) (e : After (List ℕ)) → answered t (called never e) ≡ e
   -- "A refusal has outcome 0, value 0 and no change"
   pub refuses : (t : List ℕ) (e : After (List ℕ)) → answered t (called (given 5 true never) e) ≡ refused 5 t
-  -- 'The answer': what the call answered is given, whoever runs next
-  pub answers : (r : After Tables) → finished r .answer ≡ r .answer
-  -- code 3, "an object number out of range or not in use": event 0 is in range
-  pub not-in-use : codeOf (postCases (zeros 16) 0 0 0) ≡ 3
+  -- No. 2: "Code 3 stays for a number outside its table. A number inside the table whose object is not in use gets a new code"
+  pub outside : codeOf (onObject 16 16 0 never) ≡ 3
+  pub inside : codeOf (onObject 16 15 0 never) ≡ 11
+  pub in-use : codeOf (onObject 16 15 1 never) ≡ 0
+  -- "The answer's value names the table", of these two codes alone; a clock's create takes a Swi's number
+  pub names : named 0x43 (answer 3 0 0) ≡ answer 3 0 5
+  pub names-a-swi : named 0x50 (answer 11 0 0) ≡ answer 11 0 2
+  pub names-none : named 0x23 (answer 7 0 0) ≡ answer 7 0 0
+  -- 'The answer': what the call answered is given, whoever runs next; a refused number's table is named
+  pub answers : (n : ℕ) (r : After Tables) → finished n r .answer ≡ named n (r .answer)
+  -- event 7 is the last of its table, and not in use; event 8 is outside
+  pub not-in-use : codeOf (postCases (zeros 16) 7 0 0) ≡ 11
+  pub not-there : codeOf (postCases (zeros 16) 8 0 0) ≡ 3
+  -- "Checks run in the order of this table": the object before the arguments
+  pub object-first : codeOf (postCases (zeros 16) 8 1 0) ≡ 3
   -- "a new object takes the lowest free number": event 0 is in use
   pub lowest : freeEvent (bits 0) ≡ 1
   -- "After each accepted call .. the current task becomes the front of the highest non-empty ready queue": from task 1, blocked, to task 0
@@ -111,8 +122,16 @@ sentences =
     record {
       accepts = λ t e. refl;
       refuses = λ t e. refl;
-      answers = λ r. refl;
+      outside = refl;
+      inside = refl;
+      in-use = refl;
+      names = refl;
+      names-a-swi = refl;
+      names-none = refl;
+      answers = λ n r. refl;
       not-in-use = refl;
+      not-there = refl;
+      object-first = refl;
       lowest = refl;
       dispatches = refl;
       starts = refl;

@@ -1,8 +1,8 @@
 -- 01, 'The answer': code, outcome, value; the order of the checks; what a refusal leaves.
-use Prim.Native.Nat.{ℕ}
-use mathlib.Core.Bool.{Bool, true, false, not, _||_, cond as if}
+use Prim.Native.Nat.{ℕ, _+_, _/_}
+use mathlib.Core.Bool.{Bool, true, false, not, _&&_, _||_, cond as if}
 use mathlib.Core.List.{List, [], _∷_}
-use lib.Dec.{eqb}
+use lib.Dec.{eqb, ltb}
 use Rattle.rules.specs.declared.Answer.{Answer}
 
 abbrev pub answer : ℕ → ℕ → ℕ → Answer
@@ -28,12 +28,22 @@ never k = false
 abbrev pub given : ℕ → Bool → Cases → Cases
 given code holds rest k = if (eqb k code) holds (rest k)
 
+-- No. 2: "Code 3 stays for a number outside its table. A number inside the table whose object is not in use gets a new code", 11. Of object number a in
+-- a table of n; `used` is what the table has of it: 0 where it is not in use, and outside
+abbrev pub onObject : ℕ → ℕ → ℕ → Cases → Cases
+onObject n a used rest = given 3 (eqb used 0 && not (ltb a n)) (given 11 (eqb used 0 && ltb a n) rest)
+
+-- which of the two it is, where `used` is 0
+unfoldable pub absentCode : ℕ → ℕ → ℕ
+absentCode a n = if (ltb a n) 11 3
+
 -- "Checks run in the order of this table":
--- 10 the tables are not sound; 1 unknown call number; 2 wrong context, or a limit other than 0 outside a task; 3 an object number out of range
--- or not in use; 4 a bad argument, or an unused one not 0; 5 the object's state forbids it; 6 no free number in the table; 7 count or depth
--- at its end; 8 no heap room; 9 a yield, end, sleep above 0 or wait that begins, while either switch is off, or a Swi end while Swis are off
+-- 10 the tables are not sound; 1 unknown call number; 2 wrong context, or a limit other than 0 outside a task; 3 an object number out of range,
+-- 11 one not in use (No. 2: "same place in the order as 3; both never apply"); 4 a bad argument, or an unused one not 0; 5 the object's state
+-- forbids it; 6 no free number in the table; 7 count or depth at its end; 8 no heap room; 9 a yield, end, sleep above 0 or wait that begins, while
+-- either switch is off, or a Swi end while Swis are off
 abbrev pub order : List ℕ
-order = 10 ∷ 1 ∷ 2 ∷ 3 ∷ 4 ∷ 5 ∷ 6 ∷ 7 ∷ 8 ∷ 9 ∷ []
+order = 10 ∷ 1 ∷ 2 ∷ 3 ∷ 11 ∷ 4 ∷ 5 ∷ 6 ∷ 7 ∷ 8 ∷ 9 ∷ []
 
 -- "a code is given exactly in its case": the first case that holds gives the code; 0 where none does
 unfoldable pub firstGiven : List ℕ → Cases → ℕ
@@ -55,9 +65,18 @@ after r t = record { answer = r; next = t }
 abbrev pub accepted : {A : Type 0} → ℕ → ℕ → A → After A
 accepted o v t = after (answer 0 o v) t
 
--- "A refusal has outcome 0, value 0 and no change"
+-- "A refusal has outcome 0, value 0 and no change"; with codes 3 and 11 the value is put in by `named`
 abbrev pub refused : {A : Type 0} → ℕ → A → After A
 refused k t = after (answer k 0 0) t
+
+-- No. 2: "The answer's value names the table: 1 tasks, 2 Swis, 3 semaphores, 4 events, 5 mailboxes, 6 clocks.": of a call
+-- that takes an object's number, and so can be refused with code 3 or 11: its kind's, by the ranges of sixteen; call 50 takes a Swi's
+unfoldable pub tableOf : ℕ → ℕ
+tableOf number = if (eqb number 0x50) 2 (number / 16 + 1)
+
+-- the answer to this call as it leaves the core: "for these two codes the value is no longer 0"
+unfoldable pub named : ℕ → Answer → Answer
+named number r = if (eqb (r .code) 3 || eqb (r .code) 11) (answer (r .code) (r .outcome) (tableOf number)) r
 
 -- a call: when each code is given, and what it does where none is
 pub record Call (A : Type 0) : Type 0 where

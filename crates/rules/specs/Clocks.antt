@@ -4,8 +4,8 @@ use mathlib.Core.Bool.{_||_, cond as if}
 use mathlib.Core.List.{List}
 use lib.Dec.{eqb}
 use Rattle.fold.specs.Find.{firstBelow}
-use Rattle.rules.specs.Answer.{Cases, given, never, Call, called, After, accepted, unknown, done, notT, unused}
-use Rattle.rules.specs.Tables.{clockCount, clock, withClock, noClock, swi, USED}
+use Rattle.rules.specs.Answer.{Cases, given, onObject, never, Call, called, After, accepted, unknown, done, notT, unused}
+use Rattle.rules.specs.Tables.{swiCount, clockCount, clock, withClock, noClock, swi, USED}
 use Rattle.rules.specs.declared.Clock.{Clock}
 
 unfoldable pub freeClock : List ℕ → ℕ
@@ -19,7 +19,7 @@ withLeft k n = record { used = k .used; swi = k .swi; first = k .first; period =
 unfoldable pub createCases : List ℕ → List ℕ → ℕ → ℕ → ℕ → ℕ → Cases
 createCases cs ws x a b d =
     given 2 (notT x)
-    (given 3 (eqb (swi ws a USED) 0)
+    (onObject swiCount a (swi ws a USED)
     (given 4 (eqb b 0 || unused 0 0 0 d)
     (given 6 (eqb (freeClock cs) clockCount) never)))
 
@@ -29,14 +29,14 @@ createEffect cs a b c =
 
 -- ---- "51 delete (T)."
 unfoldable pub deleteCases : List ℕ → ℕ → ℕ → ℕ → ℕ → ℕ → Cases
-deleteCases cs x a b c d = given 2 (notT x) (given 3 (eqb (clock cs a .used) 0) (given 4 (unused 0 b c d) never))
+deleteCases cs x a b c d = given 2 (notT x) (onObject clockCount a (clock cs a .used) (given 4 (unused 0 b c d) never))
 
 unfoldable pub deleteEffect : List ℕ → ℕ → After (List ℕ)
 deleteEffect cs a = accepted done 0 (withClock cs a noClock)
 
 -- ---- "52 start, 53 stop (T S I): start sets the first ticks again."
 unfoldable pub startStopCases : List ℕ → ℕ → ℕ → ℕ → ℕ → Cases
-startStopCases cs a b c d = given 3 (eqb (clock cs a .used) 0) (given 4 (unused 0 b c d) never)
+startStopCases cs a b c d = onObject clockCount a (clock cs a .used) (given 4 (unused 0 b c d) never)
 
 unfoldable pub startEffect : List ℕ → ℕ → After (List ℕ)
 startEffect cs a = accepted done 0 (withClock cs a (withLeft (clock cs a) (clock cs a .first)))

@@ -6,7 +6,7 @@ use lib.Bits.{bitAnd, bitOr}
 use lib.Dec.{eqb}
 use Rattle.fold.specs.Lists.{zeros}
 use Rattle.fold.specs.Find.{firstBelow}
-use Rattle.rules.specs.Answer.{Cases, given, never, Call, called, After, accepted, unknown, done, notMet, nowWaiting, notT, unused}
+use Rattle.rules.specs.Answer.{Cases, given, onObject, never, Call, called, After, accepted, unknown, done, notMet, nowWaiting, notT, unused}
 use Rattle.rules.specs.Tables.{eventCount, eventWidth, event, withEvent, eventRow, task, current, atEvent, USED, BITS}
 use Rattle.rules.specs.Lines.{eventLine, anyone, first, moved, atBack}
 use Rattle.rules.specs.Waits.{Served, served, queue, requeued, outside, switchOff, idle, waiting, woken}
@@ -30,7 +30,7 @@ createEffect q =
 -- ---- "31 delete (T): 5 with a waiter."
 unfoldable pub deleteCases : List ℕ → List ℕ → ℕ → ℕ → ℕ → ℕ → ℕ → Cases
 deleteCases ls es x a b c d =
-    given 2 (notT x) (given 3 (eqb (event es a USED) 0) (given 4 (unused 0 b c d) (given 5 (anyone ls (eventLine a)) never)))
+    given 2 (notT x) (onObject eventCount a (event es a USED) (given 4 (unused 0 b c d) (given 5 (anyone ls (eventLine a)) never)))
 
 unfoldable pub deleteEffect : Served → ℕ → After Served
 deleteEffect q a = accepted done 0 (served (q .tasks) (q .lines) (eventRow (q .objects) a (zeros eventWidth)))
@@ -42,7 +42,7 @@ waits es a b c limit = eqb (matched (event es a BITS) b c) 0 && not (eqb limit 0
 unfoldable pub pendCases : List ℕ → List ℕ → List ℕ → ℕ → ℕ → ℕ → ℕ → ℕ → Cases
 pendCases ls es st x a b c d =
     given 2 (outside x d)
-    (given 3 (eqb (event es a USED) 0)
+    (onObject eventCount a (event es a USED)
     (given 4 (eqb b 0 && eqb c 0)
     (given 5 (anyone ls (eventLine a) || (waits es a b c d && idle st))
     (given 9 (waits es a b c d && switchOff st) never))))
@@ -60,7 +60,7 @@ pendEffect q st a b c limit =
 
 -- ---- "33 post (event, mask; T S I): sets bits, then by the same match serves the waiter; value 1 if it did, else 0. Bits persist."
 unfoldable pub postCases : List ℕ → ℕ → ℕ → ℕ → Cases
-postCases es a c d = given 3 (eqb (event es a USED) 0) (given 4 (unused 0 0 c d) never)
+postCases es a c d = onObject eventCount a (event es a USED) (given 4 (unused 0 0 c d) never)
 
 -- what of these bits the event's waiter matches; 0 where nobody waits
 unfoldable pub waiterMatch : List ℕ → List ℕ → ℕ → ℕ → ℕ

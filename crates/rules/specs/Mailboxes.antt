@@ -6,7 +6,7 @@ use lib.Dec.{eqb, leb}
 use lib.ListN.{drop, getD}
 use Rattle.fold.specs.Lists.{zeros}
 use Rattle.fold.specs.Find.{firstBelow}
-use Rattle.rules.specs.Answer.{Cases, given, never, Call, called, After, accepted, unknown, done, notMet, nowWaiting, notT, unused}
+use Rattle.rules.specs.Answer.{Cases, given, onObject, never, Call, called, After, accepted, unknown, done, notMet, nowWaiting, notT, unused}
 use Rattle.rules.specs.Tables.{mailboxCount, mailboxWidth, mailboxMost, mailbox, mailboxRow, messages, withMessages, task, current, reading, writing, CAPACITY, MESSAGES}
 use Rattle.rules.specs.Lines.{mailboxLine, anyone, first, moved, atBack}
 use Rattle.rules.specs.Waits.{Served, served, queue, requeued, outside, switchOff, idle, waiting, woken}
@@ -37,7 +37,7 @@ createEffect q a =
 unfoldable pub deleteCases : List ℕ → List ℕ → ℕ → ℕ → ℕ → ℕ → ℕ → Cases
 deleteCases ls ms x a b c d =
     given 2 (notT x)
-    (given 3 (eqb (mailbox ms a CAPACITY) 0)
+    (onObject mailboxCount a (mailbox ms a CAPACITY)
     (given 4 (unused 0 b c d)
     (given 5 (anyone ls (mailboxLine a) || not (eqb (mailbox ms a MESSAGES) 0)) never)))
 
@@ -51,7 +51,7 @@ postWaits ts ls ms a limit = not (waitsFirst ts ls a reading) && isFull ms a && 
 unfoldable pub postCases : List ℕ → List ℕ → List ℕ → List ℕ → ℕ → ℕ → ℕ → ℕ → Cases
 postCases ts ls ms st x a c d =
     given 2 (outside x c)
-    (given 3 (eqb (mailbox ms a CAPACITY) 0)
+    (onObject mailboxCount a (mailbox ms a CAPACITY)
     (given 4 (unused 0 0 0 d)
     (given 5 (postWaits ts ls ms a c && idle st)
     (given 9 (postWaits ts ls ms a c && switchOff st) never))))
@@ -74,7 +74,7 @@ pendWaits ms a limit = eqb (mailbox ms a MESSAGES) 0 && not (eqb limit 0)
 unfoldable pub pendCases : List ℕ → List ℕ → ℕ → ℕ → ℕ → ℕ → ℕ → Cases
 pendCases ms st x a b c d =
     given 2 (outside x b)
-    (given 3 (eqb (mailbox ms a CAPACITY) 0)
+    (onObject mailboxCount a (mailbox ms a CAPACITY)
     (given 4 (unused 0 0 c d)
     (given 5 (pendWaits ms a b && idle st)
     (given 9 (pendWaits ms a b && switchOff st) never))))

@@ -5,7 +5,7 @@ use mathlib.Core.List.{List, [], _∷_}
 use lib.Dec.{eqb, ltb, leb}
 use Rattle.fold.specs.Lists.{zeros}
 use Rattle.fold.specs.Find.{firstBelow}
-use Rattle.rules.specs.Answer.{Cases, given, never, Call, called, After, accepted, unknown, done, notMet, nowWaiting, notT, unused}
+use Rattle.rules.specs.Answer.{Cases, given, onObject, never, Call, called, After, accepted, unknown, done, notMet, nowWaiting, notT, unused}
 use Rattle.rules.specs.Tables.{semaphoreCount, semaphoreWidth, semaphore, withSemaphore, semaphoreRow, task, current, atSemaphore, USED, KIND, COUNT}
 use Rattle.rules.specs.Lines.{semaphoreLine, anyone, first, moved, atBack, byPriority}
 use Rattle.rules.specs.Waits.{Served, served, queue, requeued, outside, switchOff, idle, waiting, woken}
@@ -37,7 +37,7 @@ createEffect q a b =
 unfoldable pub deleteCases : List ℕ → List ℕ → ℕ → ℕ → ℕ → ℕ → ℕ → Cases
 deleteCases ls ss x a b c d =
     given 2 (notT x)
-    (given 3 (eqb (semaphore ss a USED) 0)
+    (onObject semaphoreCount a (semaphore ss a USED)
     (given 4 (unused 0 b c d)
     (given 5 (anyone ls (semaphoreLine a)) never)))
 
@@ -47,7 +47,7 @@ deleteEffect q a = accepted done 0 (served (q .tasks) (q .lines) (semaphoreRow (
 unfoldable pub resetCases : List ℕ → List ℕ → ℕ → ℕ → ℕ → ℕ → ℕ → Cases
 resetCases ls ss x a b c d =
     given 2 (notT x)
-    (given 3 (eqb (semaphore ss a USED) 0)
+    (onObject semaphoreCount a (semaphore ss a USED)
     (given 4 (not (leb b (most (semaphore ss a KIND))) || unused 0 0 c d)
     (given 5 (anyone ls (semaphoreLine a)) never)))
 
@@ -61,7 +61,7 @@ waits ss a limit = eqb (semaphore ss a COUNT) 0 && not (eqb limit 0)
 unfoldable pub pendCases : List ℕ → List ℕ → ℕ → ℕ → ℕ → ℕ → ℕ → Cases
 pendCases ss st x a b c d =
     given 2 (outside x b)
-    (given 3 (eqb (semaphore ss a USED) 0)
+    (onObject semaphoreCount a (semaphore ss a USED)
     (given 4 (unused 0 0 c d)
     (given 5 (waits ss a b && idle st)
     (given 9 (waits ss a b && switchOff st) never))))
@@ -84,7 +84,7 @@ pendEffect q st a limit =
 -- ---- "23 post (T S I): value 1 and the first waiter ready, or value 0 and count one up; binary at 1 stays 1; counting at 65,535 is 7 (house)."
 unfoldable pub postCases : List ℕ → ℕ → ℕ → ℕ → ℕ → Cases
 postCases ss a b c d =
-    given 3 (eqb (semaphore ss a USED) 0)
+    onObject semaphoreCount a (semaphore ss a USED)
     (given 4 (unused 0 b c d)
     (given 7 (not (isBinary (semaphore ss a KIND)) && leb 65535 (semaphore ss a COUNT)) never))
 

@@ -3,7 +3,7 @@ use Prim.Native.Nat.{ℕ, _+_}
 use mathlib.Core.Bool.{Bool, _&&_, cond as if}
 use mathlib.Core.List.{List}
 use lib.Dec.{eqb, ltb, leb}
-use Rattle.rules.specs.Answer.{Call, called, After, after, answered, answer, unknown}
+use Rattle.rules.specs.Answer.{Call, called, After, after, answered, answer, named, unknown}
 use Rattle.rules.specs.Tables.{tables}
 use Rattle.rules.specs.Lines.{Queued, queued}
 use Rattle.rules.specs.Waits.{Served, served}
@@ -79,13 +79,14 @@ settled code ws ls st = if (eqb code 0) (dispatched ws ls st) (dispatchedOf ws l
 abbrev pub stepOf : Tables → Answer → Thread → Step
 stepOf t r x = record { tables = t; answer = r; thread = x }
 
-unfoldable pub finished : After Tables → Step
-finished r =
+-- No. 2: the answer leaves the core with the table named
+unfoldable pub finished : ℕ → After Tables → Step
+finished number r =
     let x : Dispatched = settled (r .answer .code) (r .next .swis) (r .next .lines) (r .next .state) in
-    stepOf (withDispatched (r .next) x) (r .answer) (running (x .lines) (x .state))
+    stepOf (withDispatched (r .next) x) (named number (r .answer)) (running (x .lines) (x .state))
 
 unfoldable pub step : Tables → ℕ → ℕ → ℕ → ℕ → ℕ → Step
-step t number a b c d = finished (answered t (callOf t (context (t .lines) (t .state)) number a b c d))
+step t number a b c d = finished number (answered t (callOf t (context (t .lines) (t .state)) number a b c d))
 
 -- code 10, "the tables are not sound"; "with code 10 the thread given is T0"
 unfoldable pub call : Tables → ℕ → ℕ → ℕ → ℕ → ℕ → Step

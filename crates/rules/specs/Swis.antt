@@ -7,7 +7,7 @@ use lib.Dec.{eqb, ltb}
 use lib.ListN.{length, getD}
 use Rattle.fold.specs.Lists.{zeros, count}
 use Rattle.fold.specs.Find.{allBelow, firstBelow}
-use Rattle.rules.specs.Answer.{Cases, given, never, Call, called, After, accepted, unknown, done, notT, notS, unused}
+use Rattle.rules.specs.Answer.{Cases, given, onObject, never, Call, called, After, accepted, unknown, done, notT, notS, unused}
 use Rattle.rules.specs.Tables.{swiCount, swiWidth, clockCount, wordEnd, swi, withSwi, swiRow, clock, state, USED, PRIORITY, TRIGGER, POSTED, TAKEN, SWIS}
 use Rattle.rules.specs.Lines.{line, left, joined, postedLine, activeLine}
 
@@ -68,7 +68,7 @@ createEffect p a b =
 unfoldable pub deleteCases : List ℕ → List ℕ → List ℕ → ℕ → ℕ → ℕ → ℕ → ℕ → Cases
 deleteCases ws ls cs x a b c d =
     given 2 (notT x)
-    (given 3 (eqb (swi ws a USED) 0)
+    (onObject swiCount a (swi ws a USED)
     (given 4 (unused 0 b c d)
     (given 5 (not (eqb (swi ws a POSTED) 0) || isActive ls a || isNamed cs a) never)))
 
@@ -78,11 +78,11 @@ deleteEffect p a = accepted done 0 (posts (swiRow (p .swis) a (zeros swiWidth)) 
 -- ---- "T S I: 12 post; 13 add one and post; 14 take one and post if now 0; 15 set mask bits and post; 16 clear mask bits and post if now 0."
 -- "A Swi already posted is not queued again, its trigger still changes. An active one may be posted."
 unfoldable pub postCases : List ℕ → ℕ → ℕ → ℕ → ℕ → Cases
-postCases ws a b c d = given 3 (eqb (swi ws a USED) 0) (given 4 (unused 0 b c d) never)
+postCases ws a b c d = onObject swiCount a (swi ws a USED) (given 4 (unused 0 b c d) never)
 
 -- the same for the calls with a mask
 unfoldable pub maskCases : List ℕ → ℕ → ℕ → ℕ → Cases
-maskCases ws a c d = given 3 (eqb (swi ws a USED) 0) (given 4 (unused 0 0 c d) never)
+maskCases ws a c d = onObject swiCount a (swi ws a USED) (given 4 (unused 0 0 c d) never)
 
 unfoldable pub postEffect : Posts → ℕ → After Posts
 postEffect p a = accepted done 0 (posted a p)

@@ -4,7 +4,7 @@ use mathlib.Core.Bool.{Bool, not, _&&_, _||_, cond as if}
 use mathlib.Core.List.{List}
 use lib.Dec.{eqb, ltb, leb}
 use Rattle.fold.specs.Find.{firstBelow}
-use Rattle.rules.specs.Answer.{Cases, given, never, Call, called, After, accepted, unknown, done, nowWaiting, notT, notTS, unused}
+use Rattle.rules.specs.Answer.{Cases, given, onObject, never, Call, called, After, accepted, unknown, done, nowWaiting, notT, notTS, unused}
 use Rattle.rules.specs.Tables.{taskCount, levels, minusOne, forever, notInUse, ready, sleeping, writing, terminated, inactive, task, withTask, noTask, current}
 use Rattle.rules.specs.Lines.{Queued, queued, moved, atBack}
 use Rattle.rules.specs.Waits.{switchOff, idle, waiting}
@@ -49,7 +49,7 @@ createEffect q a = accepted done (freeTask (q .tasks)) (moved atBack (freeTask (
 unfoldable pub deleteCases : List ℕ → ℕ → ℕ → ℕ → ℕ → ℕ → Cases
 deleteCases ts x a b c d =
     given 2 (notT x)
-    (given 3 (eqb (task ts a .mode) notInUse)
+    (onObject taskCount a (task ts a .mode)
     (given 4 (unused 0 b c d)
     (given 5 (not (eqb (task ts a .mode) terminated || eqb (task ts a .mode) inactive)) never)))
 
@@ -60,7 +60,7 @@ deleteEffect q a = accepted done 0 (queued (withTask (q .tasks) a noTask) (q .li
 unfoldable pub setPriorityCases : List ℕ → List ℕ → ℕ → ℕ → ℕ → ℕ → ℕ → Cases
 setPriorityCases ts st x a b c d =
     given 2 (notTS x)
-    (given 3 (eqb (task ts a .mode) notInUse)
+    (onObject taskCount a (task ts a .mode)
     (given 4 (not (isPriority levels b) || unused 0 0 c d)
     (given 5 (eqb a 0 || eqb (task ts a .mode) terminated || (eqb b minusOne && (eqb a (current st) || blocked (task ts a .mode)))) never)))
 
@@ -121,7 +121,7 @@ sleepEffect q st n =
 
 -- ---- "06 last result (task; T S I): outcome and value of its last ended wait or sleep (a call done at once is none)."
 unfoldable pub lastResultCases : List ℕ → ℕ → ℕ → ℕ → ℕ → Cases
-lastResultCases ts a b c d = given 3 (eqb (task ts a .mode) notInUse) (given 4 (unused 0 b c d) never)
+lastResultCases ts a b c d = onObject taskCount a (task ts a .mode) (given 4 (unused 0 b c d) never)
 
 unfoldable pub lastResultEffect : Queued → ℕ → After Queued
 lastResultEffect q a = accepted (task (q .tasks) a .outcome) (task (q .tasks) a .value) q

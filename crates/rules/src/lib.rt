@@ -1,6 +1,19 @@
 // Document 01 as types. A table is an array of numbers, a row for each object and a word for each field; what the numbers
 // mean, and what each call does to them, is said in specs/, a file for each section of the document, and Rows, Lines, Waits and Step for what the sections share.
 
+// How many objects each table has.
+pub const TASK_COUNT: u32 = 32;
+
+pub const SWI_COUNT: u32 = 16;
+
+pub const SEMAPHORE_COUNT: u32 = 16;
+
+pub const EVENT_COUNT: u32 = 8;
+
+pub const MAILBOX_COUNT: u32 = 8;
+
+pub const CLOCK_COUNT: u32 = 16;
+
 // 32 rows of 8: mode, priority, object, left, first, second, outcome, value.
 pub type Tasks = [u32; 256];
 

@@ -9,28 +9,28 @@ use Rattle.rules.proofs.Runs.{deleteEvent, postEvent, createMailbox, deleteMail
 use Rattle.rules.proofs.Runs.{interruptIn, tick}
 use Rattle.rules.proofs.Faster.{faster, quickly, fresh-sound}
 
--- "A number below the table's size passes although its object was deleted.": it is code 3, of each kind; an inactive task can be deleted
+-- "A number below the table's size passes although its object was deleted.": it is code 11, of each kind; an inactive task can be deleted
 abbrev pub deleted : List Line
 deleted =
     createTask minusOne ⇒ said 0 0 1 (T 0)
     ∷ deleteTask 1 ⇒ said 0 0 0 (T 0)
-    ∷ lastResult 1 ⇒ said 3 0 0 (T 0)
+    ∷ lastResult 1 ⇒ said 11 0 1 (T 0)
     ∷ createSwi 3 0 ⇒ said 0 0 0 (T 0)
     ∷ createClock 0 1 0 ⇒ said 0 0 0 (T 0)
     ∷ deleteClock 0 ⇒ said 0 0 0 (T 0)
-    ∷ startClock 0 ⇒ said 3 0 0 (T 0)
+    ∷ startClock 0 ⇒ said 11 0 6 (T 0)
     ∷ deleteSwi 0 ⇒ said 0 0 0 (T 0)
-    ∷ postSwi 0 ⇒ said 3 0 0 (T 0)
-    ∷ createClock 0 1 0 ⇒ said 3 0 0 (T 0)
+    ∷ postSwi 0 ⇒ said 11 0 2 (T 0)
+    ∷ createClock 0 1 0 ⇒ said 11 0 2 (T 0)
     ∷ createSemaphore 0 0 ⇒ said 0 0 0 (T 0)
     ∷ deleteSemaphore 0 ⇒ said 0 0 0 (T 0)
-    ∷ post 0 ⇒ said 3 0 0 (T 0)
+    ∷ post 0 ⇒ said 11 0 3 (T 0)
     ∷ createEvent ⇒ said 0 0 0 (T 0)
     ∷ deleteEvent 0 ⇒ said 0 0 0 (T 0)
-    ∷ postEvent 0 1 ⇒ said 3 0 0 (T 0)
+    ∷ postEvent 0 1 ⇒ said 11 0 4 (T 0)
     ∷ createMailbox 1 ⇒ said 0 0 0 (T 0)
     ∷ deleteMailbox 0 ⇒ said 0 0 0 (T 0)
-    ∷ postMailbox 0 7 0 ⇒ said 3 0 0 (T 0)
+    ∷ postMailbox 0 7 0 ⇒ said 11 0 5 (T 0)
     ∷ []
 
 -- "A waiter that expires is readied but stays in the line, so a later post goes to it.": the post wakes nobody and counts up

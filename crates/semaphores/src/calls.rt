@@ -78,7 +78,7 @@ pub fn delete_code(
     }
     let i = a as usize;
     if words::semaphore(semaphores, i, USED) == 0 {
-        return 3;
+        return rows::answers::absent_code(a, rules::SEMAPHORE_COUNT);
     }
     if rows::answers::unused(0, b, c, d) {
         return 4;
@@ -140,7 +140,7 @@ pub fn reset_code(
     }
     let i = a as usize;
     if words::semaphore(semaphores, i, USED) == 0 {
-        return 3;
+        return rows::answers::absent_code(a, rules::SEMAPHORE_COUNT);
     }
     if bad_reset(words::semaphore(semaphores, i, KIND), b, c, d) {
         return 4;

@@ -81,7 +81,7 @@ pub fn delete_code(
         return 2;
     }
     if words::swi(swis, a as usize, USED) == 0 {
-        return 3;
+        return rows::answers::absent_code(a, rules::SWI_COUNT);
     }
     if rows::answers::unused(0, b, c, d) {
         return 4;

@@ -88,7 +88,7 @@ pub fn delete_code(tasks: &Tasks, x: u32, a: u32, b: u32, c: u32, d: u32) -> u32
     }
     let mode = words::task_word(tasks, a as usize, MODE);
     if mode == NOT_IN_USE {
-        return 3;
+        return rows::answers::absent_code(a, rules::TASK_COUNT);
     }
     if rows::answers::unused(0, b, c, d) {
         return 4;
@@ -142,7 +142,7 @@ pub fn set_priority_code(
     }
     let mode = words::task_word(tasks, a as usize, MODE);
     if mode == NOT_IN_USE {
-        return 3;
+        return rows::answers::absent_code(a, rules::TASK_COUNT);
     }
     if !is_priority(b) | rows::answers::unused(0, 0, c, d) {
         return 4;
@@ -207,12 +207,12 @@ pub fn set_priority(
 
 // ---- 06 last result (task; T S I)
 
-// 3 for a number out of range or not in use.
+// 3 for a number outside the table, 11 for a task not in use.
 pub fn last_result_code(tasks: &Tasks, a: u32, b: u32, c: u32, d: u32) -> u32
     ensures { λ r. ⌜ r ≡ codeOf (lastResultCases (now (tasks .entry)) a b c d) ⌝ }
 {
     if words::task_word(tasks, a as usize, MODE) == NOT_IN_USE {
-        return 3;
+        return rows::answers::absent_code(a, rules::TASK_COUNT);
     }
     if rows::answers::unused(0, b, c, d) {
         return 4;

@@ -95,9 +95,9 @@ module _ (t : Tables) (typed : Typed t) (s : Sound t) (q : Asked) (w : Words q) 
   lines-are : next t q .lines ≡ swiDispatched (effectOf t q .state) (posts (effectOf t q .swis) (effectOf t q .lines)) .lines
   unfolding step dispatched
   lines-are =
-      let done : made t q ≡ finished (callFor t q .effect) = is-step ∙ rw (eq-eqb (codeOf (callFor t q .cases)) 0 no-case) in
+      let done : made t q ≡ finished (q .number) (callFor t q .effect) = is-step ∙ rw (eq-eqb (codeOf (callFor t q .cases)) 0 no-case) in
       let x = context (t .lines) (t .state) in
-      let left = effect-leaves (callFor t q .effect) (effect-code t x (q .number) (q .a) (q .b) (q .c) (q .d)) in
+      let left = effect-leaves (q .number) (callFor t q .effect) (effect-code t x (q .number) (q .a) (q .b) (q .c) (q .d)) in
       ap (λ (x : Step). x .tables .lines) done ∙ ap (λ (u : Tables). u .lines) left
 
   still-full : length (effectOf t q .lines) ≡ 2145

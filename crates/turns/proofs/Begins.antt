@@ -26,7 +26,7 @@ use Rattle.runs.specs.Turn.{beforeAt}
 use Rattle.refusals.proofs.First.{by-bool}
 use Rattle.refusals.proofs.Known.{callFor}
 use Rattle.keeps.proofs.Groups.{Almost}
-use Rattle.keeps.proofs.Codes.{accepted-is}
+use Rattle.keeps.proofs.Codes.{accepted-is, object-used}
 use Rattle.keeps.proofs.Members.{bit-other}
 use Rattle.keeps.proofs.Standing.{sound-almost}
 use Rattle.keeps.proofs.Moves.{moved-into, moved-row}
@@ -63,7 +63,7 @@ module _ (t : Tables) (typed : Typed t) (sound : Sound t) (s : ℕ) (word : s < 
   here : s < semaphoreCount
   unfolding callOf Semaphores.semaphoreCall Semaphores.pendCases
   here =
-      row-used semaphoreWidth semaphoreCount (t .semaphores) s USED (eqb-false _ _ (accepted-is _ (ok .cases) .at3))
+      row-used semaphoreWidth semaphoreCount (t .semaphores) s USED (eqb-false _ _ (object-used _ _ (accepted-is _ (ok .cases) .at3) (accepted-is _ (ok .cases) .at11)))
 
   other : i ≢ 0
   unfolding callOf Semaphores.semaphoreCall Semaphores.pendCases Semaphores.waits

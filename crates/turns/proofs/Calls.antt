@@ -28,18 +28,18 @@ abbrev rows : Tables → Queued
 rows t = queued (t .tasks) (t .lines)
 
 -- dispatch leaves the lines of tasks
-finished-aside : (r : After Tables) → Aside (r .next .lines) (finished r .tables .lines)
+finished-aside : (n : ℕ) (r : After Tables) → Aside (r .next .lines) (finished n r .tables .lines)
 unfolding finished
-finished-aside r =
+finished-aside n r =
     chosen (λ (x : Dispatched). Aside (r .next .lines) (x .lines)) (eqb (r .answer .code) 0) _ _
     (λ _. dispatched-aside (r .next .swis) (r .next .lines) (r .next .state))
     (λ _. aside-refl (r .next .lines))
 
-finished-leaves : (t : Tables) (i : ℕ) (r : After Tables) → Left t i (rows (r .next)) → Left t i (rows (finished r .tables))
+finished-leaves : (n : ℕ) (t : Tables) (i : ℕ) (r : After Tables) → Left t i (rows (r .next)) → Left t i (rows (finished n r .tables))
 unfolding finished
-finished-leaves t i r k =
+finished-leaves n t i r k =
     in-trans i (Arrival t) _ (rows (r .next)) _ k
-    (in-lines i (Arrival t) (r .next .tasks) (r .next .lines) _ (finished-aside r .full) (λ j a. finished-aside r .same j (a .tasks)))
+    (in-lines i (Arrival t) (r .next .tasks) (r .next .lines) _ (finished-aside n r .full) (λ j a. finished-aside n r .same j (a .tasks)))
 
 module _ (t : Tables) (typed : Typed t) (s : Sound t) (q : Asked) (i : ℕ) (u : Unmoved t q i) where
   -- an accepted call, by its kind
@@ -68,5 +68,5 @@ module _ (t : Tables) (typed : Typed t) (s : Sound t) (q : Asked) (i : ℕ) (u :
   unfolding call step
   call-same =
       chosen (λ (x : Step). Left t i (rows (x .tables))) (sound t) _ _
-      (λ _. finished-leaves t i _ (answered-leaves _ kind-leaves))
+      (λ _. finished-leaves (q .number) t i _ (answered-leaves _ kind-leaves))
       (λ _. stay t i)

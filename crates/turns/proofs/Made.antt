@@ -15,8 +15,9 @@ use Rattle.rules.specs.declared.Tables.{Tables}
 use Rattle.rules.specs.declared.Answer.{Answer}
 use Rattle.rules.specs.declared.Step.{Step}
 use Rattle.runs.specs.Run.{Asked, Words, made, next}
+use Rattle.laws.proofs.Effects.{effect-code}
 use Rattle.refusals.proofs.Known.{callFor}
-use Rattle.refusals.proofs.Demand.{finished-answer, step-code, left-alone}
+use Rattle.refusals.proofs.Demand.{finished-answer, named-accepted, step-code, left-alone}
 use Rattle.keeps.proofs.Groups.{OfTasks}
 use Rattle.keeps.proofs.Groups as Groups
 use Rattle.keeps.proofs.Keeps.{settledBy, effect-leaves, step-typed, step-sound}
@@ -49,7 +50,7 @@ module _ (t : Tables) (s : Sound t) (q : Asked) where
   no-case : made t q .answer .code ≡ 0 → codeOf (callFor t q .cases) ≡ 0
   no-case z = sym (step-code t q) ∙ ap (λ (x : Step). x .answer .code) (sym is-step) ∙ z
 
-  done-step : codeOf (callFor t q .cases) ≡ 0 → made t q ≡ finished (callFor t q .effect)
+  done-step : codeOf (callFor t q .cases) ≡ 0 → made t q ≡ finished (q .number) (callFor t q .effect)
   unfolding step
   done-step z = is-step ∙ rw (eq-eqb (codeOf (callFor t q .cases)) 0 z)
 
@@ -57,12 +58,12 @@ module _ (t : Tables) (s : Sound t) (q : Asked) where
   is-accepted z =
       let none = no-case z in
       let e = done-step none in
-      let a : made t q .answer ≡ callFor t q .effect .answer = ap (λ (x : Step). x .answer) e ∙ finished-answer (callFor t q .effect) in
+      let a : made t q .answer ≡ callFor t q .effect .answer = ap (λ (x : Step). x .answer) e ∙ finished-answer (q .number) (callFor t q .effect) ∙ named-accepted (q .number) (callFor t q .effect .answer) (effect-code t _ (q .number) (q .a) (q .b) (q .c) (q .d)) in
       record {
         code = z;
         cases = none;
         answer = a;
-        next = ap (λ (x : Step). x .tables) e ∙ effect-leaves (callFor t q .effect) (sym (ap (λ (x : Answer). x .code) a) ∙ z);
+        next = ap (λ (x : Step). x .tables) e ∙ effect-leaves (q .number) (callFor t q .effect) (sym (ap (λ (x : Answer). x .code) a) ∙ z);
       }
 
   pub by-answer : {P : Type 0} → (Refused t q → P) → (Accepted t q → P) → P

@@ -22,7 +22,7 @@ use Rattle.laws.proofs.Lines.{line-out}
 use Rattle.runs.specs.Run.{Asked}
 use Rattle.refusals.proofs.Known.{callFor}
 use Rattle.keeps.proofs.Groups.{OfTasks, Standing}
-use Rattle.keeps.proofs.Codes.{accepted-is}
+use Rattle.keeps.proofs.Codes.{accepted-is, object-used}
 use Rattle.keeps.proofs.Members.{bit-eq}
 use Rattle.turns.proofs.Same.{servedLine}
 
@@ -36,16 +36,16 @@ module _ (t : Tables) (q : Asked) (z : codeOf (callFor t q .cases) ≡ 0) where
   of-post : q .number ≡ 0x23 → q .a < semaphoreCount
   unfolding callOf Semaphores.semaphoreCall Semaphores.postCases
   of-post e =
-      row-used semaphoreWidth semaphoreCount (t .semaphores) (q .a) 0 (eqb-false _ _ (accepted-is _ (rw e at z) .at3))
+      row-used semaphoreWidth semaphoreCount (t .semaphores) (q .a) 0 (eqb-false _ _ (object-used _ _ (accepted-is _ (rw e at z) .at3) (accepted-is _ (rw e at z) .at11)))
 
   of-event : q .number ≡ 0x33 → q .a < eventCount
   unfolding callOf Events.eventCall Events.postCases
-  of-event e = row-used eventWidth eventCount (t .events) (q .a) 0 (eqb-false _ _ (accepted-is _ (rw e at z) .at3))
+  of-event e = row-used eventWidth eventCount (t .events) (q .a) 0 (eqb-false _ _ (object-used _ _ (accepted-is _ (rw e at z) .at3) (accepted-is _ (rw e at z) .at11)))
 
   of-mailbox : (q .number ≡ 0x42) ⊎ (q .number ≡ 0x43) → q .a < mailboxCount
   unfolding callOf Mailboxes.mailboxCall Mailboxes.postCases Mailboxes.pendCases
-  of-mailbox (inl e) = row-used mailboxWidth mailboxCount (t .mailboxes) (q .a) 0 (eqb-false _ _ (accepted-is _ (rw e at z) .at3))
-  of-mailbox (inr e) = row-used mailboxWidth mailboxCount (t .mailboxes) (q .a) 0 (eqb-false _ _ (accepted-is _ (rw e at z) .at3))
+  of-mailbox (inl e) = row-used mailboxWidth mailboxCount (t .mailboxes) (q .a) 0 (eqb-false _ _ (object-used _ _ (accepted-is _ (rw e at z) .at3) (accepted-is _ (rw e at z) .at11)))
+  of-mailbox (inr e) = row-used mailboxWidth mailboxCount (t .mailboxes) (q .a) 0 (eqb-false _ _ (object-used _ _ (accepted-is _ (rw e at z) .at3) (accepted-is _ (rw e at z) .at11)))
 
   pub reaches : Reaches q
   unfolding servedLine

@@ -15,7 +15,7 @@ use Rattle.rules.specs.Dispatch.{context}
 use Rattle.rules.specs.declared.Tables.{Tables}
 use Rattle.laws.proofs.Rows.{row-used}
 use Rattle.runs.specs.Run.{Asked}
-use Rattle.keeps.proofs.Codes.{accepted-is}
+use Rattle.keeps.proofs.Codes.{accepted-is, object-used}
 use Rattle.keeps.proofs.Objects.{in-task}
 use Rattle.turns.proofs.Same.{servedLine, Unmoved, Arrival}
 use Rattle.turns.proofs.Leaves.{Left, Leaves, by-number, by-test, unknown-leaves, stay, moves, current-other, first-moves}
@@ -56,6 +56,6 @@ module _ (t : Tables) (typed : Typed t) (q : Asked) (i : ℕ) (u : Unmoved t q i
   semaphores-leave =
       by-number t i queue (q .number) 0x20 _ _ (λ _ _. stay t i)
       (by-number t i queue (q .number) 0x21 _ _ (λ _ _. stay t i)
-      (by-number t i queue (q .number) 0x22 _ _ (λ _ z. pend-leaves (accepted-is _ z .at2) (eqb-false _ _ (accepted-is _ z .at3)))
+      (by-number t i queue (q .number) 0x22 _ _ (λ _ z. pend-leaves (accepted-is _ z .at2) (eqb-false _ _ (object-used _ _ (accepted-is _ z .at3) (accepted-is _ z .at11))))
       (by-number t i queue (q .number) 0x23 _ _ (λ n _. post-leaves n)
       (by-number t i queue (q .number) 0x24 _ _ (λ _ _. stay t i) (unknown-leaves t i queue tq)))))

@@ -15,7 +15,7 @@ use Rattle.rules.specs.declared.Tables.{Tables}
 use Rattle.rules.specs.declared.Task.{Task}
 use Rattle.laws.proofs.Calls.{chosen}
 use Rattle.runs.specs.Run.{Asked}
-use Rattle.keeps.proofs.Codes.{accepted-is}
+use Rattle.keeps.proofs.Codes.{accepted-is, object-used}
 use Rattle.keeps.proofs.TaskRows.{task-same, in-use}
 use Rattle.keeps.proofs.Objects.{free-is}
 use Rattle.turns.proofs.Same.{Unmoved, Arrival}
@@ -81,7 +81,7 @@ module _ (t : Tables) (typed : Typed t) (q : Asked) (i : ℕ) (u : Unmoved t q i
   tasks-leave =
       by-number t i whole (q .number) 0x00 _ _ (λ _ z. create-leaves (accepted-is _ z .at6))
       (by-number t i whole (q .number) 0x01 _ _ (λ n z. delete-leaves n (not-false _ (accepted-is _ z .at5)))
-      (by-number t i whole (q .number) 0x02 _ _ (λ n z. reprioritized-leaves n (eqb-false _ _ (accepted-is _ z .at3)))
+      (by-number t i whole (q .number) 0x02 _ _ (λ n z. reprioritized-leaves n (eqb-false _ _ (object-used _ _ (accepted-is _ z .at3) (accepted-is _ z .at11))))
       (by-number t i whole (q .number) 0x03 _ _ (λ _ z. current-moves t typed q i u (called-by-task _ (accepted-is _ z .at2)) _)
       (by-number t i whole (q .number) 0x04 _ _ (λ _ z. current-moves t typed q i u (called-by-task _ (accepted-is _ z .at2)) _)
       (by-number t i whole (q .number) 0x05 _ _ (λ _ z. sleep-leaves (called-by-task _ (accepted-is _ z .at2)))

@@ -1,3 +1,4 @@
+use Rattle.laws.proofs.Calls.{absent-is}
 use borrow.Author.Tests.{eq-eqb, ne-eqb}
 use Rattle.rules.specs.Answer.{firstGiven}
 use Rattle.rules.specs.Clocks.{createCases}
@@ -12,7 +13,8 @@ create-code-spec =
     (tie.spec
     (λ c. rw (ne-eqb _ 0 (c .if1 .taken)))
     (λ c κs. search needs)
-    (λ c. rw (eq-eqb _ 0 (c .before .before .if1 .left), eq-eqb _ 0 (rw (c .before .swi .ensures) at (c .if2 .taken))))
+    (λ c κs. search needs)
+    (λ c. rw (eq-eqb _ 0 (c .before .before .before .if1 .left), eq-eqb _ 0 (rw (c .before .before .swi .ensures) at (c .before .if2 .taken))) (absent-is _ _ _ (c .absent-code .ensures)))
     (λ c κs. search needs)
     (λ c. rw (eq-eqb _ 0 (c .before .before .before .before .if1 .left), ne-eqb _ 0 (rw (c .before .before .before .swi .ensures) at (c .before .before .if2 .left)), rw (c .before .unused .ensures) at (c .if3 .taken)))
     (λ c κs. search needs)

@@ -1,3 +1,4 @@
+use Rattle.laws.proofs.Calls.{absent-is}
 use mathlib.Core.Path.{sym, _∙_}
 use borrow.Author.Tests.{eq-eqb, ne-eqb}
 use Rattle.rules.specs.Answer.{firstGiven}
@@ -13,7 +14,8 @@ delete-code-spec =
     (tie.spec
     (λ c. rw (ne-eqb _ 0 (c .if1 .taken)))
     (λ c κs. search needs)
-    (λ c. rw (eq-eqb _ 0 (c .before .before .before .if1 .left), eq-eqb _ 0 (rw (c .before .before .clock .ensures) at (c .if2 .taken))))
+    (λ c κs. search needs)
+    (λ c. rw (eq-eqb _ 0 (c .before .before .before .before .if1 .left), eq-eqb _ 0 (rw (c .before .before .before .clock .ensures) at (c .before .if2 .taken))) (absent-is _ _ _ (c .absent-code .ensures)))
     (λ c κs. search needs)
     (λ c. rw (eq-eqb _ 0 (c .before .before .before .before .before .if1 .left), ne-eqb _ 0 (rw (c .before .before .before .before .clock .ensures) at (c .before .before .if2 .left)), sym (c .before .unused .ensures) ∙ c .if3 .taken))
     (λ c. rw (eq-eqb _ 0 (c .before .before .before .before .before .if1 .left), ne-eqb _ 0 (rw (c .before .before .before .before .clock .ensures) at (c .before .before .if2 .left)), sym (c .before .unused .ensures) ∙ c .if3 .left)))

@@ -1,3 +1,4 @@
+use Rattle.laws.proofs.Calls.{absent-is}
 use borrow.Author.Tests.{eq-eqb, ne-eqb}
 use mathlib.Core.Path.{sym, _∙_}
 use Rattle.rules.specs.Answer.{firstGiven}
@@ -12,7 +13,8 @@ start-stop-code-spec =
     tie.close
     (tie.spec
     (λ c κs. search needs)
-    (λ c. rw (eq-eqb _ 0 (rw (c .before .before .clock .ensures) at (c .if1 .taken))))
+    (λ c κs. search needs)
+    (λ c. rw (eq-eqb _ 0 (rw (c .before .before .before .clock .ensures) at (c .before .if1 .taken))) (absent-is _ _ _ (c .absent-code .ensures)))
     (λ c κs. search needs)
     (λ c. rw (ne-eqb _ 0 (rw (c .before .before .before .before .clock .ensures) at (c .before .before .if1 .left)), sym (c .before .unused .ensures) ∙ c .if2 .taken))
     (λ c. rw (ne-eqb _ 0 (rw (c .before .before .before .before .clock .ensures) at (c .before .before .if1 .left)), sym (c .before .unused .ensures) ∙ c .if2 .left)))

@@ -1,3 +1,4 @@
+use Rattle.laws.proofs.Calls.{absent-is}
 use Rattle.waits.proofs.Served.{is-same, is-other, both-tests, either-test}
 use Rattle.rules.specs.Events.{pendCases}
 use Rattle.rules.specs.Answer.{firstGiven}
@@ -16,7 +17,8 @@ pend-code-spec =
     (λ c κs. search needs)
     (λ c. rw (sym (c .before .outside .ensures) ∙ c .if1 .taken))
     (λ c κs. search needs)
-    (λ c. rw (sym (c .before .before .before .outside .ensures) ∙ c .before .before .if1 .left, is-same 0 (c .before .event .ensures) (c .if2 .taken)))
+    (λ c κs. search needs)
+    (λ c. rw (sym (c .before .before .before .before .outside .ensures) ∙ c .before .before .before .if1 .left, is-same 0 (c .before .before .event .ensures) (c .before .if2 .taken)) (absent-is _ _ _ (c .absent-code .ensures)))
     (λ c. rw (sym (c .before .before .before .before .outside .ensures) ∙ c .before .before .before .if1 .left, is-other 0 (c .before .before .event .ensures) (c .before .if2 .left), c .if3 .taken))
     (λ c κs. search needs)
     (λ c. search needs)

@@ -1,3 +1,4 @@
+use Rattle.laws.proofs.Calls.{absent-is}
 use Rattle.posting.proofs.Steps.{zero-is, zero-not}
 use Rattle.rules.specs.Swis.{postCases}
 use Rattle.rules.specs.Answer.{firstGiven}
@@ -12,7 +13,8 @@ post-code-spec =
     tie.close
     (tie.spec
     (λ c κs. search needs)
-    (λ c. rw (zero-is (c .before .swi .ensures) (c .if1 .taken)))
+    (λ c κs. search needs)
+    (λ c. rw (zero-is (c .before .before .swi .ensures) (c .before .if1 .taken)) (absent-is _ _ _ (c .absent-code .ensures)))
     (λ c κs. search needs)
     (λ c. rw (zero-not (c .before .before .before .swi .ensures) (c .before .before .if1 .left), sym (c .before .unused .ensures) ∙ c .if2 .taken))
     (λ c. rw (zero-not (c .before .before .before .swi .ensures) (c .before .before .if1 .left), sym (c .before .unused .ensures) ∙ c .if2 .left)))

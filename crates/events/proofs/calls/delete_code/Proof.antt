@@ -1,3 +1,4 @@
+use Rattle.laws.proofs.Calls.{absent-is}
 use Rattle.waits.proofs.Served.{is-same, is-other, is-above, is-within}
 use Rattle.rules.specs.Events.{deleteCases}
 use Rattle.rules.specs.Answer.{firstGiven}
@@ -14,7 +15,8 @@ delete-code-spec =
     (tie.spec
     (λ c. rw (ne-eqb _ 0 (c .if1 .taken)))
     (λ c κs. search needs)
-    (λ c. rw (eq-eqb _ 0 (c .before .before .if1 .left), is-same 0 (c .before .event .ensures) (c .if2 .taken)))
+    (λ c κs. search needs)
+    (λ c. rw (eq-eqb _ 0 (c .before .before .before .if1 .left), is-same 0 (c .before .before .event .ensures) (c .before .if2 .taken)) (absent-is _ _ _ (c .absent-code .ensures)))
     (λ c κs. search needs)
     (λ c. rw (eq-eqb _ 0 (c .before .before .before .before .if1 .left), is-other 0 (c .before .before .before .event .ensures) (c .before .before .if2 .left), sym (c .before .unused .ensures) ∙ c .if3 .taken))
     (λ c. search needs)

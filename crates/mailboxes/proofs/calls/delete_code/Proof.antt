@@ -1,3 +1,4 @@
+use Rattle.laws.proofs.Calls.{absent-is}
 use Rattle.rules.specs.Answer.{firstGiven}
 use mathlib.Core.Path.{_∙_, sym, ap}
 use borrow.Author.Tests.{eq-eqb, ne-eqb}
@@ -17,7 +18,8 @@ delete-code-spec =
     (tie.spec
     (λ c. rw (ne-eqb _ 0 (c .if1 .taken)))
     (λ c κs. search needs)
-    (λ c. rw (eq-eqb _ 0 (c .before .before .if1 .left), is-same 0 (c .before .mailbox .ensures) (c .if2 .taken)))
+    (λ c κs. search needs)
+    (λ c. rw (eq-eqb _ 0 (c .before .before .before .if1 .left), is-same 0 (c .before .before .mailbox .ensures) (c .before .if2 .taken)) (absent-is _ _ _ (c .absent-code .ensures)))
     (λ c κs. search needs)
     (λ c. rw (eq-eqb _ 0 (c .before .before .before .before .if1 .left), is-other 0 (c .before .before .before .mailbox .ensures) (c .before .before .if2 .left), (sym (c .before .unused .ensures) ∙ c .if3 .taken)))
     (λ c κs. search needs)

@@ -1,3 +1,4 @@
+use Rattle.laws.proofs.Calls.{absent-is}
 use Rattle.waits.proofs.Served.{is-same, is-other, is-above, is-within}
 use Rattle.rules.specs.Semaphores.{resetCases}
 use Rattle.rules.specs.Answer.{firstGiven}
@@ -14,7 +15,8 @@ reset-code-spec =
     (tie.spec
     (λ c. rw (ne-eqb _ 0 (c .if1 .taken)))
     (λ c κs. search needs)
-    (λ c. rw (eq-eqb _ 0 (c .before .before .if1 .left), is-same 0 (c .before .semaphore .ensures) (c .if2 .taken)))
+    (λ c κs. search needs)
+    (λ c. rw (eq-eqb _ 0 (c .before .before .before .if1 .left), is-same 0 (c .before .before .semaphore .ensures) (c .before .if2 .taken)) (absent-is _ _ _ (c .absent-code .ensures)))
     (λ c κs. search needs)
     (λ c κs. search needs)
     (λ c. rw (eq-eqb _ 0 (c .before .before .before .before .before .if1 .left), is-other 0 (c .before .before .before .before .semaphore .ensures) (c .before .before .before .if2 .left), ← c .before .before .semaphore2 .ensures, sym (c .before .bad-reset .ensures) ∙ c .if3 .taken))

@@ -1,3 +1,4 @@
+use Rattle.laws.proofs.Calls.{absent-is}
 use Rattle.posting.proofs.Steps.{zero-is, zero-not}
 use Rattle.rules.specs.Swis.{deleteCases}
 use Rattle.rules.specs.Answer.{firstGiven}
@@ -14,7 +15,8 @@ delete-code-spec =
     (tie.spec
     (λ c. rw (ne-eqb _ 0 (c .if1 .taken)))
     (λ c κs. search needs)
-    (λ c. rw (eq-eqb _ 0 (c .before .before .if1 .left), zero-is (c .before .swi .ensures) (c .if2 .taken)))
+    (λ c κs. search needs)
+    (λ c. rw (eq-eqb _ 0 (c .before .before .before .if1 .left), zero-is (c .before .before .swi .ensures) (c .before .if2 .taken)) (absent-is _ _ _ (c .absent-code .ensures)))
     (λ c κs. search needs)
     (λ c. rw (eq-eqb _ 0 (c .before .before .before .before .if1 .left), zero-not (c .before .before .before .swi .ensures) (c .before .before .if2 .left), sym (c .before .unused .ensures) ∙ c .if3 .taken))
     (λ c κs. search needs)

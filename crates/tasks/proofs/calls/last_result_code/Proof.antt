@@ -1,3 +1,4 @@
+use Rattle.laws.proofs.Calls.{absent-is}
 use borrow.Author.Tests.{eq-eqb, ne-eqb}
 use Rattle.rules.specs.Answer.{firstGiven}
 use Rattle.rules.specs.Tasks.{lastResultCases}
@@ -12,7 +13,8 @@ last-result-code-spec =
     tie.close
     (tie.spec
     (λ c κs. search needs)
-    (λ c. rw (← (c .before .task-word .ensures), eq-eqb _ 0 (c .if1 .taken)))
+    (λ c κs. search needs)
+    (λ c. rw (← (c .before .before .task-word .ensures), eq-eqb _ 0 (c .before .if1 .taken)) (absent-is _ _ _ (c .absent-code .ensures)))
     (λ c κs. search needs)
     (λ c. rw (← (c .before .before .before .task-word .ensures), ne-eqb _ 0 (c .before .before .if1 .left), ← (c .before .unused .ensures), c .if2 .taken))
     (λ c. rw (← (c .before .before .before .task-word .ensures), ne-eqb _ 0 (c .before .before .if1 .left), ← (c .before .unused .ensures), c .if2 .left)))
