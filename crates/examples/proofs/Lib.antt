@@ -5,3 +5,5 @@ pub mod Example
 pub mod ByPriority
 pub mod StrongerTurns
 pub mod StrongerAnswers
+pub mod Posts
+pub mod StrongerPosts

@@ -1,0 +1,6 @@
+pub mod SemaphoreCalls
+pub mod OneCall
+pub mod LastSets
+pub mod NoPostLost
+pub mod Entered
+pub mod Posts

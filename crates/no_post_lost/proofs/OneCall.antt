@@ -1,0 +1,64 @@
+-- One call on sound tables, whatever it is and whatever was answered: a refused one is no post, takes nothing and leaves the tables as they were; an
+-- accepted one leaves its effect (`SemaphoreCalls`), since dispatch after it changes no semaphore.
+use Prim.Native.Nat.{ℕ, _+_}
+use mathlib.Core.Path.{_≡_, sym, ap, _∙_}
+use mathlib.Core.Bool.{true, false, false≢true, and-false}
+use native.Mathlib.Omega.{arith}
+use lib.Dec.{eqb}
+use borrow.Author.Tests.{ne-eqb}
+use Rattle.fold.specs.Lists.{bit}
+use Rattle.rules.specs.Tables.{Typed, semaphore, COUNT}
+use Rattle.rules.specs.Sound.{Sound}
+use Rattle.rules.specs.declared.Tables.{Tables}
+use Rattle.runs.specs.Run.{Asked, made, next}
+use Rattle.turns.proofs.Made.{Accepted, Refused, by-answer, semaphores-after}
+use Rattle.no_post_lost.specs.NoPostLost.{CallAndAnswer, setsCount, isPost, takesUnit, Counting}
+use Rattle.no_post_lost.proofs.SemaphoreCalls.{countIn, holds, set-to}
+
+-- the count of s in these tables
+abbrev pub countNow : ℕ → Tables → ℕ
+countNow s t = countIn s (t .semaphores)
+
+-- call q on tables t, with its answer
+abbrev pub entry : Tables → Asked → CallAndAnswer
+entry t q = record { asked = q; answer = made t q .answer }
+
+module _ (t : Tables) (typed : Typed t) (sound : Sound t) (s : ℕ) (q : Asked) where
+  -- s was a counting semaphore before the call, and its count and the post are its count afterwards and the unit taken
+  pub record Kept : Type 0 where
+    pub before : Counting s t
+    pub even : countNow s t + bit (isPost s (entry t q)) ≡ countNow s (next t q) + bit (takesUnit s (entry t q))
+
+  -- ---- "refused calls count nowhere"
+  module _ (back : Refused t q) where
+    unanswered : eqb (made t q .answer .code) 0 ≡ false
+    unanswered = ne-eqb (made t q .answer .code) 0 (back .code)
+
+    sets-none : setsCount s (entry t q) ≡ false
+    sets-none = simp (unanswered, and-false)
+
+    as-many : bit (isPost s (entry t q)) ≡ bit (takesUnit s (entry t q))
+    as-many = simp (unanswered, and-false)
+
+    refused-kept : Counting s (next t q) → Kept
+    refused-kept now =
+        let same : countNow s (next t q) ≡ countNow s t = ap (λ (u : Tables). countNow s u) (back .next) in
+        record { before = rw (back .next) at now; even = omega (arith, same, as-many) }
+
+  -- ---- an accepted call
+  accepted-kept : Accepted t q → setsCount s (entry t q) ≡ false → Counting s (next t q) → Kept
+  accepted-kept ok not-set now =
+      let same = semaphores-after t q ok in
+      let k =
+      holds t typed s (q .a) (q .b) (q .c) (q .d) (q .number) (ok .cases) (rw (ok .answer) at not-set) (rw same at (now .used), rw same at (now .kind)) in
+      record { before = record { used = k .before .0; kind = k .before .1 }; even = rw (ok .answer, same) (k .even) }
+
+  pub one-call : setsCount s (entry t q) ≡ false → Counting s (next t q) → Kept
+  one-call not-set now = by-answer t sound q (λ back. refused-kept back now) (λ ok. accepted-kept ok not-set now)
+
+  -- ---- a creation or an accepted reset of s sets its count
+  pub count-set : setsCount s (entry t q) ≡ true → countNow s (next t q) ≡ q .b
+  count-set e =
+      by-answer t sound q
+      (λ back. absurd (false≢true (sym (sets-none back) ∙ e)))
+      (λ ok. rw (semaphores-after t q ok) (set-to t typed s (q .a) (q .b) (q .c) (q .d) (q .number) (ok .cases) (rw (ok .answer) at e)))

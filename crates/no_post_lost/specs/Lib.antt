@@ -1,0 +1,2 @@
+pub mod NoPostLost
+pub mod Entered
