@@ -1,20 +1,30 @@
 -- Request No. 12 says no more than is true: for each must-fail edit of `no_post_lost`, the statement that it makes, denied by the run of `Posts`. What is
 -- counted wrongly there gives two sides that differ.
 use Prim.Native.Nat.{ℕ, _+_}
-use mathlib.Core.Path.{_≡_, refl, sym, _∙_}
+use mathlib.Core.Path.{_≡_, refl, sym, ap, _∙_}
 use mathlib.Core.Logic.{_≢_}
 use mathlib.Core.Bool.{Bool, true, false, not, _&&_, _||_}
-use mathlib.Core.List.{_∷_, _++_}
+use mathlib.Core.List.{List, [], _∷_, _++_, nil≢cons, cons≢nil}
 use native.Mathlib.Omega.{arith}
 use lib.Dec.{eqb}
 use lib.ListN.{take}
+use borrow.Author.Tests.{eq-eqb}
+use Rattle.fold.specs.Lists.{zeros}
 use Rattle.rules.specs.Answer.{done}
-use Rattle.rules.specs.Tables.{semaphore, USED, KIND, COUNT}
+use Rattle.rules.specs.Tables.{Typed, tables, semaphore, USED, KIND, COUNT}
+use Rattle.rules.specs.Lines.{line, semaphoreLine}
 use Rattle.rules.specs.Semaphores.{isBinary}
+use Rattle.rules.specs.Sound.{Sound}
 use Rattle.rules.specs.declared.Tables.{Tables}
+use Rattle.rules.proofs.Runs.{Line, _⇒_, said, says, T, post}
 use Rattle.rules.proofs.Faster.{quickly}
+use Rattle.rules.proofs.Standing.{linesWith}
+use Rattle.runs.specs.Run.{Asked, asked, made, next, after}
 use Rattle.no_post_lost.specs.NoPostLost.{CallAndAnswer, howMany, isAccepted, isAcceptedOn, setsCount, isPost, takesUnit, Counting}
-use Rattle.examples.proofs.Posts.{now, all, at, since, Counted, Sums, in-run, counting}
+use Rattle.no_post_lost.specs.Readied.{OneReadied}
+use Rattle.examples.proofs.BySteps.{pass, inWords, Leads, leads, anything}
+use Rattle.examples.proofs.Story.{tablesOf, flooded, moment, to-flooded, to-moment}
+use Rattle.examples.proofs.Posts.{now, to-now, all, at, since, Counted, Sums, in-run, counting}
 
 -- ---- with another test of what takes a unit; of a post; of what sets the count; of which semaphores
 abbrev takenBy : (ℕ → CallAndAnswer → Bool) → Counted
@@ -173,3 +183,51 @@ NotBinary s t = isBinary (semaphore (t .semaphores) s KIND) ≡ false
 pub not-of-deleted : Sums (ofThose NotBinary) → ⊥
 unfolding quickly howMany now
 not-of-deleted = denied (ofThose NotBinary) 3 6 3 0 refl refl refl refl refl refl (λ e. omega arith)
+
+-- ---- what a post's value tells: with value 0 nobody was readied, as by one more post after this run
+abbrev once : List Line
+once = post 0 ⇒ said 0 0 0 (T 1) ∷ []
+
+unfoldable posted : Tables
+posted =
+    tables (now .tasks) (now .lines) (1 ∷ 2 ∷ 3 ∷ 1 ∷ 0 ∷ 65535 ∷ 1 ∷ 1 ∷ 1 ∷ zeros 39) (now .events) (now .mailboxes) (now .swis) (now .clocks) (now .heap)
+    (now .state)
+
+to-posted : Leads anything 0 now once 1 posted
+unfolding quickly linesWith pass inWords now posted
+to-posted = leads anything 0 now (to-now .typed) (to-now .sound) once 1 posted refl refl
+
+nobody-there : line (now .lines) (semaphoreLine 0) ≡ []
+unfolding quickly linesWith now
+nobody-there = refl
+
+-- the post's answer, code and value
+abbrev postOn : ℕ → Asked
+postOn s = asked 0x23 s 0 0 0
+
+counted-up : (made now (postOn 0) .answer .code ≡ 0) × (made now (postOn 0) .answer .value ≡ 0)
+unfolding says
+counted-up = let e = to-posted .answers .so in (cc, cc)
+
+abbrev Told : (Tables → Asked → Type 0) → Type 0
+Told P = (t : Tables) → Typed t → Sound t → (q : Asked) → isPost 0 record { asked = q; answer = made t q .answer } ≡ true → P t q
+
+pub not-told-by-a-value-of-0 : Told (λ t q. made t q .answer .value ≢ 1 → OneReadied 0 t (next t q)) → ⊥
+not-told-by-a-value-of-0 every =
+    let x = every now (to-now .typed) (to-now .sound) (postOn 0) (rw (eq-eqb _ 0 (counted-up .0))) (λ e. omega (arith, e, counted-up .1)) in
+    nil≢cons (sym nobody-there ∙ x .first)
+
+-- and who was readied has left the line: in the run of `Story` task 3 waited alone
+woke : (made flooded (postOn 0) .answer .code ≡ 0) × (made flooded (postOn 0) .answer .value ≡ 1)
+unfolding says
+woke = let e = to-moment .answers .so in (cc, cc)
+
+one-there : (line (flooded .lines) (semaphoreLine 0) ≡ 3 ∷ []) × (line (moment .lines) (semaphoreLine 0) ≡ [])
+unfolding quickly linesWith tablesOf flooded moment
+one-there = (refl, refl)
+
+pub not-still-in-line : Told (λ t q. made t q .answer .value ≢ 0 → line (t .lines) (semaphoreLine 0) ≡ line (next t q .lines) (semaphoreLine 0)) → ⊥
+unfolding after
+not-still-in-line every =
+    let same = every flooded (to-flooded .typed) (to-flooded .sound) (postOn 0) (rw (eq-eqb _ 0 (woke .0))) (λ e. omega (arith, e, woke .1)) in
+    cons≢nil (sym (one-there .0) ∙ same ∙ ap (λ (u : Tables). line (u .lines) (semaphoreLine 0)) (to-moment .now) ∙ one-there .1)

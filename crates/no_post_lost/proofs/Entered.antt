@@ -1,6 +1,6 @@
 -- CallAndAnswer calls one after the other answer what `Run.made` says and leave the tables that it leaves, so what holds of their history is `no-post-lost`.
 use Prim.Native.Nat.{ℕ}
-use mathlib.Core.Path.{_≡_, refl, sym, ap, subst}
+use mathlib.Core.Path.{_≡_, refl, sym}
 use mathlib.Core.List.{List, [], _∷_, append-ne-nil-of-right-ne-nil, cons≢nil}
 use Rattle.rules.specs.Tables.{Typed}
 use Rattle.rules.specs.Fresh.{fresh}
@@ -9,7 +9,7 @@ use Rattle.rules.specs.declared.Tables.{Tables}
 use Rattle.runs.specs.Run.{after}
 use Rattle.demands.specs.Sequence.{Entered, Sequence, calls, tablesAfter}
 use Rattle.demands.proofs.Sequence.{as-entered}
-use Rattle.demands.proofs.Two.{fresh-typed, fresh-is-sound}
+use Rattle.demands.proofs.Two.{fresh-is-sound}
 use Rattle.no_post_lost.specs.NoPostLost.{CallAndAnswer, history, LastSet, Counting, Balanced}
 use Rattle.no_post_lost.specs.Entered.{historyOf, NoPostLostEntered, NoPostLostEnteredFromFresh}
 use Rattle.no_post_lost.proofs.NoPostLost.{no-post-lost, no-post-lost-from-fresh}

@@ -1,11 +1,10 @@
 -- In a history a call that sets the count of s with none behind it that does: there is one unless none sets it, and never two.
-use Prim.Native.Nat.{ℕ, _+_}
+use Prim.Native.Nat.{ℕ}
 use mathlib.Core.Path.{_≡_, refl, sym, ap, _∙_}
 use mathlib.Core.Logic.{_≢_, _⊎_, inl, inr, ⊎-elim}
-use mathlib.Core.Bool.{Bool, true, false}
+use mathlib.Core.Bool.{true}
 use mathlib.Core.List.{List, [], _∷_, _++_, head-eq-of-cons-eq, tail-eq-of-cons-eq}
 use native.Mathlib.Omega.{arith}
-use Rattle.fold.specs.Lists.{bit}
 use Rattle.refusals.proofs.First.{by-bool}
 use Rattle.no_post_lost.specs.NoPostLost.{CallAndAnswer, howMany, setsCount, LastSet}
 

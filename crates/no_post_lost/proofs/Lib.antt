@@ -4,3 +4,4 @@ pub mod LastSets
 pub mod NoPostLost
 pub mod Entered
 pub mod Posts
+pub mod Readied

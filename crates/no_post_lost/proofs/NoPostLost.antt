@@ -1,7 +1,7 @@
 -- No post is lost: each call keeps the sum (`OneCall`), so calls one after the other do, from the last that set the count on; and fresh tables have no
 -- semaphore, so that one that is there now was made.
 use Prim.Native.Nat.{ℕ, _+_, _*_}
-use mathlib.Core.Path.{_≡_, refl, sym, ap, subst, _∙_}
+use mathlib.Core.Path.{_≡_, refl, sym, subst, _∙_}
 use mathlib.Core.Logic.{⊎-elim}
 use mathlib.Core.Bool.{Bool, true, false}
 use mathlib.Core.List.{List, [], _∷_, _++_, nil≢cons, head-eq-of-cons-eq, tail-eq-of-cons-eq}
@@ -11,12 +11,12 @@ use Rattle.rules.specs.Tables.{Typed, semaphoreWidth, semaphoreCount, semaphore
 use Rattle.rules.specs.Fresh.{fresh}
 use Rattle.rules.specs.Sound.{Sound}
 use Rattle.rules.specs.declared.Tables.{Tables}
-use Rattle.runs.specs.Run.{Asked, made, next, after, Each, AllWords}
+use Rattle.runs.specs.Run.{Asked, next, after, Each, AllWords}
 use Rattle.laws.proofs.Rows.{field-in, field-out, by-range}
 use Rattle.laws.proofs.Listed.{zero-at}
 use Rattle.turns.proofs.Made.{next-typed, next-sound}
 use Rattle.demands.proofs.Two.{fresh-typed, fresh-is-sound}
-use Rattle.no_post_lost.specs.NoPostLost.{CallAndAnswer, history, howMany, setsCount, isPost, takesUnit, LastSet, Counting, Balanced, NoPostLost, NoPostLostFromFresh}
+use Rattle.no_post_lost.specs.NoPostLost.{CallAndAnswer, history, howMany, setsCount, isPost, takesUnit, Counting, NoPostLost, NoPostLostFromFresh}
 use Rattle.no_post_lost.proofs.LastSets.{last-or-none}
 use Rattle.no_post_lost.proofs.OneCall.{countNow, entry, one-call, count-set}
 

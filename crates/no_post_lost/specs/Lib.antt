@@ -1,2 +1,3 @@
 pub mod NoPostLost
 pub mod Entered
+pub mod Readied

@@ -33,7 +33,7 @@ pub data Reaches (q : Asked) : Type 0 where
   nobody : servedLine q ≡ nowhere → Reaches q
 
 module _ (t : Tables) (q : Asked) (z : codeOf (callFor t q .cases) ≡ 0) where
-  of-post : q .number ≡ 0x23 → q .a < semaphoreCount
+  pub of-post : q .number ≡ 0x23 → q .a < semaphoreCount
   unfolding callOf Semaphores.semaphoreCall Semaphores.postCases
   of-post e =
       row-used semaphoreWidth semaphoreCount (t .semaphores) (q .a) 0 (eqb-false _ _ (object-used _ _ (accepted-is _ (rw e at z) .at3) (accepted-is _ (rw e at z) .at11)))

@@ -1,6 +1,6 @@
 -- One call and a task's turn: a ready task that does not run, and a task that waits without end at a semaphore in arrival order.
 use Prim.Native.Nat.{ℕ, _+_, _<_, _≤_}
-use mathlib.Core.Path.{_≡_, refl, sym, ap, _∙_}
+use mathlib.Core.Path.{_≡_, sym, ap, _∙_}
 use mathlib.Core.Logic.{_≢_, _⊎_, inl, inr, ⊎-elim}
 use mathlib.Core.Bool.{Bool, true, false, cond as if, and-false}
 use mathlib.Core.List.{List, [], Sublistᴰ, Sublistᴰ·refl}
@@ -8,18 +8,16 @@ use native.Mathlib.Omega.{arith}
 use borrow.Author.Tests.{eq-eqb, ne-eqb, lt-ltb}
 use lib.Dec.{eqb, ltb}
 use lib.ListN.{length}
-use Rattle.fold.specs.Lists.{bit, count, ahead, without}
-use Rattle.fold.specs.Rule.{Means}
+use Rattle.fold.specs.Lists.{bit, count, ahead}
 use Rattle.fold.proofs.Laws.{same?, length-without, ahead-without}
 use Rattle.rules.specs.Tables.{Typed, levels, ready, taskCount, semaphoreCount, task, current, semaphore, state, USED, KIND, DEPTH}
 use Rattle.rules.specs.Lines.{line, anyone, first, semaphoreLine, activeLine, readyLine, homeBy, taskHome, queued, moved, atBack}
 use Rattle.rules.specs.Tasks.{blocked, placedAt, reprioritized, setPriorityEffect, yieldEffect, taskCall}
-use Rattle.rules.specs.Waits.{readied, woken}
-use Rattle.rules.specs.Semaphores.{postEffect, semaphoreCall}
+use Rattle.rules.specs.Waits.{readied}
 use Rattle.rules.specs.Swis.{top}
 use Rattle.rules.specs.Dispatch.{running}
 use Rattle.rules.specs.Step.{callOf}
-use Rattle.rules.specs.Sound.{Sound, taskRule, semaphoreRule}
+use Rattle.rules.specs.Sound.{Sound, semaphoreRule}
 use Rattle.rules.specs.declared.Tables.{Tables}
 use Rattle.rules.specs.declared.Task.{Task}
 use Rattle.rules.specs.declared.Thread.the-variants as Threads
@@ -28,16 +26,17 @@ use Rattle.runs.specs.Turn.{BlockedOn, beforeAt, isPost, ReadyAt, queue, Undist
 use Rattle.refusals.proofs.Known.{callFor}
 use Rattle.keeps.proofs.Groups.{OfTasks, Almost}
 use Rattle.keeps.proofs.Members.{bit-same}
-use Rattle.keeps.proofs.TaskRows.{task-same, in-use, task-stands, semaphore-row}
+use Rattle.keeps.proofs.TaskRows.{task-same, in-use}
 use Rattle.keeps.proofs.Standing.{sound-almost}
-use Rattle.keeps.proofs.Moves.{moved-line, moved-from, moved-row, moved-rows}
-use Rattle.keeps.proofs.Waiting.{row-other, used-at, woken-row, current-under, current-row, current-ready}
+use Rattle.keeps.proofs.Moves.{moved-line}
+use Rattle.keeps.proofs.Waiting.{row-other, used-at, current-under, current-row, current-ready}
 use Rattle.turns.proofs.Same.{servedLine, Unmoved}
 use Rattle.turns.proofs.Leaves.{Left}
 use Rattle.turns.proofs.Calls.{call-same}
 use Rattle.turns.proofs.Ahead.{sub-length, ahead-first, first-ahead, ahead-back}
 use Rattle.turns.proofs.Made.{Accepted, by-answer, tasks-after, semaphores-after, line-after}
-use Rattle.turns.proofs.Reach.{Reaches, atSemaphore, atEvent, atMailbox, nobody, reaches, reached-line, first-home, not-first}
+use Rattle.turns.proofs.Reach.{Reaches, atSemaphore, atEvent, atMailbox, nobody, reaches, reached-line, not-first}
+use Rattle.turns.proofs.Posts.{foremost, foremost-readied, others-stay, foremost-gone}
 use Rattle.turns.proofs.SameKind.{kind-kept}
 
 -- the running thread is a task: the current one
@@ -216,45 +215,20 @@ module _ (t : Tables) (typed : Typed t) (sound : Sound t) (s i : ℕ) (w : Waite
         rw (semaphores-after t q ok, kind-kept t s semaphore-used has-waiters _ (q .number) (q .a) (q .b) (q .c) (q .d) (ok .cases)) (w .arrival)
 
     -- ---- a post on s serves the first in line
-    module _ (number : q .number ≡ 0x23) (at : q .a ≡ s) (x : ℕ) (leads : first (t .lines) (semaphoreLine s) ≡ x) where
+    module _ (number : q .number ≡ 0x23) (at : q .a ≡ s) where
+      abbrev x : ℕ
+      x = foremost t typed sound q ok s number at has-waiters
+
       is-post : isPost s t q ≡ true
       is-post = rw (eq-eqb _ _ number, eq-eqb _ _ at, eq-eqb _ _ (ok .code))
-
-      post-tasks : callFor t q .effect .next .tasks ≡ woken x 0 0 (queued (t .tasks) (t .lines)) .tasks
-      unfolding callOf semaphoreCall postEffect
-      post-tasks = rw (number, at, has-waiters, leads)
-
-      post-lines : callFor t q .effect .next .lines ≡ woken x 0 0 (queued (t .tasks) (t .lines)) .lines
-      unfolding callOf semaphoreCall postEffect
-      post-lines = rw (number, at, has-waiters, leads)
-
-      -- the first one waits here
-      x-waits : task (t .tasks) x .mode ≡ 3
-      x-waits =
-          let home = first-home (t .tasks) (t .swis) (t .lines) (almost .standing) x (semaphoreLine s) of-line has-waiters leads in
-          semaphore-row (task (t .tasks) x) (task-stands (t .tasks) (sound .tasks) x) s object-in home .0
-
-      x-in : x < taskCount
-      x-in = in-use (t .tasks) x (λ e. omega (arith, x-waits))
-
-      x-row : Means (taskRule x (readied (task (t .tasks) x) 0 0))
-      x-row = woken-row t almost x x-in (omega (arith, x-waits)) (omega (arith, x-waits)) 0 0 (omega arith) (λ e. refl)
-
-      line-s : line (next t q .lines) (semaphoreLine s) ≡ without x (line (t .lines) (semaphoreLine s))
-      unfolding homeBy
-      line-s =
-          line-after t q ok (semaphoreLine s) of-line
-          ∙ ap (λ (ls : List ℕ). line ls (semaphoreLine s)) post-lines
-          ∙ moved-from t almost atBack x (readied (task (t .tasks) x) 0 0) x-in x-row (semaphoreLine s) of-line (λ e. omega (arith, object-in, e))
 
       serves : x ≡ i → Served s i t q
       serves e =
           let row : task (next t q .tasks) i ≡ readied (task (t .tasks) x) 0 0 =
-          ap (λ (ts : List ℕ). task ts i) (tasks-after t q ok ∙ post-tasks)
-          ∙ rw (← e) (moved-row t almost atBack x (readied (task (t .tasks) x) 0 0) x-in x-row) in
+          rw (← e) (foremost-readied t typed sound q ok s number at has-waiters) in
           record {
             post = is-post;
-            first = ahead-first i (line (t .lines) (semaphoreLine s)) someone (leads ∙ e);
+            first = ahead-first i (line (t .lines) (semaphoreLine s)) someone e;
             ready = ap (λ (k : Task). k .mode) row;
             outcome = ap (λ (k : Task). k .outcome) row;
             value = ap (λ (k : Task). k .value) row;
@@ -263,16 +237,15 @@ module _ (t : Tables) (typed : Typed t) (sound : Sound t) (s i : ℕ) (w : Waite
       passes : x ≢ i → Stays s i t q
       passes n =
           let d : i ≢ x = λ e. n (sym e) in
-          let row : task (next t q .tasks) i ≡ task (t .tasks) i =
-          ap (λ (ts : List ℕ). task ts i) (tasks-after t q ok ∙ post-tasks)
-          ∙ moved-rows t almost atBack x (readied (task (t .tasks) x) 0 0) x-in x-row i d in
-          let before : 0 < count x (beforeAt s i t) = rw leads at (first-ahead i (line (t .lines) (semaphoreLine s)) someone (λ e. n (sym leads ∙ e))) in (
+          let row = others-stay t typed sound q ok s number at has-waiters i d in
+          let gone = foremost-gone t typed sound q ok s number at has-waiters in
+          let before : 0 < count x (beforeAt s i t) = first-ahead i (line (t .lines) (semaphoreLine s)) someone n in (
             record {
               blocked = rw row (w .blocked);
               endless = rw row (w .endless);
               arrival = kind-stays;
             },
-            rw (line-s, ahead-without i x (line (t .lines) (semaphoreLine s)) d, is-post) (omega (arith, before, length-without x (beforeAt s i t))),
+            rw (gone, ahead-without i x (line (t .lines) (semaphoreLine s)) d, is-post) (omega (arith, before, length-without x (beforeAt s i t))),
           )
 
     -- ---- any other call leaves it where it waits
@@ -324,7 +297,7 @@ waiter-stays t typed sound q s i w =
     (λ (e : q .number ≡ 0x23).
     ⊎-elim
     (λ (d : q .a ≡ s).
-    ⊎-elim (λ h. inr (serves t typed sound s i w q ok e d _ refl h)) (λ h. inl (passes t typed sound s i w q ok e d _ refl h))
+    ⊎-elim (λ h. inr (serves t typed sound s i w q ok e d h)) (λ h. inl (passes t typed sound s i w q ok e d h))
     (same? (first (t .lines) (semaphoreLine s)) i))
     (λ (n : q .a ≢ s). inl (waits-on t typed sound s i w q ok (λ _. n)))
     (same? (q .a) s))
