@@ -18,7 +18,7 @@ use Rattle.turns.proofs.Made.{next-typed, next-sound}
 use Rattle.demands.proofs.Two.{fresh-typed, fresh-is-sound}
 use Rattle.no_post_lost.specs.NoPostLost.{CallAndAnswer, history, howMany, setsCount, isPost, takesUnit, Counting, NoPostLost, NoPostLostFromFresh}
 use Rattle.no_post_lost.proofs.LastSets.{last-or-none}
-use Rattle.no_post_lost.proofs.OneCall.{countNow, entry, one-call, count-set}
+use Rattle.no_post_lost.proofs.OneCall.{countNow, answered, one-call, count-set}
 
 -- ---- calls of which none sets the count of s: it was a counting semaphore before them, and the sum is kept
 pub record Lasts (t : Tables) (s : ℕ) (qs : List Asked) : Type 0 where
@@ -35,7 +35,7 @@ pub lasts : (t : Tables) → Typed t → Sound t → (s : ℕ) (qs : List Asked)
 unfolding Each after history howMany
 lasts t typed sound s [] words none now = record { before = now; even = refl }
 lasts t typed sound s (q ∷ qs) (word, words) none now =
-    let (not-set, later) = none-first (setsCount s (entry t q)) _ none in
+    let (not-set, later) = none-first (setsCount s (answered t q)) _ none in
     let rest = lasts (next t q) (next-typed t typed sound q word) (next-sound t typed sound q word) s qs words later now in
     let here = one-call t typed sound s q not-set (rest .before) in
     record { before = here .before; even = omega (arith, here .even, rest .even) }
@@ -48,7 +48,7 @@ module _ (s : ℕ) (set : CallAndAnswer) (since : List CallAndAnswer) (sets : se
   unfolding Each after history
   balanced [] t typed sound [] words now e = absurd (nil≢cons e)
   balanced [] t typed sound (q ∷ qs) (word, words) now e =
-      let here : entry t q ≡ set = head-eq-of-cons-eq e in
+      let here : answered t q ≡ set = head-eq-of-cons-eq e in
       let later : history (next t q) qs ≡ since = tail-eq-of-cons-eq e in
       let l = lasts (next t q) (next-typed t typed sound q word) (next-sound t typed sound q word) s qs words (rw later last) now in
       let c = count-set t typed sound s q (subst (λ (x : CallAndAnswer). setsCount s x ≡ true) (sym here) sets) in

@@ -20,25 +20,25 @@ abbrev pub countNow : ℕ → Tables → ℕ
 countNow s t = countIn s (t .semaphores)
 
 -- call q on tables t, with its answer
-abbrev pub entry : Tables → Asked → CallAndAnswer
-entry t q = record { asked = q; answer = made t q .answer }
+abbrev pub answered : Tables → Asked → CallAndAnswer
+answered t q = record { asked = q; answer = made t q .answer }
 
 module _ (t : Tables) (typed : Typed t) (sound : Sound t) (s : ℕ) (q : Asked) where
   -- s was a counting semaphore before the call, and its count and the post are its count afterwards and the unit taken
   pub record Kept : Type 0 where
     pub before : Counting s t
-    pub even : countNow s t + bit (isPost s (entry t q)) ≡ countNow s (next t q) + bit (takesUnit s (entry t q))
+    pub even : countNow s t + bit (isPost s (answered t q)) ≡ countNow s (next t q) + bit (takesUnit s (answered t q))
 
   -- ---- "refused calls count nowhere"
   module _ (back : Refused t q) where
-    unanswered : eqb (made t q .answer .code) 0 ≡ false
-    unanswered = ne-eqb (made t q .answer .code) 0 (back .code)
+    not-accepted : eqb (made t q .answer .code) 0 ≡ false
+    not-accepted = ne-eqb (made t q .answer .code) 0 (back .code)
 
-    sets-none : setsCount s (entry t q) ≡ false
-    sets-none = simp (unanswered, and-false)
+    sets-none : setsCount s (answered t q) ≡ false
+    sets-none = simp (not-accepted, and-false)
 
-    as-many : bit (isPost s (entry t q)) ≡ bit (takesUnit s (entry t q))
-    as-many = simp (unanswered, and-false)
+    as-many : bit (isPost s (answered t q)) ≡ bit (takesUnit s (answered t q))
+    as-many = simp (not-accepted, and-false)
 
     refused-kept : Counting s (next t q) → Kept
     refused-kept now =
@@ -46,18 +46,18 @@ module _ (t : Tables) (typed : Typed t) (sound : Sound t) (s : ℕ) (q : Asked) 
         record { before = rw (back .next) at now; even = omega (arith, same, as-many) }
 
   -- ---- an accepted call
-  accepted-kept : Accepted t q → setsCount s (entry t q) ≡ false → Counting s (next t q) → Kept
+  accepted-kept : Accepted t q → setsCount s (answered t q) ≡ false → Counting s (next t q) → Kept
   accepted-kept ok not-set now =
       let same = semaphores-after t q ok in
       let k =
       holds t typed s (q .a) (q .b) (q .c) (q .d) (q .number) (ok .cases) (rw (ok .answer) at not-set) (rw same at (now .used), rw same at (now .kind)) in
       record { before = record { used = k .before .0; kind = k .before .1 }; even = rw (ok .answer, same) (k .even) }
 
-  pub one-call : setsCount s (entry t q) ≡ false → Counting s (next t q) → Kept
+  pub one-call : setsCount s (answered t q) ≡ false → Counting s (next t q) → Kept
   one-call not-set now = by-answer t sound q (λ back. refused-kept back now) (λ ok. accepted-kept ok not-set now)
 
   -- ---- a creation or an accepted reset of s sets its count
-  pub count-set : setsCount s (entry t q) ≡ true → countNow s (next t q) ≡ q .b
+  pub count-set : setsCount s (answered t q) ≡ true → countNow s (next t q) ≡ q .b
   count-set e =
       by-answer t sound q
       (λ back. absurd (false≢true (sym (sets-none back) ∙ e)))

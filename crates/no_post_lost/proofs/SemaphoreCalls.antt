@@ -17,14 +17,15 @@ use Rattle.rules.specs.Lines.{anyone, semaphoreLine}
 use Rattle.rules.specs.Waits.{Served, served}
 use Rattle.rules.specs.Semaphores.{isBinary, most, freeSemaphore, createCases, createEffect, deleteEffect, pendEffect, postCases, postEffect, countUp, resetCases, resetEffect, semaphoreCall}
 use Rattle.rules.specs.Dispatch.{context}
-use Rattle.rules.specs.Step.{callOf, inRange}
+use Rattle.rules.specs.Step.{callOf}
 use Rattle.rules.specs.declared.Answer.{Answer}
 use Rattle.rules.specs.declared.Tables.{Tables}
-use Rattle.laws.proofs.Rows.{field-same, field-other, field-row, field-out, row-same, row-other, row-used, by-range}
+use Rattle.laws.proofs.Rows.{field-same, field-row, field-out, row-same, row-other, row-used, by-range}
 use Rattle.laws.proofs.Calls.{chosen}
 use Rattle.runs.specs.Run.{asked}
 use Rattle.keeps.proofs.Codes.{accepted-is, object-used}
 use Rattle.keeps.proofs.Objects.{free-is}
+use Rattle.turns.proofs.SameKind.{other-word, by-kind}
 use Rattle.no_post_lost.specs.NoPostLost.{CallAndAnswer, isAcceptedOn, setsCount, isPost, takesUnit}
 
 -- a counting semaphore of table ss, and its count
@@ -34,7 +35,7 @@ CountingIn s ss = (semaphore ss s USED ≢ 0) × (isBinary (semaphore ss s KIND)
 abbrev pub countIn : ℕ → List ℕ → ℕ
 countIn s ss = semaphore ss s COUNT
 
--- ---- what an entry counts, by the test b of its number, its code and its semaphore: a post that readied a waiter is a unit taken, and a post that
+-- ---- what a call counts, by the test b of its number, its code and its semaphore: a post that readied a waiter is a unit taken, and a post that
 -- did not, a pend that was not done and a call elsewhere take none
 readied : (b : Bool) → bit b ≡ bit (b && true)
 readied true = refl
@@ -56,15 +57,8 @@ at-or-else m n P here other = ⊎-elim (λ (e : n ≡ m). subst P (sym e) here) 
 
 -- ---- semaphore a gets count v: its other words stay
 module _ (ss : List ℕ) (size : length ss ≡ 48) (a v : ℕ) where
-  other-word : (s f : ℕ) → f ≢ COUNT → semaphore (withSemaphore ss a COUNT v) s f ≡ semaphore ss s f
-  other-word s f other =
-      ⊎-elim
-      (λ (e : s ≡ a). rw e (field-other semaphoreWidth semaphoreCount ss a COUNT v f other))
-      (λ (n : s ≢ a). field-row semaphoreWidth semaphoreCount ss a COUNT v s f n)
-      (same? s a)
-
   was-counting : (s : ℕ) → CountingIn s (withSemaphore ss a COUNT v) → CountingIn s ss
-  was-counting s c = rw (other-word s USED (λ e. omega arith), other-word s KIND (λ e. omega arith)) at c
+  was-counting s c = rw (other-word ss a v s USED (λ e. omega arith), other-word ss a v s KIND (λ e. omega arith)) at c
 
   pub count-now : a < semaphoreCount → countIn a (withSemaphore ss a COUNT v) ≡ v
   count-now inside = field-same semaphoreWidth semaphoreCount ss a COUNT v (omega arith) inside (omega arith)
@@ -74,28 +68,28 @@ module _ (t : Tables) (typed : Typed t) (s a b c d : ℕ) where
   abbrev ss : List ℕ
   ss = t .semaphores
 
-  abbrev pub entry : ℕ → Answer → CallAndAnswer
-  entry n r = record { asked = asked n a b c d; answer = r }
+  abbrev pub withAnswer : ℕ → Answer → CallAndAnswer
+  withAnswer n r = record { asked = asked n a b c d; answer = r }
 
   -- call n, answered r, leaves the table us
   pub record Even (n : ℕ) (us : List ℕ) (r : Answer) : Type 0 where
     pub before : CountingIn s ss
-    pub even : countIn s ss + bit (isPost s (entry n r)) ≡ countIn s us + bit (takesUnit s (entry n r))
+    pub even : countIn s ss + bit (isPost s (withAnswer n r)) ≡ countIn s us + bit (takesUnit s (withAnswer n r))
 
   abbrev pub Evenly : ℕ → List ℕ → Answer → Type 0
-  Evenly n us r = setsCount s (entry n r) ≡ false → CountingIn s us → Even n us r
+  Evenly n us r = setsCount s (withAnswer n r) ≡ false → CountingIn s us → Even n us r
 
   abbrev Leaves : ℕ → After Served → Type 0
   Leaves n r = Evenly n (r .next .objects) (r .answer)
 
   -- s has the same row, and the call takes a unit exactly if it is a post
   still : (n : ℕ) (us : List ℕ) (r : Answer) → ((f : ℕ) → semaphore us s f ≡ semaphore ss s f)
-      → bit (isPost s (entry n r)) ≡ bit (takesUnit s (entry n r)) → Evenly n us r
+      → bit (isPost s (withAnswer n r)) ≡ bit (takesUnit s (withAnswer n r)) → Evenly n us r
   still n us r same as-many not-set now =
       record { before = rw (same USED, same KIND) at now; even = omega (arith, same COUNT, as-many) }
 
   -- it gives another semaphore a count
-  apart : (n v : ℕ) (r : Answer) → s ≢ a → bit (isPost s (entry n r)) ≡ bit (takesUnit s (entry n r)) → Evenly n (withSemaphore ss a COUNT v) r
+  apart : (n v : ℕ) (r : Answer) → s ≢ a → bit (isPost s (withAnswer n r)) ≡ bit (takesUnit s (withAnswer n r)) → Evenly n (withSemaphore ss a COUNT v) r
   apart n v r other = still n _ r (λ f. field-row semaphoreWidth semaphoreCount ss a COUNT v s f other)
 
   not-named : s ≢ a → eqb a s ≡ false
@@ -137,12 +131,12 @@ module _ (t : Tables) (typed : Typed t) (s a b c d : ℕ) where
       })
       (λ (other : s ≢ a).
       apart 0x22 (countIn a ss - 1) (answer 0 done 0) other
-      (pended-elsewhere (isAcceptedOn 0x22 s (entry 0x22 (answer 0 done 0))) (not-named other)))
+      (pended-elsewhere (isAcceptedOn 0x22 s (withAnswer 0x22 (answer 0 done 0))) (not-named other)))
       (same? s a))
       (λ _.
       chosen (Leaves 0x22) (eqb b 0) _ _
-      (λ _. still 0x22 ss (answer 0 notMet 0) (λ f. refl) (not-done (isAcceptedOn 0x22 s (entry 0x22 (answer 0 notMet 0)))))
-      (λ _. still 0x22 ss (answer 0 nowWaiting 0) (λ f. refl) (not-done (isAcceptedOn 0x22 s (entry 0x22 (answer 0 nowWaiting 0))))))
+      (λ _. still 0x22 ss (answer 0 notMet 0) (λ f. refl) (not-done (isAcceptedOn 0x22 s (withAnswer 0x22 (answer 0 notMet 0)))))
+      (λ _. still 0x22 ss (answer 0 nowWaiting 0) (λ f. refl) (not-done (isAcceptedOn 0x22 s (withAnswer 0x22 (answer 0 nowWaiting 0))))))
 
   -- 23 readies a waiter, who takes the unit, or counts one up
   module _ (not-full : (not (isBinary (semaphore ss a KIND)) && leb 65535 (countIn a ss)) ≡ false) where
@@ -159,7 +153,7 @@ module _ (t : Tables) (typed : Typed t) (s a b c d : ℕ) where
     unfolding postEffect
     post-even =
         chosen (Leaves 0x23) (anyone (t .lines) (semaphoreLine a)) _ _
-        (λ _. still 0x23 ss (answer 0 done 1) (λ f. refl) (readied (isPost s (entry 0x23 (answer 0 done 1)))))
+        (λ _. still 0x23 ss (answer 0 done 1) (λ f. refl) (readied (isPost s (withAnswer 0x23 (answer 0 done 1)))))
         (λ _.
         ⊎-elim
         (λ (i : s ≡ a) _ now.
@@ -169,7 +163,7 @@ module _ (t : Tables) (typed : Typed t) (s a b c d : ℕ) where
         let more = count-now ss (typed .semaphores) a up inside ∙ one-up (here .1) in
         record { before = was; even = simp (i, eq-eqb a a refl) (omega (arith, more)) })
         (λ (other : s ≢ a).
-        apart 0x23 up (answer 0 done 0) other (posted-elsewhere (isPost s (entry 0x23 (answer 0 done 0))) (not-named other)))
+        apart 0x23 up (answer 0 done 0) other (posted-elsewhere (isPost s (withAnswer 0x23 (answer 0 done 0))) (not-named other)))
         (same? s a))
 
   -- 24 resets another one: it would set the count of the one it names
@@ -211,22 +205,10 @@ module _ (t : Tables) (typed : Typed t) (s a b c d : ℕ) where
     Same k = k .effect .next .semaphores ≡ ss
 
     same : Same (callAt n)
-    unfolding callOf semaphoreCall
+    unfolding semaphoreCall
     same =
-        chosen Same (inRange n 0x00) _ _ (λ _. refl)
-        (λ _.
-        chosen Same (inRange n 0x10) _ _ (λ _. refl)
-        (λ _.
-        chosen Same (inRange n 0x20) _ _ (λ _. rw (ne-eqb n 0x20 n20, ne-eqb n 0x21 n21, ne-eqb n 0x22 n22, ne-eqb n 0x23 n23, ne-eqb n 0x24 n24))
-        (λ _.
-        chosen Same (inRange n 0x30) _ _ (λ _. refl)
-        (λ _.
-        chosen Same (inRange n 0x40) _ _ (λ _. refl)
-        (λ _.
-        chosen Same (inRange n 0x50) _ _ (λ _. refl)
-        (λ _.
-        chosen Same (inRange n 0x60) _ _ (λ _. refl)
-        (λ _. chosen Same (inRange n 0x70) _ _ (λ _. refl) (λ _. refl))))))))
+        by-kind t (context (t .lines) (t .state)) n a b c d Same (λ k alone. alone)
+        (rw (ne-eqb n 0x20 n20, ne-eqb n 0x21 n21, ne-eqb n 0x22 n22, ne-eqb n 0x23 n23, ne-eqb n 0x24 n24))
 
     at-others : Holds n
     at-others z =
@@ -243,7 +225,7 @@ module _ (t : Tables) (typed : Typed t) (s a b c d : ℕ) where
 
   -- ---- an accepted call that sets the count of s sets it to its second argument
   abbrev SetsTo : ℕ → Type 0
-  SetsTo n = codeOf (callAt n .cases) ≡ 0 → setsCount s (entry n (callAt n .effect .answer)) ≡ true → countIn s (callAt n .effect .next .semaphores) ≡ b
+  SetsTo n = codeOf (callAt n .cases) ≡ 0 → setsCount s (withAnswer n (callAt n .effect .answer)) ≡ true → countIn s (callAt n .effect .next .semaphores) ≡ b
 
   -- 20 takes a number that is free, so its row is in the table
   creates : SetsTo 0x20

@@ -14,19 +14,19 @@ use Rattle.rules.specs.Tables.{semaphoreCount, semaphoreWidth, semaphore, withS
 use Rattle.rules.specs.Lines.{anyone, semaphoreLine}
 use Rattle.rules.specs.Waits.{Served, served}
 use Rattle.rules.specs.Semaphores.{freeSemaphore, createCases, createEffect, deleteCases, deleteEffect, pendCases, pendEffect, postCases, postEffect, resetCases, resetEffect, semaphoreCall}
-use Rattle.rules.specs.Step.{callOf, inRange}
+use Rattle.rules.specs.Step.{over, withSemaphores, callOf, inRange}
 use Rattle.rules.specs.declared.Tables.{Tables}
 use Rattle.laws.proofs.Rows.{field-other, field-row, row-other}
 use Rattle.laws.proofs.Calls.{chosen}
 use Rattle.keeps.proofs.Codes.{accepted-is}
 use Rattle.keeps.proofs.Objects.{free-is}
 
--- its count is another word
-count-kind : (ss : List ℕ) (a v s : ℕ) → semaphore (withSemaphore ss a COUNT v) s KIND ≡ semaphore ss s KIND
-count-kind ss a v s =
+-- where a count is stored every other word of each semaphore stays
+pub other-word : (ss : List ℕ) (a v s f : ℕ) → f ≢ COUNT → semaphore (withSemaphore ss a COUNT v) s f ≡ semaphore ss s f
+other-word ss a v s f other =
     ⊎-elim
-    (λ (e : s ≡ a). rw e (field-other semaphoreWidth semaphoreCount ss a COUNT v KIND (λ d. omega arith)))
-    (λ (n : s ≢ a). field-row semaphoreWidth semaphoreCount ss a COUNT v s KIND n)
+    (λ (e : s ≡ a). rw e (field-other semaphoreWidth semaphoreCount ss a COUNT v f other))
+    (λ (n : s ≢ a). field-row semaphoreWidth semaphoreCount ss a COUNT v s f n)
     (same? s a)
 
 module _ (s : ℕ) (q : Served) (used : semaphore (q .objects) s USED ≢ 0) (waiters : anyone (q .lines) (semaphoreLine s) ≡ true) where
@@ -54,7 +54,7 @@ module _ (s : ℕ) (q : Served) (used : semaphore (q .objects) s USED ≢ 0) (wa
   unfolding pendEffect
   pend-kept st x a b c d z =
       chosen (λ (r : After Served). semaphore (r .next .objects) s KIND ≡ semaphore (q .objects) s KIND) (ltb 0 (semaphore (q .objects) a COUNT)) _ _
-      (λ _. count-kind (q .objects) a _ s)
+      (λ _. other-word (q .objects) a _ s KIND (λ e. omega arith))
       (λ _.
       chosen (λ (r : After Served). semaphore (r .next .objects) s KIND ≡ semaphore (q .objects) s KIND) (eqb b 0) _ _ (λ _. refl) (λ _. refl))
 
@@ -63,11 +63,11 @@ module _ (s : ℕ) (q : Served) (used : semaphore (q .objects) s USED ≢ 0) (wa
   post-kept a b c d z =
       chosen (λ (r : After Served). semaphore (r .next .objects) s KIND ≡ semaphore (q .objects) s KIND) (anyone (q .lines) (semaphoreLine a)) _ _
       (λ _. refl)
-      (λ _. count-kind (q .objects) a _ s)
+      (λ _. other-word (q .objects) a _ s KIND (λ e. omega arith))
 
   reset-kept : (x a b c d : ℕ) → Kept (called (resetCases (q .lines) (q .objects) x a b c d) (resetEffect q a b))
   unfolding resetEffect
-  reset-kept x a b c d z = count-kind (q .objects) a b s
+  reset-kept x a b c d z = other-word (q .objects) a b s KIND (λ e. omega arith)
 
   semaphore-kept : (st : List ℕ) (x number a b c d : ℕ) → Kept (semaphoreCall q st x number a b c d)
   unfolding semaphoreCall
@@ -81,28 +81,33 @@ module _ (s : ℕ) (q : Served) (used : semaphore (q .objects) s USED ≢ 0) (wa
       chosen Kept (eqb number 0x23) _ _ (λ _. post-kept a b c d)
       (λ _. chosen Kept (eqb number 0x24) _ _ (λ _. reset-kept x a b c d) (λ _ z. refl)))))
 
--- the calls of other kinds leave the semaphores alone
+-- what holds of every call that leaves the semaphores alone, and of the calls on semaphores, holds of all calls
+pub by-kind : (t : Tables) (x number a b c d : ℕ) (P : Call Tables → Type 0)
+    → ((k : Call Tables) → k .effect .next .semaphores ≡ t .semaphores → P k)
+    → P (over (withSemaphores t) (semaphoreCall (served (t .tasks) (t .lines) (t .semaphores)) (t .state) x number a b c d))
+    → P (callOf t x number a b c d)
+unfolding callOf
+by-kind t x number a b c d P alone ours =
+    chosen P (inRange number 0x00) _ _ (λ _. alone _ refl)
+    (λ _.
+    chosen P (inRange number 0x10) _ _ (λ _. alone _ refl)
+    (λ _.
+    chosen P (inRange number 0x20) _ _ (λ _. ours)
+    (λ _.
+    chosen P (inRange number 0x30) _ _ (λ _. alone _ refl)
+    (λ _.
+    chosen P (inRange number 0x40) _ _ (λ _. alone _ refl)
+    (λ _.
+    chosen P (inRange number 0x50) _ _ (λ _. alone _ refl)
+    (λ _.
+    chosen P (inRange number 0x60) _ _ (λ _. alone _ refl)
+    (λ _. chosen P (inRange number 0x70) _ _ (λ _. alone _ refl) (λ _. alone _ refl))))))))
+
 pub kind-kept : (t : Tables) (s : ℕ) → semaphore (t .semaphores) s USED ≢ 0 → anyone (t .lines) (semaphoreLine s) ≡ true
     → (x number a b c d : ℕ)
     → codeOf (callOf t x number a b c d .cases) ≡ 0
     → semaphore (callOf t x number a b c d .effect .next .semaphores) s KIND ≡ semaphore (t .semaphores) s KIND
-unfolding callOf
 kind-kept t s used waiters x number a b c d =
-    chosen P (inRange number 0x00) _ _ (λ _ z. refl)
-    (λ _.
-    chosen P (inRange number 0x10) _ _ (λ _ z. refl)
-    (λ _.
-    chosen P (inRange number 0x20) _ _
-    (λ _. semaphore-kept s (served (t .tasks) (t .lines) (t .semaphores)) used waiters (t .state) x number a b c d)
-    (λ _.
-    chosen P (inRange number 0x30) _ _ (λ _ z. refl)
-    (λ _.
-    chosen P (inRange number 0x40) _ _ (λ _ z. refl)
-    (λ _.
-    chosen P (inRange number 0x50) _ _ (λ _ z. refl)
-    (λ _.
-    chosen P (inRange number 0x60) _ _ (λ _ z. refl)
-    (λ _. chosen P (inRange number 0x70) _ _ (λ _ z. refl) (λ _ z. refl))))))))
-  where
-    P : Call Tables → Type 0
-    P k = codeOf (k .cases) ≡ 0 → semaphore (k .effect .next .semaphores) s KIND ≡ semaphore (t .semaphores) s KIND
+    by-kind t x number a b c d (λ (k : Call Tables). codeOf (k .cases) ≡ 0 → semaphore (k .effect .next .semaphores) s KIND ≡ semaphore (t .semaphores) s KIND)
+    (λ k e z. ap (λ (ss : List ℕ). semaphore ss s KIND) e)
+    (semaphore-kept s (served (t .tasks) (t .lines) (t .semaphores)) used waiters (t .state) x number a b c d)
