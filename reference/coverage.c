@@ -25,6 +25,24 @@ static void note(enum happened which, int is_so)
         coverage.count[which]++;
 }
 
+static enum order order_of(uint32_t kind)
+{
+    return kind == COUNTING ? BY_ARRIVAL : BY_PRIORITY;
+}
+
+/* At a semaphore of that kind; binary ones have no sum. */
+static void note_counted(enum counted which, uint32_t kind, int is_so)
+{
+    if (is_so && is_counting(kind))
+        coverage.counted[which][order_of(kind)]++;
+}
+
+static void sum_at_least(uint64_t most[ORDERS], uint32_t kind, uint64_t number)
+{
+    if (is_counting(kind) && number > most[order_of(kind)])
+        most[order_of(kind)] = number;
+}
+
 static uint32_t size_of(uint32_t set)
 {
     return (uint32_t)__builtin_popcount(set);
@@ -111,6 +129,7 @@ static void note_tick(const struct tables *before, const struct tables *after)
             break;
         case AT_SEMAPHORE:
             note(EXPIRED_SEMAPHORE, 1);
+            note_counted(WAIT_EXPIRED, before->semaphore[was->object].kind, 1);
             break;
         case AT_EVENT:
             note(EXPIRED_EVENT, 1);
@@ -235,7 +254,60 @@ static void note_object(const struct tables *before, const struct call_form *for
     note(DELETED, (made[table] >> number & 1) != 0);
 }
 
-void coverage_note(const struct tables *before, const struct tables *after, const struct call *call, struct answer answer)
+/* A pend, accepted or not, and a post: what they add to a sum. */
+static void note_pend(const struct sum *sum, struct answer answer)
+{
+    uint32_t is_accepted = answer.code == ACCEPTED, at_once = is_accepted && answer.outcome == DONE;
+
+    note_counted(TAKEN_AT_ONCE, sum->kind, at_once != 0);
+    note_counted(PEND_NOT_MET, sum->kind, is_accepted && answer.outcome == NOT_MET);
+    note_counted(WAIT_BEGUN, sum->kind, is_accepted && answer.outcome == NOW_WAITING);
+    note_counted(PEND_REFUSED, sum->kind, !is_accepted);
+    sum_at_least(coverage.most_taken, sum->kind, sum->taken + at_once);
+}
+
+static void note_post(const struct sum *sum, struct answer answer)
+{
+    uint32_t is_accepted = answer.code == ACCEPTED, readied = is_accepted && answer.value != 0;
+
+    note_counted(TAKEN_BY_WAITER, sum->kind, readied != 0);
+    note_counted(COUNTED_UP, sum->kind, is_accepted && !readied);
+    note_counted(POST_REFUSED_AT_MOST, sum->kind, answer.code == AT_ITS_END);
+    note_counted(POST_REFUSED_ELSE, sum->kind, !is_accepted && answer.code != AT_ITS_END);
+    sum_at_least(coverage.most_posts, sum->kind, sum->posts + is_accepted);
+    sum_at_least(coverage.most_taken, sum->kind, sum->taken + readied);
+}
+
+/* Of a call on a semaphore that is there, by the sums before it. */
+static void note_sums(const struct sums *sums, const struct call *call, struct answer answer)
+{
+    uint32_t number = call->argument[0];
+    const struct sum *sum;
+
+    if (number >= SEMAPHORES || !sums->semaphore[number].is_created)
+        return;
+    sum = &sums->semaphore[number];
+    switch (call->number) {
+    case SEMAPHORE_PEND:
+        note_pend(sum, answer);
+        break;
+    case SEMAPHORE_POST:
+        note_post(sum, answer);
+        break;
+    case SEMAPHORE_RESET:
+        note_counted(RESET_REFUSED, sum->kind, answer.code == STATE_FORBIDS);
+        note_counted(RESET_AFTER_POSTS, sum->kind, answer.code == ACCEPTED && sum->posts != 0);
+        break;
+    case SEMAPHORE_DELETE:
+        note_counted(DELETED_AFTER_POSTS, sum->kind, answer.code == ACCEPTED && sum->posts != 0);
+        break;
+    default:
+        break;
+    }
+}
+
+void coverage_note(const struct sums *sums, const struct tables *before, const struct tables *after, const struct call *call,
+                   struct answer answer)
 {
     const struct call_form *form = form_of(call->number);
     uint32_t number = call->number, a = call->argument[0];
@@ -249,6 +321,7 @@ void coverage_note(const struct tables *before, const struct tables *after, cons
         note_object(before, form, call, answer.code);
     if (number == HEAP_TAKE || number == HEAP_GIVE_BACK)
         note_heap(before, after, call, answer);
+    note_sums(sums, call, answer);
     if (answer.code == STATE_FORBIDS)
         note(FIVE_BEFORE_NINE, before->current == 0 && (!before->swis_on || !before->tasks_on)
                                    && (number == TASK_SLEEP || number == TASK_END || number == SEMAPHORE_PEND || number == MAILBOX_POST));
@@ -280,6 +353,9 @@ void coverage_note(const struct tables *before, const struct tables *after, cons
         break;
     case SWI_TAKEN_TRIGGER:
         note(TAKEN_NOT_INITIAL, answer.value != before->swi[before->active[before->active_count - 1]].initial);
+        break;
+    case SEMAPHORE_CREATE:
+        note_counted(CREATED_ANEW, a, (made[SEMAPHORE_TABLE] >> answer.value & 1) != 0);
         break;
     case SEMAPHORE_PEND:
         if (answer.outcome == NOW_WAITING)

@@ -4,12 +4,14 @@
 
 #include "calls.h"
 #include "core.h"
+#include "sums.h"
 
 /* Fresh tables: no object was made so far. */
 void coverage_fresh(void);
 
-/* Notes one call: the tables before and after it, and its answer. */
-void coverage_note(const struct tables *before, const struct tables *after, const struct call *call, struct answer answer);
+/* Notes one call: the sums before it, the tables before and after it, and its answer. */
+void coverage_note(const struct sums *sums, const struct tables *before, const struct tables *after, const struct call *call,
+                   struct answer answer);
 
 /* Prints the counts; gives the number of pairs and states that never occurred. */
 unsigned coverage_print(FILE *file);

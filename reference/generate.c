@@ -6,12 +6,14 @@
  *
  * generate --style SEED: prints the name of the seed's style.
  *
- * Each call is carried out on the core beside; tables that are not sound after a call, or changed by a refused one, end the program.
+ * Each call is carried out on the core beside; tables that are not sound after a call, or changed by a refused one, end the program, and so does a
+ * post that is lost (sums.h).
  */
 #include "coverage.h"
 #include "log.h"
 #include "maker.h"
 #include "objects.h"
+#include "sums.h"
 
 #include <stdio.h>
 #include <stdlib.h>
@@ -24,6 +26,25 @@ static int is_mere_refusal(const struct call *call, struct answer answer)
     int names_table = answer.code == OUTSIDE_TABLE || answer.code == OBJECT_NOT_IN_USE;
 
     return answer.outcome == 0 && answer.value == (names_table && form != NULL ? table_of(form) : 0);
+}
+
+static struct sums sums; /* of the calls of this log so far */
+
+static void start_log(struct maker *m, uint64_t seed)
+{
+    maker_start(m, seed);
+    sums_fresh(&sums);
+    coverage_fresh();
+}
+
+/* Ends the program if there is a fault. */
+static void stop_at(const char *what, const char *fault, const struct call *call)
+{
+    if (fault == NULL)
+        return;
+    fprintf(stderr, "%s: %s, after ", what, fault);
+    print_call(stderr, call);
+    exit(3);
 }
 
 /* One more call of the maker, carried out and checked. */
@@ -39,13 +60,12 @@ static struct call next_call(struct maker *m, int with_coverage)
     fault = core_unsound(&m->tables);
     if (answer.code != ACCEPTED && (!is_mere_refusal(&call, answer) || memcmp(&before, &m->tables, sizeof before) != 0))
         fault = "a refusal that is more than its code";
-    if (fault != NULL) {
-        fprintf(stderr, "not sound: %s, after ", fault);
-        print_call(stderr, &call);
-        exit(3);
-    }
+    stop_at("not sound", fault, &call);
     if (with_coverage)
-        coverage_note(&before, &m->tables, &call, answer);
+        coverage_note(&sums, &before, &m->tables, &call, answer);
+    sums_note(&sums, &call, answer);
+    stop_at("sum off", sums_off(&sums, &m->tables), &call);
+    stop_at("sum off", wake_off(&before, &m->tables, &call, answer), &call);
     return call;
 }
 
@@ -129,7 +149,7 @@ static int write_log(uint64_t seed, size_t records, int is_damaged)
 
     if (bytes == NULL)
         return 2;
-    maker_start(&m, seed);
+    start_log(&m, seed);
     for (size_t i = 0; i < records; i++) {
         struct call call = next_call(&m, 0);
 
@@ -147,8 +167,7 @@ static int print_coverage(uint64_t seeds, size_t records)
     static struct maker m;
 
     for (uint64_t seed = 1; seed <= seeds; seed++) {
-        maker_start(&m, seed);
-        coverage_fresh();
+        start_log(&m, seed);
         for (size_t i = 0; i < records; i++)
             next_call(&m, 1);
     }

@@ -2,12 +2,14 @@
  * A sequence of calls for each kind, written by hand with the answers that document 01 gives; nothing there was printed by a program first. The
  * rows stand in threads.c, pends.c and machine.c.
  *
- * kinds --check: the core gives every answer there, stays sound, and each table has every code that each call of its kind can give.
+ * kinds --check: the core gives every answer there, stays sound and loses no post, and each table has every code that each call of its kind can
+ * give; and the sums of sums.h are as sides.c has them.
  * kinds --names: the names of the tables. kinds NAME: writes that table as a call log.
  */
 #include "calls.h"
 #include "kinds.h"
 #include "log.h"
+#include "sums.h"
 
 #include <stdio.h>
 #include <string.h>
@@ -32,8 +34,10 @@ static void fault(const char *name, size_t row, const char *what)
     faults++;
 }
 
-static void check_row(struct tables *t, const char *name, size_t number, const struct row *row)
+static void check_row(struct tables *t, struct sums *sums, const char *name, size_t number, const struct row *row)
 {
+    const struct call call = { row->call, { row->a, row->b, row->c, row->d } };
+
     for (unsigned i = 0; i < times_of(row); i++) {
         uint32_t value = row->times > RISING ? row->value + i : row->value;
         struct answer answer = core_call(t, row->call, row->a, row->b, row->c, row->d);
@@ -50,6 +54,9 @@ static void check_row(struct tables *t, const char *name, size_t number, const s
             fault(name, number, "another thread");
         if (core_unsound(t) != NULL)
             fault(name, number, core_unsound(t));
+        sums_note(sums, &call, answer);
+        if (sums_off(sums, t) != NULL)
+            fault(name, number, sums_off(sums, t));
     }
 }
 
@@ -118,19 +125,23 @@ static void check_beside(void)
 static int check(void)
 {
     static struct tables t;
-    unsigned long calls = 0;
+    struct sums sums;
+    unsigned long calls = 0, sides_calls = 0;
 
     for (unsigned which = 0; which < NAMES; which++) {
         core_fresh(&t);
+        sums_fresh(&sums);
         for (size_t i = 0; i < tables_by_name[which]->rows; i++) {
-            check_row(&t, tables_by_name[which]->name, i, &tables_by_name[which]->row[i]);
+            check_row(&t, &sums, tables_by_name[which]->name, i, &tables_by_name[which]->row[i]);
             calls += times_of(&tables_by_name[which]->row[i]);
         }
         check_codes(which);
     }
     check_beside();
+    faults += sides_check(&sides_calls);
     if (faults == 0)
-        printf("%lu calls answered as written by hand\n", calls);
+        printf("%lu calls answered as written by hand\n%lu calls at semaphores with both sides of their sum as worked out by hand\n",
+               calls, sides_calls);
     return faults == 0 ? 0 : 1;
 }
 

@@ -23,6 +23,28 @@ static int can_have_outcome(uint32_t number, unsigned outcome)
     }
 }
 
+/* What happened at counting semaphores, a column for each order; gives how much of it never did. */
+static unsigned print_counted(FILE *file)
+{
+    static const char *const orders[ORDERS] = { [BY_ARRIVAL] = "arrival", [BY_PRIORITY] = "priority" };
+    unsigned missing = 0;
+
+    fprintf(file, "\nhow often at a counting semaphore\n%10s%10s\n", orders[BY_ARRIVAL], orders[BY_PRIORITY]);
+    for (unsigned i = 0; i < COUNTED; i++)
+        fprintf(file, "%10lu%10lu  %s\n", coverage.counted[i][BY_ARRIVAL], coverage.counted[i][BY_PRIORITY], counted[i]);
+    fprintf(file, "%10llu%10llu  accepted posts since a count was set, at most\n", (unsigned long long)coverage.most_posts[BY_ARRIVAL],
+            (unsigned long long)coverage.most_posts[BY_PRIORITY]);
+    fprintf(file, "%10llu%10llu  units taken since a count was set, at most\n", (unsigned long long)coverage.most_taken[BY_ARRIVAL],
+            (unsigned long long)coverage.most_taken[BY_PRIORITY]);
+    fputc('\n', file);
+    for (unsigned i = 0; i < COUNTED * ORDERS; i++)
+        if (coverage.counted[i / ORDERS][i % ORDERS] == 0) {
+            missing++;
+            fprintf(file, "never: %s, counting semaphore, order of %s\n", counted[i / ORDERS], orders[i % ORDERS]);
+        }
+    return missing;
+}
+
 unsigned coverage_print(FILE *file)
 {
     unsigned long unknown = 0, stray = 0;
@@ -79,7 +101,7 @@ unsigned coverage_print(FILE *file)
     fprintf(file, "\nhow often\n");
     for (unsigned i = 0; i < HAPPENED; i++)
         fprintf(file, "%10lu  %s\n", coverage.count[i], happened[i]);
-    fputc('\n', file);
+    missing += print_counted(file);
     for (unsigned i = 0; i < HAPPENED; i++)
         if (coverage.count[i] == 0) {
             missing++;
@@ -91,6 +113,7 @@ unsigned coverage_print(FILE *file)
                 fprintf(file, "never: call %02lX (%s) with code %u\n", (unsigned long)call_forms[i].number, call_forms[i].name, code);
     if (stray != 0)
         fprintf(file, "%lu answers with a code that the call cannot give\n", stray);
-    fprintf(file, "%u pairs of call and code and %u deep states, %u of them never reached\n", pairs, (unsigned)HAPPENED, missing);
+    fprintf(file, "%u pairs of call and code and %u deep states, %u of them never reached\n", pairs,
+            (unsigned)HAPPENED + COUNTED * ORDERS, missing);
     return missing + (stray != 0);
 }

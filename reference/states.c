@@ -94,4 +94,20 @@ const char *const happened[HAPPENED] = {
     [OBJECT_BEFORE_ARGUMENT] = "code 3 or 11 although an unused argument is not 0",
 };
 
+const char *const counted[COUNTED] = {
+    [TAKEN_AT_ONCE] = "unit taken at once",
+    [TAKEN_BY_WAITER] = "unit taken by a waiter that a post readied",
+    [COUNTED_UP] = "post counted up",
+    [PEND_NOT_MET] = "pend not met",
+    [WAIT_BEGUN] = "wait begun",
+    [WAIT_EXPIRED] = "wait expired",
+    [PEND_REFUSED] = "pend refused",
+    [POST_REFUSED_AT_MOST] = "post refused with 7",
+    [POST_REFUSED_ELSE] = "post refused with another code",
+    [RESET_REFUSED] = "reset refused with 5",
+    [RESET_AFTER_POSTS] = "reset accepted after accepted posts",
+    [DELETED_AFTER_POSTS] = "deleted after accepted posts",
+    [CREATED_ANEW] = "created with the number of a deleted one",
+};
+
 struct counts coverage;

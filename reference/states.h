@@ -110,12 +110,37 @@ enum happened {
 
 extern const char *const happened[HAPPENED]; /* in words */
 
+/* Things that happened at a counting semaphore, for the sums of sums.h. */
+enum counted {
+    TAKEN_AT_ONCE,
+    TAKEN_BY_WAITER,
+    COUNTED_UP,
+    PEND_NOT_MET,
+    WAIT_BEGUN,
+    WAIT_EXPIRED,
+    PEND_REFUSED,
+    POST_REFUSED_AT_MOST,
+    POST_REFUSED_ELSE,
+    RESET_REFUSED,
+    RESET_AFTER_POSTS,
+    DELETED_AFTER_POSTS,
+    CREATED_ANEW,
+    COUNTED
+};
+
+extern const char *const counted[COUNTED]; /* in words */
+
+enum order { BY_ARRIVAL, BY_PRIORITY, ORDERS }; /* kinds 0 and 2 */
+
 struct counts {
     unsigned long calls;
     unsigned long pair[256][CODES];    /* of call and code */
     unsigned long outcome[256][3];     /* of accepted calls */
     uint32_t most[MOSTS];
     unsigned long count[HAPPENED];
+    unsigned long counted[COUNTED][ORDERS];
+    uint64_t most_posts[ORDERS];       /* since a count was set */
+    uint64_t most_taken[ORDERS];
 };
 
 /* Of all calls noted so far; coverage.c adds to them and report.c prints them. */
