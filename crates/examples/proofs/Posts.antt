@@ -1,6 +1,6 @@
--- Request No. 12 in a worked example: a run from fresh tables on with three semaphores, of which every premise of `no-post-lost` is met for two.
+-- Request No. 12 in a worked example: a run from fresh tables on with four semaphores, of which every premise of `no-post-lost` is met for two.
 -- Semaphore 0 is counting by priority: it was deleted and made anew with count 1; since then a pend on it was done at once, one expired, one was not
--- met, one was readied by a post; a pend, a reset and a post were refused, and two posts counted up: 1 + 3 is 2 + 2. Semaphore 1 is counting in
+-- met, one was ended by a post; a pend, a reset and a post were refused, and two posts counted up: 1 + 3 is 2 + 2. Semaphore 1 is counting in
 -- arrival order and was reset to 65,534: a post counted up, the next was refused, a pend took one, a post counted up: 65,534 + 2 is 65,535 + 1.
 -- Semaphore 2 is binary, semaphore 3 was deleted.
 use Prim.Native.Nat.{ℕ, suc, _+_}

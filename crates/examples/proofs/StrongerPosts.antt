@@ -1,5 +1,5 @@
--- Request No. 12 says no more than is true: for each must-fail edit of `no_post_lost`, the statement that it makes, denied by the run of `Posts`. What is
--- counted wrongly there gives two sides that differ.
+-- Request No. 12 says no more than is true: for each must-fail edit of `no_post_lost`, the statement that it makes, denied by a run. That is the run of
+-- `Posts`, where what is counted wrongly gives two sides that differ; and for what a post's value tells one more post after it, and the run of `Story`.
 use Prim.Native.Nat.{ℕ, _+_}
 use mathlib.Core.Path.{_≡_, refl, sym, ap, _∙_}
 use mathlib.Core.Logic.{_≢_}
@@ -11,7 +11,7 @@ use lib.ListN.{take}
 use borrow.Author.Tests.{eq-eqb}
 use Rattle.fold.specs.Lists.{zeros}
 use Rattle.rules.specs.Answer.{done}
-use Rattle.rules.specs.Tables.{Typed, tables, semaphore, USED, KIND, COUNT}
+use Rattle.rules.specs.Tables.{Typed, tables, task, semaphore, USED, KIND, COUNT}
 use Rattle.rules.specs.Lines.{line, semaphoreLine}
 use Rattle.rules.specs.Semaphores.{isBinary}
 use Rattle.rules.specs.Sound.{Sound}
@@ -22,6 +22,7 @@ use Rattle.rules.proofs.Standing.{linesWith}
 use Rattle.runs.specs.Run.{Asked, asked, made, next, after}
 use Rattle.no_post_lost.specs.NoPostLost.{CallAndAnswer, howMany, isAccepted, isAcceptedOn, setsCount, isPost, takesUnit, Counting}
 use Rattle.no_post_lost.specs.Readied.{OneReadied}
+use Rattle.no_post_lost.proofs.Readied.{value-tells}
 use Rattle.examples.proofs.BySteps.{pass, inWords, Leads, leads, anything}
 use Rattle.examples.proofs.Story.{tablesOf, flooded, moment, to-flooded, to-moment}
 use Rattle.examples.proofs.Posts.{now, to-now, all, at, since, Counted, Sums, in-run, counting}
@@ -178,11 +179,11 @@ unfolding quickly howMany now
 not-of-binary = denied (ofThose InUse) 2 5 2 1 (λ e. omega (arith, e)) refl refl refl refl refl (λ e. omega arith)
 
 abbrev NotBinary : ℕ → Tables → Type 0
-NotBinary s t = isBinary (semaphore (t .semaphores) s KIND) ≡ false
+NotBinary s t = (semaphore (t .semaphores) s USED ≢ 2) × (isBinary (semaphore (t .semaphores) s KIND) ≡ false)
 
 pub not-of-deleted : Sums (ofThose NotBinary) → ⊥
 unfolding quickly howMany now
-not-of-deleted = denied (ofThose NotBinary) 3 6 3 0 refl refl refl refl refl refl (λ e. omega arith)
+not-of-deleted = denied (ofThose NotBinary) 3 6 3 0 (λ e. omega (arith, e), refl) refl refl refl refl refl (λ e. omega arith)
 
 -- ---- what a post's value tells: with value 0 nobody was readied, as by one more post after this run
 abbrev once : List Line
@@ -201,10 +202,11 @@ nobody-there : line (now .lines) (semaphoreLine 0) ≡ []
 unfolding quickly linesWith now
 nobody-there = refl
 
--- the post's answer, code and value
+-- a post on s
 abbrev postOn : ℕ → Asked
 postOn s = asked 0x23 s 0 0 0
 
+-- its code and value
 counted-up : (made now (postOn 0) .answer .code ≡ 0) × (made now (postOn 0) .answer .value ≡ 0)
 unfolding says
 counted-up = let e = to-posted .answers .so in (cc, cc)
@@ -231,3 +233,10 @@ unfolding after
 not-still-in-line every =
     let same = every flooded (to-flooded .typed) (to-flooded .sound) (postOn 0) (rw (eq-eqb _ 0 (woke .0))) (λ e. omega (arith, e, woke .1)) in
     cons≢nil (sym (one-there .0) ∙ same ∙ ap (λ (u : Tables). line (u .lines) (semaphoreLine 0)) (to-moment .now) ∙ one-there .1)
+
+-- and its wait was met: it did not expire
+pub not-readied-as-expired : Told (λ t q. made t q .answer .value ≢ 0 → (x : OneReadied 0 t (next t q)) → task (next t q .tasks) (x .waiter) .outcome ≡ 1) → ⊥
+not-readied-as-expired every =
+    let post : isPost 0 record { asked = postOn 0; answer = made flooded (postOn 0) .answer } ≡ true = rw (eq-eqb _ 0 (woke .0)) in
+    let x = value-tells flooded (to-flooded .typed) (to-flooded .sound) 0 (postOn 0) post .0 (λ e. omega (arith, e, woke .1)) in
+    omega (arith, x .outcome, every flooded (to-flooded .typed) (to-flooded .sound) (postOn 0) post (λ e. omega (arith, e, woke .1)) x)

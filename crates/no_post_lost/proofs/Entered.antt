@@ -1,4 +1,4 @@
--- CallAndAnswer calls one after the other answer what `Run.made` says and leave the tables that it leaves, so what holds of their history is `no-post-lost`.
+-- Entry calls one after the other answer what `Run.made` says and leave the tables that it leaves, so what holds of their history is `no-post-lost`.
 use Prim.Native.Nat.{ℕ}
 use mathlib.Core.Path.{_≡_, refl, sym}
 use mathlib.Core.List.{List, [], _∷_, append-ne-nil-of-right-ne-nil, cons≢nil}

@@ -40,7 +40,7 @@ lasts t typed sound s (q ∷ qs) (word, words) none now =
     let here = one-call t typed sound s q not-set (rest .before) in
     record { before = here .before; even = omega (arith, here .even, rest .even) }
 
--- ---- calls with the last that sets the count of s among them: its own count is set there, and kept from there on
+-- ---- calls with the last that sets the count of s among them: the count is set there, and the sum is kept from there on
 module _ (s : ℕ) (set : CallAndAnswer) (since : List CallAndAnswer) (sets : setsCount s set ≡ true) (last : howMany (setsCount s) since ≡ 0) where
   balanced : (before : List CallAndAnswer) (t : Tables) → Typed t → Sound t → (qs : List Asked) → AllWords t qs → Counting s (after t qs)
       → history t qs ≡ before ++ (set ∷ since)

@@ -24,7 +24,7 @@ abbrev pub answered : Tables → Asked → CallAndAnswer
 answered t q = record { asked = q; answer = made t q .answer }
 
 module _ (t : Tables) (typed : Typed t) (sound : Sound t) (s : ℕ) (q : Asked) where
-  -- s was a counting semaphore before the call, and its count and the post are its count afterwards and the unit taken
+  -- s was a counting semaphore before the call, and its count plus the post equals its count afterwards plus the unit taken
   pub record Kept : Type 0 where
     pub before : Counting s t
     pub even : countNow s t + bit (isPost s (answered t q)) ≡ countNow s (next t q) + bit (takesUnit s (answered t q))

@@ -22,7 +22,7 @@ use Rattle.turns.proofs.Made.{Accepted, by-answer}
 use Rattle.turns.proofs.Posts.{posted-line, none-value, none-moved, foremost, some-value, foremost-waits, foremost-readied, others-stay, foremost-gone}
 use Rattle.no_post_lost.specs.Readied.{OneReadied, NoneReadied, Tells, ValueTells}
 
--- who stands in a list once at most and stands first: without it, the others
+-- a list whose first member stands in it only once: that member, then the list without it
 first-apart : (xs : List ℕ) → 0 < length xs → count (getD xs 0 0) xs ≤ 1 → xs ≡ getD xs 0 0 ∷ without (getD xs 0 0) xs
 unfolding count without
 first-apart [] some once = absurd (omega arith)
@@ -41,6 +41,7 @@ module _ (t : Tables) (typed : Typed t) (sound : Sound t) (q : Asked) (ok : Acce
         waited = foremost-waits t typed sound q ok s number at some;
         first = rw (foremost-gone t typed sound q ok s number at some) (first-apart (line (t .lines) (semaphoreLine s)) (ltb-true _ _ some) once);
         ready = ap (λ (k : Task). k .mode) (foremost-readied t typed sound q ok s number at some);
+        outcome = ap (λ (k : Task). k .outcome) (foremost-readied t typed sound q ok s number at some);
         others = others-stay t typed sound q ok s number at some;
       }
 

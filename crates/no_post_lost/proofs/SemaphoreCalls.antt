@@ -1,5 +1,5 @@
--- An accepted call and one counting semaphore s: if the call does not set the count of s, then s was there before it, and its count and the post are
--- its count afterwards and the unit taken. Each of the calls 20 to 24 does what its definition says to one row; no other call touches the table.
+-- An accepted call and one counting semaphore s: if the call does not set the count of s, then s was there before it, and its count plus the post
+-- equals its count afterwards plus the unit taken. Each of the calls 20 to 24 does what its definition says to one row; no other call touches the table.
 use Prim.Native.Nat.{ℕ, _+_, _-_, _<_}
 use mathlib.Core.Path.{_≡_, refl, sym, ap, subst, _∙_}
 use mathlib.Core.Logic.{_≢_, ⊎-elim}

@@ -4,6 +4,7 @@ use mathlib.Core.Path.{_≡_}
 use mathlib.Core.Logic.{_≢_}
 use mathlib.Core.Bool.{true}
 use mathlib.Core.List.{[], _∷_}
+use Rattle.rules.specs.Answer.{done}
 use Rattle.rules.specs.Tables.{Typed, ready, task}
 use Rattle.rules.specs.Lines.{line, semaphoreLine}
 use Rattle.rules.specs.Sound.{Sound}
@@ -12,15 +13,16 @@ use Rattle.runs.specs.Run.{Asked, made, next}
 use Rattle.runs.specs.Turn.{BlockedOn}
 use Rattle.no_post_lost.specs.NoPostLost.{isPost}
 
--- one task was readied, the first of those who waited at s; the others wait on, and no other task has changed
+-- one task was readied, the first of those who waited at s, and its wait was met; the others wait on, and no other task's row has changed
 pub record OneReadied (s : ℕ) (t u : Tables) : Type 0 where
   pub waiter : ℕ
   pub waited : BlockedOn s waiter t
   pub first : line (t .lines) (semaphoreLine s) ≡ waiter ∷ line (u .lines) (semaphoreLine s)
   pub ready : task (u .tasks) waiter .mode ≡ ready
+  pub outcome : task (u .tasks) waiter .outcome ≡ done
   pub others : (i : ℕ) → i ≢ waiter → task (u .tasks) i ≡ task (t .tasks) i
 
--- nobody waited at s, and no task has changed
+-- nobody waited at s, and no task's row has changed
 pub record NoneReadied (s : ℕ) (t u : Tables) : Type 0 where
   pub nobody : line (t .lines) (semaphoreLine s) ≡ []
   pub all : (i : ℕ) → task (u .tasks) i ≡ task (t .tasks) i

@@ -1,5 +1,5 @@
--- An accepted post on a semaphore, of any kind: where somebody waits the first in line is ready and every other task stays as it was; where nobody
--- does, every task does. The value tells which.
+-- An accepted post on a semaphore, of any kind: where somebody waits the first in line becomes ready and every other task's row stays; where nobody
+-- waits every row does. The effect moves one task (`keeps/proofs/Moves`), and dispatch changes no row. The value tells which.
 use Prim.Native.Nat.{ℕ, _<_}
 use mathlib.Core.Path.{_≡_, refl, ap, _∙_}
 use mathlib.Core.Logic.{_≢_, inl}

@@ -1,4 +1,5 @@
--- A semaphore at which somebody waits keeps its kind, whatever call is accepted.
+-- A semaphore at which somebody waits keeps its kind, whatever call is accepted: a creation takes a number not in use, a delete needs an empty line,
+-- the other calls on semaphores store a count alone (`other-word`), and calls of other kinds leave the table alone (`by-kind`).
 use Prim.Native.Nat.{ℕ}
 use mathlib.Core.Path.{_≡_, refl, sym, ap, _∙_}
 use mathlib.Core.Logic.{_≢_, ⊎-elim}
