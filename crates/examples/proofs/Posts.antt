@@ -172,6 +172,11 @@ pub counted-one : (howMany (isPost 1) (since 10) ≡ 2) × (howMany (takesUnit 1
 unfolding quickly howMany now
 counted-one = (refl, refl, refl)
 
+-- of the binary one the two sides are 1 + 1 and 1 + 0
+pub counted-two : (howMany (isPost 2) (since 5) ≡ 1) × (howMany (takesUnit 2) (since 5) ≡ 0) × (semaphore (now .semaphores) 2 COUNT ≡ 1)
+unfolding quickly howMany now
+counted-two = (refl, refl, refl)
+
 -- the theorem's own instances: 1 + 3 is 2 + 2, and 65,534 + 2 is 65,535 + 1
 pub zero-balanced : 1 + howMany (isPost 0) (since 3) ≡ semaphore (now .semaphores) 0 COUNT + howMany (takesUnit 0) (since 3)
 unfolding howMany
