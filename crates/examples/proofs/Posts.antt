@@ -46,8 +46,8 @@ history-told t (look f ∷ xs) = history-told t xs
 abbrev reset : ℕ → ℕ → Runs.Asked
 reset i count = Runs.asked 0x24 i count 0 0
 
--- 0 to 3: semaphore 0 is made, posted and deleted, and made anew by priority with count 1. 4 to 9: semaphore 1 is made in arrival order, 2 as a binary one, 3
--- is made and deleted, a creation is refused, and 1 is posted
+-- 0 to 3: semaphore 0 is made, posted and deleted, and made anew by priority with count 1. 4 to 9: semaphore 1 is made in arrival order, 2 as a binary
+-- one, 3 is made and deleted, a creation is refused, and 1 is posted
 abbrev making : List Line
 making =
     createSemaphore 0 9 ⇒ said 0 0 0 (T 0)
@@ -73,8 +73,8 @@ filling =
     ∷ post 2 ⇒ said 0 0 0 (T 0)
     ∷ []
 
--- 16 to 29: task 1 pends on 0: done at once; for one tick, which runs out; with limit 0, not met; and without end. A pend by task 0, a reset and a post with
--- an argument too many are refused; a post readies task 1, and two count up
+-- 16 to 29: task 1 pends on 0: done at once; for one tick, which runs out; with limit 0, not met; and without end. A pend by task 0, a reset and a
+-- post with an argument too many are refused; a post readies task 1, and two count up
 abbrev waiting : List Line
 waiting =
     createTask 5 ⇒ said 0 0 1 (T 1)
@@ -92,6 +92,19 @@ waiting =
     ∷ post 0 ⇒ said 0 0 0 (T 1)
     ∷ post 0 ⇒ said 0 0 0 (T 1)
     ∷ []
+
+-- the numbers of the last creations of semaphores 0, 2 and 3, and of the last reset of semaphore 1
+abbrev pub createdZero : ℕ
+createdZero = 3
+
+abbrev pub createdTwo : ℕ
+createdTwo = 5
+
+abbrev pub createdThree : ℕ
+createdThree = 6
+
+abbrev pub resetOne : ℕ
+resetOne = 10
 
 abbrev run : List Line
 run = making ++ (filling ++ waiting)
@@ -164,34 +177,34 @@ unfolding quickly now
 counting = (record { used = λ e. omega (arith, e); kind = refl }, record { used = λ e. omega (arith, e); kind = refl })
 
 -- counted from the history: posts, units taken; and the count now
-pub counted-zero : (howMany (isPost 0) (since 3) ≡ 3) × (howMany (takesUnit 0) (since 3) ≡ 2) × (semaphore (now .semaphores) 0 COUNT ≡ 2)
+pub counted-zero : (howMany (isPost 0) (since createdZero) ≡ 3) × (howMany (takesUnit 0) (since createdZero) ≡ 2) × (semaphore (now .semaphores) 0 COUNT ≡ 2)
 unfolding quickly howMany now
 counted-zero = (refl, refl, refl)
 
-pub counted-one : (howMany (isPost 1) (since 10) ≡ 2) × (howMany (takesUnit 1) (since 10) ≡ 1) × (semaphore (now .semaphores) 1 COUNT ≡ 65535)
+pub counted-one : (howMany (isPost 1) (since resetOne) ≡ 2) × (howMany (takesUnit 1) (since resetOne) ≡ 1) × (semaphore (now .semaphores) 1 COUNT ≡ 65535)
 unfolding quickly howMany now
 counted-one = (refl, refl, refl)
 
 -- of the binary one the two sides are 1 + 1 and 1 + 0
-pub counted-two : (howMany (isPost 2) (since 5) ≡ 1) × (howMany (takesUnit 2) (since 5) ≡ 0) × (semaphore (now .semaphores) 2 COUNT ≡ 1)
+pub counted-two : (howMany (isPost 2) (since createdTwo) ≡ 1) × (howMany (takesUnit 2) (since createdTwo) ≡ 0) × (semaphore (now .semaphores) 2 COUNT ≡ 1)
 unfolding quickly howMany now
 counted-two = (refl, refl, refl)
 
 -- the theorem's own instances: 1 + 3 is 2 + 2, and 65,534 + 2 is 65,535 + 1
-pub zero-balanced : 1 + howMany (isPost 0) (since 3) ≡ semaphore (now .semaphores) 0 COUNT + howMany (takesUnit 0) (since 3)
+pub zero-balanced : 1 + howMany (isPost 0) (since createdZero) ≡ semaphore (now .semaphores) 0 COUNT + howMany (takesUnit 0) (since createdZero)
 unfolding howMany
-zero-balanced = in-run right stated 0 (counting .0) 3 refl refl refl
+zero-balanced = in-run right stated 0 (counting .0) createdZero refl refl refl
 
-pub one-balanced : 65534 + howMany (isPost 1) (since 10) ≡ semaphore (now .semaphores) 1 COUNT + howMany (takesUnit 1) (since 10)
+pub one-balanced : 65534 + howMany (isPost 1) (since resetOne) ≡ semaphore (now .semaphores) 1 COUNT + howMany (takesUnit 1) (since resetOne)
 unfolding howMany
-one-balanced = in-run right stated 1 (counting .1) 10 refl refl refl
+one-balanced = in-run right stated 1 (counting .1) resetOne refl refl refl
 
 -- ---- from fresh tables on the theorem finds the last creation itself, and it is this one
-pub found : (x : LastSet 0 (history fresh runCalls)) × (x .call ≡ at 3) × (x .since ≡ since 3)
+pub found : (x : LastSet 0 (history fresh runCalls)) × (x .call ≡ at createdZero) × (x .since ≡ since createdZero)
 unfolding howMany
 found =
     let (x, _) = no-post-lost-from-fresh runCalls (to-now .words) 0 (rw (to-now .now) (counting .0)) in
     let here : LastSet 0 (history fresh runCalls) =
-    record { before = take 3 all; call = at 3; since = since 3; split = is-all; sets = refl; noneSince = refl } in
+    record { before = take createdZero all; call = at createdZero; since = since createdZero; split = is-all; sets = refl; noneSince = refl } in
     let (call, later) = one-last 0 (history fresh runCalls) x here in
     (x, call, later)

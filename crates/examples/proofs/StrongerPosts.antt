@@ -10,7 +10,7 @@ use lib.Dec.{eqb}
 use lib.ListN.{take}
 use borrow.Author.Tests.{eq-eqb}
 use Rattle.fold.specs.Lists.{zeros}
-use Rattle.rules.specs.Answer.{done}
+use Rattle.rules.specs.Answer.{done, notMet, nowWaiting}
 use Rattle.rules.specs.Tables.{Typed, tables, task, semaphore, USED, KIND, COUNT}
 use Rattle.rules.specs.Lines.{line, semaphoreLine}
 use Rattle.rules.specs.Semaphores.{isBinary}
@@ -25,7 +25,7 @@ use Rattle.no_post_lost.specs.Readied.{OneReadied}
 use Rattle.no_post_lost.proofs.Readied.{value-tells}
 use Rattle.examples.proofs.BySteps.{pass, inWords, Leads, leads, anything}
 use Rattle.examples.proofs.Story.{tablesOf, flooded, moment, to-flooded, to-moment}
-use Rattle.examples.proofs.Posts.{now, to-now, all, at, since, Counted, Sums, in-run, counting}
+use Rattle.examples.proofs.Posts.{createdZero, createdTwo, createdThree, resetOne, now, to-now, all, at, since, Counted, Sums, in-run, counting}
 
 -- ---- with another test of what takes a unit; of a post; of what sets the count; of which semaphores
 abbrev takenBy : (ℕ → CallAndAnswer → Bool) → Counted
@@ -62,19 +62,19 @@ module _ (c : Counted) (s k l r : ℕ) where
 -- ---- "a unit being taken by a pend that was done at once or by a waiter that a post readied"
 -- not when a wait begins, as two do: one expires
 abbrev begun : ℕ → CallAndAnswer → Bool
-begun s e = isAcceptedOn 0x22 s e && not (eqb (e .answer .outcome) 1)
+begun s e = isAcceptedOn 0x22 s e && not (eqb (e .answer .outcome) notMet)
 
 pub not-when-a-wait-begins : Sums (takenBy begun) → ⊥
 unfolding quickly howMany now
-not-when-a-wait-begins = denied (takenBy begun) 0 3 4 5 (counting .0) refl refl refl refl refl (λ e. omega arith)
+not-when-a-wait-begins = denied (takenBy begun) 0 createdZero 4 5 (counting .0) refl refl refl refl refl (λ e. omega arith)
 
 -- not by a pend that was not met
 abbrev endedAtOnce : ℕ → CallAndAnswer → Bool
-endedAtOnce = units (λ s e. isAcceptedOn 0x22 s e && not (eqb (e .answer .outcome) 2)) isPost
+endedAtOnce = units (λ s e. isAcceptedOn 0x22 s e && not (eqb (e .answer .outcome) nowWaiting)) isPost
 
 pub not-when-not-met : Sums (takenBy endedAtOnce) → ⊥
 unfolding quickly howMany now
-not-when-not-met = denied (takenBy endedAtOnce) 0 3 4 5 (counting .0) refl refl refl refl refl (λ e. omega arith)
+not-when-not-met = denied (takenBy endedAtOnce) 0 createdZero 4 5 (counting .0) refl refl refl refl refl (λ e. omega arith)
 
 -- by a pend alone: then a post that readies a waiter would count up too
 abbrev pended : ℕ → CallAndAnswer → Bool
@@ -82,7 +82,7 @@ pended s e = isAcceptedOn 0x22 s e && eqb (e .answer .outcome) done
 
 pub not-wakes-and-counts : Sums (takenBy pended) → ⊥
 unfolding quickly howMany now
-not-wakes-and-counts = denied (takenBy pended) 0 3 4 3 (counting .0) refl refl refl refl refl (λ e. omega arith)
+not-wakes-and-counts = denied (takenBy pended) 0 createdZero 4 3 (counting .0) refl refl refl refl refl (λ e. omega arith)
 
 -- "refused calls count nowhere": a refused pend has outcome 0 too
 abbrev triedToPend : ℕ → CallAndAnswer → Bool
@@ -90,7 +90,7 @@ triedToPend = units (λ s e. eqb (e .asked .number) 0x22 && eqb (e .asked .a) s 
 
 pub not-with-refused-pends : Sums (takenBy triedToPend) → ⊥
 unfolding quickly howMany now
-not-with-refused-pends = denied (takenBy triedToPend) 0 3 4 5 (counting .0) refl refl refl refl refl (λ e. omega arith)
+not-with-refused-pends = denied (takenBy triedToPend) 0 createdZero 4 5 (counting .0) refl refl refl refl refl (λ e. omega arith)
 
 -- a pend on semaphore 1 takes nothing from semaphore 0
 abbrev pendedAnywhere : ℕ → CallAndAnswer → Bool
@@ -98,7 +98,7 @@ pendedAnywhere = units (λ s e. isAccepted 0x22 e && eqb (e .answer .outcome) do
 
 pub not-with-pends-elsewhere : Sums (takenBy pendedAnywhere) → ⊥
 unfolding quickly howMany now
-not-with-pends-elsewhere = denied (takenBy pendedAnywhere) 0 3 4 5 (counting .0) refl refl refl refl refl (λ e. omega arith)
+not-with-pends-elsewhere = denied (takenBy pendedAnywhere) 0 createdZero 4 5 (counting .0) refl refl refl refl refl (λ e. omega arith)
 
 -- ---- "the accepted posts": on semaphore 1 one was refused, at 65,535
 abbrev tried : ℕ → CallAndAnswer → Bool
@@ -106,7 +106,7 @@ tried s e = eqb (e .asked .number) 0x23 && eqb (e .asked .a) s
 
 pub not-with-refused-posts : Sums (postedBy tried) → ⊥
 unfolding quickly howMany now
-not-with-refused-posts = denied (postedBy tried) 1 10 65537 65536 (counting .1) refl refl refl refl refl (λ e. omega arith)
+not-with-refused-posts = denied (postedBy tried) 1 resetOne 65537 65536 (counting .1) refl refl refl refl refl (λ e. omega arith)
 
 -- on this semaphore
 abbrev postedAnywhere : ℕ → CallAndAnswer → Bool
@@ -114,7 +114,7 @@ postedAnywhere s e = isAccepted 0x23 e
 
 pub not-with-posts-elsewhere : Sums (postedBy postedAnywhere) → ⊥
 unfolding quickly howMany now
-not-with-posts-elsewhere = denied (postedBy postedAnywhere) 0 3 8 4 (counting .0) refl refl refl refl refl (λ e. omega arith)
+not-with-posts-elsewhere = denied (postedBy postedAnywhere) 0 createdZero 8 4 (counting .0) refl refl refl refl refl (λ e. omega arith)
 
 -- ---- "creation or accepted reset": a refused reset sets nothing, nor does a refused creation, whose value is 0
 abbrev triedToReset : ℕ → CallAndAnswer → Bool
@@ -137,7 +137,7 @@ createdByKind s e = (isAccepted 0x20 e && eqb (e .asked .a) s) || isAcceptedOn 0
 
 pub not-by-the-first-argument : Sums (setBy createdByKind) → ⊥
 unfolding quickly howMany now
-not-by-the-first-argument = denied (setBy createdByKind) 0 6 6 4 (counting .0) refl refl refl refl refl (λ e. omega arith)
+not-by-the-first-argument = denied (setBy createdByKind) 0 createdThree 6 4 (counting .0) refl refl refl refl refl (λ e. omega arith)
 
 -- a reset of semaphore 1 sets nothing of semaphore 0, and a reset does set the count
 abbrev resetAnywhere : ℕ → CallAndAnswer → Bool
@@ -145,7 +145,7 @@ resetAnywhere s e = (isAccepted 0x20 e && eqb (e .answer .value) s) || isAccepte
 
 pub not-with-resets-elsewhere : Sums (setBy resetAnywhere) → ⊥
 unfolding quickly howMany now
-not-with-resets-elsewhere = denied (setBy resetAnywhere) 0 10 65537 4 (counting .0) refl refl refl refl refl (λ e. omega arith)
+not-with-resets-elsewhere = denied (setBy resetAnywhere) 0 resetOne 65537 4 (counting .0) refl refl refl refl refl (λ e. omega arith)
 
 abbrev createdAlone : ℕ → CallAndAnswer → Bool
 createdAlone s e = isAccepted 0x20 e && eqb (e .answer .value) s
@@ -168,7 +168,7 @@ setToFirst = record { sets = setsCount; count = λ e. e .asked .a; again = setsC
 
 pub not-set-to-the-first-argument : Sums setToFirst → ⊥
 unfolding quickly howMany now
-not-set-to-the-first-argument = denied setToFirst 0 3 5 4 (counting .0) refl refl refl refl refl (λ e. omega arith)
+not-set-to-the-first-argument = denied setToFirst 0 createdZero 5 4 (counting .0) refl refl refl refl refl (λ e. omega arith)
 
 -- ---- "For every counting semaphore": of a binary one a post at 1 is lost, and a deleted one has no count
 abbrev InUse : ℕ → Tables → Type 0
@@ -176,14 +176,14 @@ InUse s t = semaphore (t .semaphores) s USED ≢ 0
 
 pub not-of-binary : Sums (ofThose InUse) → ⊥
 unfolding quickly howMany now
-not-of-binary = denied (ofThose InUse) 2 5 2 1 (λ e. omega (arith, e)) refl refl refl refl refl (λ e. omega arith)
+not-of-binary = denied (ofThose InUse) 2 createdTwo 2 1 (λ e. omega (arith, e)) refl refl refl refl refl (λ e. omega arith)
 
 abbrev NotBinary : ℕ → Tables → Type 0
 NotBinary s t = (semaphore (t .semaphores) s USED ≢ 2) × (isBinary (semaphore (t .semaphores) s KIND) ≡ false)
 
 pub not-of-deleted : Sums (ofThose NotBinary) → ⊥
 unfolding quickly howMany now
-not-of-deleted = denied (ofThose NotBinary) 3 6 3 0 (λ e. omega (arith, e), refl) refl refl refl refl refl (λ e. omega arith)
+not-of-deleted = denied (ofThose NotBinary) 3 createdThree 3 0 (λ e. omega (arith, e), refl) refl refl refl refl refl (λ e. omega arith)
 
 -- ---- what a post's value tells: with value 0 nobody was readied, as by one more post after this run
 abbrev once : List Line
@@ -220,6 +220,9 @@ not-told-by-a-value-of-0 every =
     nil≢cons (sym nobody-there ∙ x .first)
 
 -- and who was readied has left the line: in the run of `Story` task 3 waited alone
+abbrev StillInLine : Tables → Asked → Type 0
+StillInLine t q = made t q .answer .value ≢ 0 → line (t .lines) (semaphoreLine 0) ≡ line (next t q .lines) (semaphoreLine 0)
+
 woke : (made flooded (postOn 0) .answer .code ≡ 0) × (made flooded (postOn 0) .answer .value ≡ 1)
 unfolding says
 woke = let e = to-moment .answers .so in (cc, cc)
@@ -228,14 +231,17 @@ one-there : (line (flooded .lines) (semaphoreLine 0) ≡ 3 ∷ []) × (line (mom
 unfolding quickly linesWith tablesOf flooded moment
 one-there = (refl, refl)
 
-pub not-still-in-line : Told (λ t q. made t q .answer .value ≢ 0 → line (t .lines) (semaphoreLine 0) ≡ line (next t q .lines) (semaphoreLine 0)) → ⊥
+pub not-still-in-line : Told StillInLine → ⊥
 unfolding after
 not-still-in-line every =
     let same = every flooded (to-flooded .typed) (to-flooded .sound) (postOn 0) (rw (eq-eqb _ 0 (woke .0))) (λ e. omega (arith, e, woke .1)) in
     cons≢nil (sym (one-there .0) ∙ same ∙ ap (λ (u : Tables). line (u .lines) (semaphoreLine 0)) (to-moment .now) ∙ one-there .1)
 
 -- and its wait was met: it did not expire
-pub not-readied-as-expired : Told (λ t q. made t q .answer .value ≢ 0 → (x : OneReadied 0 t (next t q)) → task (next t q .tasks) (x .waiter) .outcome ≡ 1) → ⊥
+abbrev AsExpired : Tables → Asked → Type 0
+AsExpired t q = made t q .answer .value ≢ 0 → (x : OneReadied 0 t (next t q)) → task (next t q .tasks) (x .waiter) .outcome ≡ notMet
+
+pub not-readied-as-expired : Told AsExpired → ⊥
 not-readied-as-expired every =
     let post : isPost 0 record { asked = postOn 0; answer = made flooded (postOn 0) .answer } ≡ true = rw (eq-eqb _ 0 (woke .0)) in
     let x = value-tells flooded (to-flooded .typed) (to-flooded .sound) 0 (postOn 0) post .0 (λ e. omega (arith, e, woke .1)) in

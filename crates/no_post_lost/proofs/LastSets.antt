@@ -30,7 +30,8 @@ last-or-none s (e ∷ es) =
     (last-or-none s es)
 
 -- ---- it is one: what stands before a call that sets the count has one behind it
-some-behind : (s : ℕ) (before : List CallAndAnswer) (e : CallAndAnswer) (es : List CallAndAnswer) → setsCount s e ≡ true → howMany (setsCount s) (before ++ (e ∷ es)) ≢ 0
+some-behind : (s : ℕ) (before : List CallAndAnswer) (e : CallAndAnswer) (es : List CallAndAnswer) → setsCount s e ≡ true
+    → howMany (setsCount s) (before ++ (e ∷ es)) ≢ 0
 unfolding howMany
 some-behind s [] e es sets none = omega (arith, rw sets at none)
 some-behind s (b ∷ bs) e es sets none = some-behind s bs e es sets (omega (arith, none))
@@ -45,4 +46,5 @@ module _ (s : ℕ) (e f : CallAndAnswer) (es fs : List CallAndAnswer) (sets : se
 
 pub one-last : (s : ℕ) (h : List CallAndAnswer) (x y : LastSet s h) → (x .call ≡ y .call) × (x .since ≡ y .since)
 one-last s h x y =
-    same-place s (x .call) (y .call) (x .since) (y .since) (x .sets) (omega (arith, x .noneSince)) (y .sets) (omega (arith, y .noneSince)) (x .before) (y .before) (sym (x .split) ∙ y .split)
+    same-place s (x .call) (y .call) (x .since) (y .since) (x .sets) (omega (arith, x .noneSince)) (y .sets) (omega (arith, y .noneSince))
+    (x .before) (y .before) (sym (x .split) ∙ y .split)

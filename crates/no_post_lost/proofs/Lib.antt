@@ -3,5 +3,5 @@ pub mod OneCall
 pub mod LastSets
 pub mod NoPostLost
 pub mod Entered
-pub mod Posts
+pub mod DemandThree
 pub mod Readied

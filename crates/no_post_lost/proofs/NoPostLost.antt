@@ -59,7 +59,8 @@ module _ (s : ℕ) (set : CallAndAnswer) (since : List CallAndAnswer) (sets : se
       balanced ps (next t q) (next-typed t typed sound q word) (next-sound t typed sound q word) qs words now (tail-eq-of-cons-eq e)
 
 pub no-post-lost : NoPostLost
-no-post-lost t typed sound qs words s now x = balanced s (x .call) (x .since) (x .sets) (omega (arith, x .noneSince)) (x .before) t typed sound qs words now (x .split)
+no-post-lost t typed sound qs words s now x =
+    balanced s (x .call) (x .since) (x .sets) (omega (arith, x .noneSince)) (x .before) t typed sound qs words now (x .split)
 
 -- ---- from fresh tables on
 none-fresh : (s : ℕ) → semaphore (fresh .semaphores) s USED ≡ 0

@@ -1,4 +1,4 @@
--- An accepted post has a value other than 0 exactly where somebody waits, and then the first in line is readied (`turns/proofs/Posts`).
+-- An accepted post has a value other than 0 exactly where somebody waits, and then the first in line is readied (`turns/proofs/SemaphorePosts`).
 use Prim.Native.Nat.{ℕ, _<_, _≤_}
 use mathlib.Core.Path.{_≡_, refl, ap}
 use mathlib.Core.Bool.{true, false, and-eq-true-iff}
@@ -19,7 +19,7 @@ use Rattle.refusals.proofs.First.{by-bool}
 use Rattle.keeps.proofs.Members.{bit-le}
 use Rattle.keeps.proofs.Standing.{sound-almost}
 use Rattle.turns.proofs.Made.{Accepted, by-answer}
-use Rattle.turns.proofs.Posts.{posted-line, none-value, none-moved, foremost, some-value, foremost-waits, foremost-readied, others-stay, foremost-gone}
+use Rattle.turns.proofs.SemaphorePosts.{posted-line, none-value, none-moved, foremost, some-value, foremost-waits, foremost-readied, others-stay, foremost-gone}
 use Rattle.no_post_lost.specs.Readied.{OneReadied, NoneReadied, Tells, ValueTells}
 
 -- a list whose first member stands in it only once: that member, then the list without it
@@ -34,8 +34,8 @@ module _ (t : Tables) (typed : Typed t) (sound : Sound t) (q : Asked) (ok : Acce
   one-readied : anyone (t .lines) (semaphoreLine s) ≡ true → OneReadied s t (next t q)
   one-readied some =
       let x = foremost t typed sound q ok s number at some in
-      let once : count x (line (t .lines) (semaphoreLine s)) ≤ 1 =
-      rw (sound-almost t typed sound .standing .tasks x (semaphoreLine s) (posted-line t typed sound q ok s number at)) (bit-le (eqb (taskHome (t .tasks) x) (semaphoreLine s))) in
+      let stands = sound-almost t typed sound .standing .tasks x (semaphoreLine s) (posted-line t typed sound q ok s number at) in
+      let once : count x (line (t .lines) (semaphoreLine s)) ≤ 1 = rw stands (bit-le (eqb (taskHome (t .tasks) x) (semaphoreLine s))) in
       record {
         waiter = x;
         waited = foremost-waits t typed sound q ok s number at some;

@@ -15,7 +15,8 @@ use Rattle.rules.specs.Answer.{After, Call, answer, codeOf, done, notMet, nowWa
 use Rattle.rules.specs.Tables.{Typed, semaphoreCount, semaphoreWidth, semaphore, withSemaphore, semaphoreRow, USED, KIND, COUNT}
 use Rattle.rules.specs.Lines.{anyone, semaphoreLine}
 use Rattle.rules.specs.Waits.{Served, served}
-use Rattle.rules.specs.Semaphores.{isBinary, most, freeSemaphore, createCases, createEffect, deleteEffect, pendEffect, postCases, postEffect, countUp, resetCases, resetEffect, semaphoreCall}
+use Rattle.rules.specs.Semaphores.{isBinary, most, freeSemaphore, createCases, createEffect, deleteEffect, pendEffect}
+use Rattle.rules.specs.Semaphores.{postCases, postEffect, countUp, resetCases, resetEffect, semaphoreCall}
 use Rattle.rules.specs.Dispatch.{context}
 use Rattle.rules.specs.Step.{callOf}
 use Rattle.rules.specs.declared.Answer.{Answer}
@@ -25,7 +26,7 @@ use Rattle.laws.proofs.Calls.{chosen}
 use Rattle.runs.specs.Run.{asked}
 use Rattle.keeps.proofs.Codes.{accepted-is, object-used}
 use Rattle.keeps.proofs.Objects.{free-is}
-use Rattle.turns.proofs.SameKind.{other-word, by-kind}
+use Rattle.turns.proofs.SameKind.{other-word, on-semaphores-or-not}
 use Rattle.no_post_lost.specs.NoPostLost.{CallAndAnswer, isAcceptedOn, setsCount, isPost, takesUnit}
 
 -- a counting semaphore of table ss, and its count
@@ -89,7 +90,8 @@ module _ (t : Tables) (typed : Typed t) (s a b c d : ℕ) where
       record { before = rw (same USED, same KIND) at now; even = omega (arith, same COUNT, as-many) }
 
   -- it gives another semaphore a count
-  apart : (n v : ℕ) (r : Answer) → s ≢ a → bit (isPost s (withAnswer n r)) ≡ bit (takesUnit s (withAnswer n r)) → Evenly n (withSemaphore ss a COUNT v) r
+  apart : (n v : ℕ) (r : Answer) → s ≢ a → bit (isPost s (withAnswer n r)) ≡ bit (takesUnit s (withAnswer n r))
+      → Evenly n (withSemaphore ss a COUNT v) r
   apart n v r other = still n _ r (λ f. field-row semaphoreWidth semaphoreCount ss a COUNT v s f other)
 
   not-named : s ≢ a → eqb a s ≡ false
@@ -207,7 +209,7 @@ module _ (t : Tables) (typed : Typed t) (s a b c d : ℕ) where
     same : Same (callAt n)
     unfolding semaphoreCall
     same =
-        by-kind t (context (t .lines) (t .state)) n a b c d Same (λ k alone. alone)
+        on-semaphores-or-not t (context (t .lines) (t .state)) n a b c d Same (λ k alone. alone)
         (rw (ne-eqb n 0x20 n20, ne-eqb n 0x21 n21, ne-eqb n 0x22 n22, ne-eqb n 0x23 n23, ne-eqb n 0x24 n24))
 
     at-others : Holds n
@@ -225,7 +227,9 @@ module _ (t : Tables) (typed : Typed t) (s a b c d : ℕ) where
 
   -- ---- an accepted call that sets the count of s sets it to its second argument
   abbrev SetsTo : ℕ → Type 0
-  SetsTo n = codeOf (callAt n .cases) ≡ 0 → setsCount s (withAnswer n (callAt n .effect .answer)) ≡ true → countIn s (callAt n .effect .next .semaphores) ≡ b
+  SetsTo n =
+      codeOf (callAt n .cases) ≡ 0 → setsCount s (withAnswer n (callAt n .effect .answer)) ≡ true
+      → countIn s (callAt n .effect .next .semaphores) ≡ b
 
   -- 20 takes a number that is free, so its row is in the table
   creates : SetsTo 0x20

@@ -13,7 +13,7 @@ pub mod Ahead
 pub mod Made
 pub mod Reach
 pub mod SameKind
-pub mod Posts
+pub mod SemaphorePosts
 pub mod Turns
 pub mod Begins
 pub mod Waits

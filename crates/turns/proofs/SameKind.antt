@@ -1,5 +1,5 @@
 -- A semaphore at which somebody waits keeps its kind, whatever call is accepted: a creation takes a number not in use, a delete needs an empty line,
--- the other calls on semaphores store a count alone (`other-word`), and calls of other kinds leave the table alone (`by-kind`).
+-- the other calls on semaphores store a count alone (`other-word`), and calls of other kinds leave the table alone (`on-semaphores-or-not`).
 use Prim.Native.Nat.{ℕ}
 use mathlib.Core.Path.{_≡_, refl, sym, ap, _∙_}
 use mathlib.Core.Logic.{_≢_, ⊎-elim}
@@ -83,12 +83,12 @@ module _ (s : ℕ) (q : Served) (used : semaphore (q .objects) s USED ≢ 0) (wa
       (λ _. chosen Kept (eqb number 0x24) _ _ (λ _. reset-kept x a b c d) (λ _ z. refl)))))
 
 -- what holds of every call that leaves the semaphores alone, and of the calls on semaphores, holds of all calls
-pub by-kind : (t : Tables) (x number a b c d : ℕ) (P : Call Tables → Type 0)
+pub on-semaphores-or-not : (t : Tables) (x number a b c d : ℕ) (P : Call Tables → Type 0)
     → ((k : Call Tables) → k .effect .next .semaphores ≡ t .semaphores → P k)
     → P (over (withSemaphores t) (semaphoreCall (served (t .tasks) (t .lines) (t .semaphores)) (t .state) x number a b c d))
     → P (callOf t x number a b c d)
 unfolding callOf
-by-kind t x number a b c d P alone ours =
+on-semaphores-or-not t x number a b c d P alone ours =
     chosen P (inRange number 0x00) _ _ (λ _. alone _ refl)
     (λ _.
     chosen P (inRange number 0x10) _ _ (λ _. alone _ refl)
@@ -109,6 +109,8 @@ pub kind-kept : (t : Tables) (s : ℕ) → semaphore (t .semaphores) s USED ≢ 
     → codeOf (callOf t x number a b c d .cases) ≡ 0
     → semaphore (callOf t x number a b c d .effect .next .semaphores) s KIND ≡ semaphore (t .semaphores) s KIND
 kind-kept t s used waiters x number a b c d =
-    by-kind t x number a b c d (λ (k : Call Tables). codeOf (k .cases) ≡ 0 → semaphore (k .effect .next .semaphores) s KIND ≡ semaphore (t .semaphores) s KIND)
-    (λ k e z. ap (λ (ss : List ℕ). semaphore ss s KIND) e)
+    on-semaphores-or-not t x number a b c d P (λ k e z. ap (λ (ss : List ℕ). semaphore ss s KIND) e)
     (semaphore-kept s (served (t .tasks) (t .lines) (t .semaphores)) used waiters (t .state) x number a b c d)
+  where
+    P : Call Tables → Type 0
+    P k = codeOf (k .cases) ≡ 0 → semaphore (k .effect .next .semaphores) s KIND ≡ semaphore (t .semaphores) s KIND

@@ -36,7 +36,7 @@ use Rattle.turns.proofs.Calls.{call-same}
 use Rattle.turns.proofs.Ahead.{sub-length, ahead-first, first-ahead, ahead-back}
 use Rattle.turns.proofs.Made.{Accepted, by-answer, tasks-after, semaphores-after, line-after}
 use Rattle.turns.proofs.Reach.{Reaches, atSemaphore, atEvent, atMailbox, nobody, reaches, reached-line, not-first}
-use Rattle.turns.proofs.Posts.{foremost, foremost-readied, others-stay, foremost-gone}
+use Rattle.turns.proofs.SemaphorePosts.{foremost, foremost-readied, others-stay, foremost-gone}
 use Rattle.turns.proofs.SameKind.{kind-kept}
 
 -- the running thread is a task: the current one
