@@ -171,13 +171,14 @@ static inline void end_wait(struct tables *t, uint32_t number, enum outcome outc
     join_ready(t, number);
 }
 
-/* The first waiter of a line is served. */
-static inline void serve_first(struct tables *t, uint32_t head, uint32_t value)
+/* The first waiter of a line is served, with the value of its last result; gives its number. */
+static inline uint32_t serve_first(struct tables *t, uint32_t head, uint32_t value)
 {
     uint32_t task = front_of(t, head);
 
     leave(t, task);
     end_wait(t, task, DONE, value);
+    return task;
 }
 
 /* Dispatch */
@@ -569,10 +570,9 @@ static struct answer semaphore_post(struct tables *t, uint32_t number, uint32_t 
         return absent(SEMAPHORE_TABLE, number);
     if ((b | c | d) != 0)
         return refused(BAD_ARGUMENT);
-    if (!nobody_in(t, HEAD_OF_SEMAPHORE + number)) {
-        serve_first(t, HEAD_OF_SEMAPHORE + number, 0);
-        return dispatched(t, done(1));
-    }
+    /* No. 8: "Let the value be the woken task's number, and 0 if none was woken" */
+    if (!nobody_in(t, HEAD_OF_SEMAPHORE + number))
+        return dispatched(t, done(serve_first(t, HEAD_OF_SEMAPHORE + number, 0)));
     semaphore = &t->semaphore[number];
     if (is_binary(semaphore->kind)) {
         semaphore->count = 1;
@@ -700,7 +700,8 @@ static struct answer event_post(struct tables *t, uint32_t number, uint32_t mask
     event->posted &= ~matched;
     leave_event(event);
     end_wait(t, waiter, DONE, matched);
-    return dispatched(t, done(1));
+    /* No. 8: "It applies to semaphore and event posts" */
+    return dispatched(t, done(waiter));
 }
 
 /* Mailboxes */
@@ -765,11 +766,12 @@ static struct answer mailbox_post(struct tables *t, uint32_t number, uint32_t wo
         return refused(BAD_ARGUMENT);
     mailbox = &t->mailbox[number];
     if (mailbox->count < mailbox->capacity) {
-        /* Waiters at a mailbox that is not full are readers, and it is empty. */
-        if (!nobody_in(t, HEAD_OF_MAILBOX + number)) {
-            serve_first(t, HEAD_OF_MAILBOX + number, word);
-            return dispatched(t, done(0));
-        }
+        /*
+         * Waiters at a mailbox that is not full are readers, and it is empty. No. 8: "a mailbox post that goes straight to a reader answers that
+         * reader's number".
+         */
+        if (!nobody_in(t, HEAD_OF_MAILBOX + number))
+            return dispatched(t, done(serve_first(t, HEAD_OF_MAILBOX + number, word)));
         put_message(mailbox, word);
         return done(0);
     }
@@ -799,7 +801,7 @@ static struct answer mailbox_pend(struct tables *t, uint32_t number, uint32_t li
     if (mailbox->count > 0) {
         uint32_t oldest = take_message(mailbox);
 
-        /* Waiters at a mailbox that has messages are writers. */
+        /* Waiters at a mailbox that has messages are writers. The value is the word all the same, for No. 8 is about posts. */
         if (!nobody_in(t, HEAD_OF_MAILBOX + number)) {
             put_message(mailbox, t->task[front_of(t, HEAD_OF_MAILBOX + number)].word);
             serve_first(t, HEAD_OF_MAILBOX + number, 0);

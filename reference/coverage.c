@@ -8,9 +8,17 @@
 /* Of each table, the set of the numbers that were in use at some time since the tables were fresh. */
 static uint32_t made[CLOCK_TABLE + 1];
 
+/* Of each place of a post, the set of those where a wait that a post could have ended has expired since the last post. */
+static uint32_t expired_at[POST_PLACES];
+
+/* Of each task that waits at a semaphore, the call with which it came. */
+static unsigned long came[TASKS];
+
 void coverage_fresh(void)
 {
     memset(made, 0, sizeof made);
+    memset(expired_at, 0, sizeof expired_at);
+    coverage.logs++;
 }
 
 static void at_least(enum most which, uint32_t number)
@@ -19,10 +27,18 @@ static void at_least(enum most which, uint32_t number)
         coverage.most[which] = number;
 }
 
+static void add_to(struct tally *tally, int is_so)
+{
+    if (!is_so)
+        return;
+    tally->times++;
+    tally->logs += tally->log != coverage.logs;
+    tally->log = coverage.logs;
+}
+
 static void note(enum happened which, int is_so)
 {
-    if (is_so)
-        coverage.count[which]++;
+    add_to(&coverage.count[which], is_so);
 }
 
 static enum order order_of(uint32_t kind)
@@ -129,13 +145,16 @@ static void note_tick(const struct tables *before, const struct tables *after)
             break;
         case AT_SEMAPHORE:
             note(EXPIRED_SEMAPHORE, 1);
+            expired_at[SEMAPHORE_PLACE] |= (uint32_t)1 << was->object;
             note_counted(WAIT_EXPIRED, before->semaphore[was->object].kind, 1);
             break;
         case AT_EVENT:
             note(EXPIRED_EVENT, 1);
+            expired_at[EVENT_PLACE] |= (uint32_t)1 << was->object;
             break;
         case AT_MAILBOX_READING:
             note(EXPIRED_READER, 1);
+            expired_at[MAILBOX_PLACE] |= (uint32_t)1 << was->object;
             break;
         default:
             note(EXPIRED_WRITER, 1);
@@ -158,12 +177,50 @@ static void note_wait_begun(const struct tables *before, const struct tables *af
     uint32_t head = HEAD_OF_SEMAPHORE + semaphore, place = before->link[head].next;
     int is_disordered = 0;
 
+    came[before->current] = coverage.calls;
     if (before->semaphore[semaphore].kind < COUNTING_BY_PRIORITY)
         return;
     note(JOINED_INSIDE_LINE, after->link[before->current].next != head);
     for (; place != head && before->link[place].next != head; place = before->link[place].next)
         is_disordered |= before->task[place].priority < before->task[before->link[place].next].priority;
     note(JOINED_DISORDERED_LINE, is_disordered);
+}
+
+static void forget_expired(enum place place, uint32_t number)
+{
+    expired_at[place] &= ~((uint32_t)1 << number);
+}
+
+/* Of an accepted post, by the task that its value names. */
+static void note_woke(enum place place, const struct tables *before, const struct tables *after, const struct call *call,
+                      struct answer answer)
+{
+    struct tally (*tally)[POST_PLACES] = coverage.woke;
+    struct thread thread = core_running(after);
+    uint32_t number = call->argument[0];
+    int woke_one = answer.value != 0, nobody = answer.value == 0 && answer.outcome == DONE;
+    int has_expired = (expired_at[place] >> number & 1) != 0;
+
+    add_to(&tally[WOKE_OTHER][place], woke_one && answer.value != 1);
+    add_to(&tally[WOKE_LAST_NUMBER][place], answer.value == TASKS - 1);
+    add_to(&tally[WOKE_BY_TASK][place], woke_one && before->depth == 0 && before->active_count == 0);
+    add_to(&tally[WOKE_BY_SWI][place], woke_one && before->depth == 0 && before->active_count != 0);
+    add_to(&tally[WOKE_BY_INTERRUPT][place], woke_one && before->depth != 0);
+    add_to(&tally[WOKE_FOR_LATER][place], woke_one && (thread.kind != 'T' || thread.number != answer.value));
+    add_to(&tally[WOKE_AFTER_EXPIRY][place], woke_one && has_expired);
+    add_to(&tally[WOKE_NOBODY][place], nobody);
+    add_to(&tally[NOBODY_AFTER_EXPIRY][place], nobody && has_expired);
+    forget_expired(place, number);
+}
+
+/* Of a semaphore's post that woke a task. */
+static void note_later_served(const struct tables *before, uint32_t semaphore, uint32_t woken)
+{
+    int is_later = 0;
+
+    for (uint32_t i = 0; i < TASKS; i++)
+        is_later |= before->task[i].wait == AT_SEMAPHORE && before->task[i].object == semaphore && came[i] < came[woken];
+    note(LATER_WAITER_SERVED, is_later);
 }
 
 static void note_event_served(uint32_t posted, uint32_t and_mask, uint32_t or_mask)
@@ -362,20 +419,34 @@ void coverage_note(const struct sums *sums, const struct tables *before, const s
             note_wait_begun(before, after, a);
         break;
     case SEMAPHORE_POST:
-        note(SEMAPHORE_SERVED, answer.value == 1 && line_length(before, HEAD_OF_SEMAPHORE + a) > 1);
+        note_woke(SEMAPHORE_PLACE, before, after, call, answer);
+        note(SEMAPHORE_SERVED, answer.value != 0 && line_length(before, HEAD_OF_SEMAPHORE + a) > 1);
+        if (answer.value != 0)
+            note_later_served(before, a, answer.value);
         note(BINARY_AT_ONE, before->semaphore[a].kind % 2 == 1 && before->semaphore[a].count == 1);
         note(COUNT_TO_MOST, after->semaphore[a].count == COUNT_MOST);
+        break;
+    case SEMAPHORE_DELETE:
+        forget_expired(SEMAPHORE_PLACE, a);
+        break;
+    case EVENT_DELETE:
+        forget_expired(EVENT_PLACE, a);
         break;
     case EVENT_PEND:
         note(EVENT_AT_ONCE, answer.outcome == DONE);
         break;
     case EVENT_POST:
+        note_woke(EVENT_PLACE, before, after, call, answer);
         note(EVENT_NOT_SERVED, before->event[a].waiter != 0 && answer.value == 0);
-        if (answer.value == 1)
+        if (answer.value != 0)
             note_event_served(before->event[a].posted | call->argument[1], before->event[a].and_mask, before->event[a].or_mask);
         break;
+    case MAILBOX_DELETE:
+        forget_expired(MAILBOX_PLACE, a);
+        break;
     case MAILBOX_POST:
-        note(READER_SERVED, before->mailbox[a].count == 0 && line_length(before, HEAD_OF_MAILBOX + a) > 1);
+        note_woke(MAILBOX_PLACE, before, after, call, answer);
+        note(READER_SERVED, answer.value != 0 && line_length(before, HEAD_OF_MAILBOX + a) > 1);
         break;
     case MAILBOX_PEND:
         note(WRITER_SERVED, before->mailbox[a].count != 0 && line_length(before, HEAD_OF_MAILBOX + a) > 0);

@@ -7,13 +7,14 @@
  * generate --style SEED: prints the name of the seed's style.
  *
  * Each call is carried out on the core beside; tables that are not sound after a call, or changed by a refused one, end the program, and so does a
- * post that is lost (sums.h).
+ * post that is lost (sums.h) or that does not name whom it woke (wakes.h).
  */
 #include "coverage.h"
 #include "log.h"
 #include "maker.h"
 #include "objects.h"
 #include "sums.h"
+#include "wakes.h"
 
 #include <stdio.h>
 #include <stdlib.h>
@@ -61,11 +62,11 @@ static struct call next_call(struct maker *m, int with_coverage)
     if (answer.code != ACCEPTED && (!is_mere_refusal(&call, answer) || memcmp(&before, &m->tables, sizeof before) != 0))
         fault = "a refusal that is more than its code";
     stop_at("not sound", fault, &call);
+    stop_at("wake off", wake_off(&before, &m->tables, &call, answer), &call);
     if (with_coverage)
         coverage_note(&sums, &before, &m->tables, &call, answer);
     sums_note(&sums, &call, answer);
     stop_at("sum off", sums_off(&sums, &m->tables), &call);
-    stop_at("sum off", wake_off(&before, &m->tables, &call, answer), &call);
     return call;
 }
 

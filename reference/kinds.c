@@ -2,14 +2,15 @@
  * A sequence of calls for each kind, written by hand with the answers that document 01 gives; nothing there was printed by a program first. The
  * rows stand in threads.c, pends.c and machine.c.
  *
- * kinds --check: the core gives every answer there, stays sound and loses no post, and each table has every code that each call of its kind can
- * give; and the sums of sums.h are as sides.c has them.
+ * kinds --check: the core gives every answer there, stays sound, loses no post and wakes whom wakes.h says, and each table has every code that each
+ * call of its kind can give; and the sums of sums.h are as sides.c has them.
  * kinds --names: the names of the tables. kinds NAME: writes that table as a call log.
  */
 #include "calls.h"
 #include "kinds.h"
 #include "log.h"
 #include "sums.h"
+#include "wakes.h"
 
 #include <stdio.h>
 #include <string.h>
@@ -34,16 +35,78 @@ static void fault(const char *name, size_t row, const char *what)
     faults++;
 }
 
+/* The calls whose value wake_off holds to whom they wake: every post, and the mailbox pend. */
+static int has_wake_value(uint32_t number)
+{
+    return (number >= SWI_POST && number <= SWI_CLEAR_BITS) || number == SEMAPHORE_POST || number == EVENT_POST
+           || number == MAILBOX_POST || number == MAILBOX_PEND;
+}
+
+/* Answers that the call did not give: wake_off tells them. */
+static int other_answers_told(const struct tables *before, const struct tables *t, const struct call *call, struct answer answer)
+{
+    for (uint32_t value = 0; value <= TASKS; value++) {
+        const struct answer other = { answer.code, answer.outcome, value };
+
+        if (value != answer.value && has_wake_value(call->number) && wake_off(before, t, call, other) == NULL)
+            return 0;
+    }
+    return 1;
+}
+
+/* Tables that the call did not leave, in how one task waits or in what its wait gave: wake_off tells them. */
+static int other_tables_told(const struct tables *before, const struct tables *t, const struct call *call, struct answer answer)
+{
+    static struct tables other;
+
+    for (uint32_t i = 1; i < TASKS; i++) {
+        struct task *task = &other.task[i];
+        int is_told = 1;
+
+        other = *t;
+        if (before->task[i].mode != BLOCKED)
+            continue;
+        if (task->mode == BLOCKED) {
+            task->mode = READY; /* readied too */
+        } else {
+            *task = before->task[i]; /* not readied */
+            is_told = wake_off(before, &other, call, answer) != NULL;
+            *task = t->task[i];
+            task->value ^= 32;
+        }
+        if (!is_told || wake_off(before, &other, call, answer) == NULL)
+            return 0;
+    }
+    return 1;
+}
+
+/* The call woke whom it had to and named it, and wake_off would tell if it had not. */
+static const char *wake_fault(const struct tables *before, const struct tables *t, const struct call *call, struct answer answer)
+{
+    const char *off = wake_off(before, t, call, answer);
+
+    if (off != NULL || answer.code != ACCEPTED || call->number == TICK)
+        return off;
+    if (!other_answers_told(before, t, call, answer))
+        return "another value would not be told";
+    return other_tables_told(before, t, call, answer) ? NULL : "another wake would not be told";
+}
+
 static void check_row(struct tables *t, struct sums *sums, const char *name, size_t number, const struct row *row)
 {
+    static struct tables before;
     const struct call call = { row->call, { row->a, row->b, row->c, row->d } };
 
     for (unsigned i = 0; i < times_of(row); i++) {
         uint32_t value = row->times > RISING ? row->value + i : row->value;
-        struct answer answer = core_call(t, row->call, row->a, row->b, row->c, row->d);
-        struct thread thread = core_running(t);
+        struct answer answer;
+        struct thread thread;
+        const char *off;
         char text[16];
 
+        before = *t;
+        answer = core_call(t, row->call, row->a, row->b, row->c, row->d);
+        thread = core_running(t);
         if (thread.kind == 'I')
             strcpy(text, "I");
         else
@@ -57,6 +120,9 @@ static void check_row(struct tables *t, struct sums *sums, const char *name, siz
         sums_note(sums, &call, answer);
         if (sums_off(sums, t) != NULL)
             fault(name, number, sums_off(sums, t));
+        off = wake_fault(&before, t, &call, answer);
+        if (off != NULL)
+            fault(name, number, off);
     }
 }
 

@@ -290,7 +290,7 @@ static const struct row switches[] = {
 
 const struct named_table switches_table = TABLE(switches, 0x70);
 
-/* The replay that document 01 prints, its fifth line as No. 2 amends it. */
+/* The replay that document 01 prints, its fifth line as No. 2 amends it. No. 8: "The sample's fourth line keeps its 1." Task 1 is woken. */
 static const struct row five[] = {
     { TASK_CREATE, 5, 0, 0, 0, 0, 0, 1, "T1", 0 },
     { SEMAPHORE_CREATE, 0, 0, 0, 0, 0, 0, 0, "T1", 0 },

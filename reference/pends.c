@@ -61,12 +61,12 @@ static const struct row semaphores[] = {
     { SEMAPHORE_DELETE, 2, 0, 0, 1, 4, 0, 0, "T0", 0 },
     { SEMAPHORE_PEND, 2, 0, 0, 0, 0, 1, 0, "T0", 0 },
     { TASK_SET_PRIORITY, 3, 15, 0, 0, 0, 0, 3, "T0", 0 },   /* keeps its place */
-    { SEMAPHORE_POST, 2, 0, 0, 0, 0, 0, 1, "T2", 0 },       /* line 4 1 3 */
-    { SEMAPHORE_POST, 2, 0, 0, 0, 0, 0, 1, "T2", 0 },       /* line 1 3; task 4 is below task 2 */
+    { SEMAPHORE_POST, 2, 0, 0, 0, 0, 0, 2, "T2", 0 },       /* wakes task 2: line 4 1 3 */
+    { SEMAPHORE_POST, 2, 0, 0, 0, 0, 0, 4, "T2", 0 },       /* line 1 3; task 4 is below task 2 */
     { SEMAPHORE_PEND, 2, F, 0, 0, 0, 2, 0, "T4", 0 },       /* before task 1, the first lower one: 2 1 3 */
-    { SEMAPHORE_POST, 2, 0, 0, 0, 0, 0, 1, "T2", 0 },
+    { SEMAPHORE_POST, 2, 0, 0, 0, 0, 0, 2, "T2", 0 },
     { SEMAPHORE_POST, 2, 0, 0, 0, 0, 0, 1, "T2", 0 },       /* task 1 */
-    { SEMAPHORE_POST, 2, 0, 0, 0, 0, 0, 1, "T3", 0 },       /* task 3, now at 15 */
+    { SEMAPHORE_POST, 2, 0, 0, 0, 0, 0, 3, "T3", 0 },       /* task 3, now at 15 */
     { SEMAPHORE_POST, 2, 0, 0, 0, 0, 0, 0, "T3", 0 },       /* nobody: count 1 */
     { SEMAPHORE_PEND, 2, F, 0, 0, 0, 0, 0, "T3", 0 },
     { TASK_LAST_RESULT, 3, 0, 0, 0, 0, 0, 0, "T3", 0 },
@@ -78,7 +78,7 @@ static const struct row semaphores[] = {
     { SEMAPHORE_PEND, 0, F, 0, 0, 0, 2, 0, "T0", 0 },       /* 4 1 5: arrival order */
     { INTERRUPT_IN, 0, 0, 0, 0, 0, 0, 0, "I", 0 },
     { TICK, 0, 0, 0, 0, 0, 0, 0, "I", 0 },                  /* task 2 expires and leaves the line of 3 */
-    { SEMAPHORE_POST, 3, 0, 0, 0, 0, 0, 1, "I", 0 },        /* task 3 */
+    { SEMAPHORE_POST, 3, 0, 0, 0, 0, 0, 3, "I", 0 },        /* task 3 */
     { SEMAPHORE_POST, 3, 0, 0, 0, 0, 0, 0, "I", 0 },        /* nobody: count 1 */
     { SEMAPHORE_PEND, 3, 1, 0, 0, 2, 0, 0, "I", 0 },        /* a limit outside a task, though there is a count */
     { SEMAPHORE_PEND, 16, F, 0, 0, 2, 0, 0, "I", 0 },       /* 2 before 3 */
@@ -96,7 +96,7 @@ static const struct row semaphores[] = {
     { SEMAPHORE_RESET, 1, 0, 0, 0, 2, 0, 0, "I", 0 },
     { SEMAPHORE_RESET, 16, 0, 0, 0, 2, 0, 0, "I", 0 },
     { SEMAPHORE_RESET, 15, 0, 0, 0, 2, 0, 0, "I", 0 },
-    { SEMAPHORE_POST, 0, 0, 0, 0, 0, 0, 1, "I", 0 },        /* task 4, line 1 5 */
+    { SEMAPHORE_POST, 0, 0, 0, 0, 0, 0, 4, "I", 0 },        /* task 4, line 1 5 */
     { INTERRUPT_OUT, 0, 0, 0, 0, 0, 0, 0, "T3", 0 },        /* 15: 3, 5: 2, 4: 4 */
     { TASK_LAST_RESULT, 2, 0, 0, 0, 0, 1, 0, "T3", 0 },
     { TASK_LAST_RESULT, 3, 0, 0, 0, 0, 0, 0, "T3", 0 },
@@ -127,7 +127,7 @@ static const struct row semaphores[] = {
     { SEMAPHORE_RESET, 1, 0, 0, 0, 11, 0, 3, "T3", 0 },
     { SEMAPHORE_CREATE, 1, 0, 0, 0, 0, 0, 1, "T3", 0 },
     { SEMAPHORE_POST, 0, 0, 0, 0, 0, 0, 1, "T3", 0 },       /* task 1 at 3 */
-    { SEMAPHORE_POST, 0, 0, 0, 0, 0, 0, 1, "T3", 0 },       /* task 5: 15: 3 5 */
+    { SEMAPHORE_POST, 0, 0, 0, 0, 0, 0, 5, "T3", 0 },       /* task 5: 15: 3 5 */
     { TASK_YIELD, 0, 0, 0, 0, 0, 0, 0, "T5", 0 },
     { TASK_YIELD, 0, 0, 0, 0, 0, 0, 0, "T3", 0 },
     { SEMAPHORE_POST, 0, 0, 0, 0, 0, 0, 0, "T3", 0 },
@@ -163,6 +163,43 @@ static const struct row semaphores[] = {
     { SEMAPHORE_PEND, 15, F, 0, 0, 11, 0, 3, "T3", 0 },
     { SEMAPHORE_POST, 15, 0, 0, 0, 11, 0, 3, "T3", 0 },
     { SEMAPHORE_RESET, 15, 1, 0, 0, 11, 0, 3, "T3", 0 },
+    /* Whom a post wakes (No. 8). 15: 3 5, 5: 2, 4: 4, 3: 1. Semaphores 0 to 3 are of kinds 0 to 3 and have count 0. */
+    { SEMAPHORE_PEND, 0, F, 0, 0, 0, 2, 0, "T5", 0 },       /* line of 0: 3 */
+    { SEMAPHORE_PEND, 0, 2, 0, 0, 0, 2, 0, "T2", 0 },       /* 3 5, limit 2 */
+    { SEMAPHORE_PEND, 0, F, 0, 0, 0, 2, 0, "T4", 0 },       /* 3 5 2 */
+    { SEMAPHORE_PEND, 0, 1, 0, 0, 0, 2, 0, "T1", 0 },       /* 3 5 2 4, limit 1 */
+    { SEMAPHORE_POST, 0, 0, 0, 0, 0, 0, 3, "T3", 0 },       /* the first that came: 5 2 4 */
+    { INTERRUPT_IN, 0, 0, 0, 0, 0, 0, 0, "I", 0 },
+    { TICK, 0, 0, 0, 0, 0, 0, 0, "I", 2 },                  /* tasks 4 and 5 expire: 2 */
+    { SEMAPHORE_POST, 0, 0, 0, 0, 0, 0, 2, "I", 0 },        /* task 5 came before it, but waits no more */
+    { SEMAPHORE_POST, 0, 0, 0, 0, 0, 0, 0, "I", 0 },        /* nor does task 4: count 1 */
+    { INTERRUPT_OUT, 0, 0, 0, 0, 0, 0, 0, "T3", 0 },        /* 15: 3 5, 5: 2, 4: 4, 3: 1 */
+    { TASK_LAST_RESULT, 5, 0, 0, 0, 0, 1, 0, "T3", 0 },
+    { TASK_LAST_RESULT, 2, 0, 0, 0, 0, 0, 0, "T3", 0 },
+    { SEMAPHORE_PEND, 1, F, 0, 0, 0, 2, 0, "T5", 0 },       /* line of 1: 3 */
+    { SEMAPHORE_PEND, 1, F, 0, 0, 0, 2, 0, "T2", 0 },       /* 3 5 */
+    { TASK_SET_PRIORITY, 2, 2, 0, 0, 0, 0, 5, "T4", 0 },    /* 4: 4, 3: 1, 2: 2 */
+    { SEMAPHORE_PEND, 2, F, 0, 0, 0, 2, 0, "T1", 0 },       /* line of 2: 4 */
+    { SEMAPHORE_PEND, 2, F, 0, 0, 0, 2, 0, "T2", 0 },       /* 4 1 */
+    { TASK_CREATE, F, 0, 0, 0, 0, 0, 6, "T2", RISING + 25 }, /* 6 to 30 */
+    { TASK_CREATE, 9, 0, 0, 0, 0, 0, 31, "T31", 0 },
+    { SEMAPHORE_PEND, 2, F, 0, 0, 0, 2, 0, "T2", 0 },       /* 31 4 1: it came last */
+    { TASKS_OFF, 0, 0, 0, 0, 0, 0, 1, "T2", 0 },
+    { SEMAPHORE_POST, 2, 0, 0, 0, 0, 0, 31, "T2", 0 },      /* the highest, held back: 4 1 */
+    { TASKS_RESTORE, 1, 0, 0, 0, 0, 0, 0, "T31", 0 },
+    { SEMAPHORE_POST, 2, 0, 0, 0, 0, 0, 4, "T31", 0 },      /* it is below task 31: line 1 */
+    { SEMAPHORE_PEND, 3, F, 0, 0, 0, 2, 0, "T4", 0 },       /* line of 3: 31 */
+    { SEMAPHORE_POST, 1, 0, 0, 0, 0, 0, 3, "T3", 0 },       /* line of 1: 5 */
+    { SEMAPHORE_PEND, 3, F, 0, 0, 0, 2, 0, "T4", 0 },       /* line of 3: 3 31, the later one in front */
+    { SWI_POST, 0, 0, 0, 0, 0, 0, 0, "S0", 0 },             /* wakes no task */
+    { SEMAPHORE_POST, 3, 0, 0, 0, 0, 0, 3, "S0", 0 },       /* runs after the Swi only: 31 */
+    { SEMAPHORE_POST, 1, 0, 0, 0, 0, 0, 5, "S0", 0 },       /* 15: 3 5; nobody at 1 */
+    { SEMAPHORE_POST, 1, 0, 0, 0, 0, 0, 0, "S0", 2 },       /* 1, and stays 1 */
+    { SWI_END, 0, 0, 0, 0, 0, 0, 0, "T3", 0 },
+    { SEMAPHORE_POST, 3, 0, 0, 0, 0, 0, 31, "T3", 0 },      /* below task 3 */
+    { SEMAPHORE_POST, 3, 0, 0, 0, 0, 0, 0, "T3", 0 },
+    { SEMAPHORE_POST, 2, 0, 0, 0, 0, 0, 1, "T3", 0 },       /* the last one there */
+    { SEMAPHORE_POST, 2, 0, 0, 0, 0, 0, 0, "T3", 0 },       /* nobody: count 1 */
 };
 
 const struct named_table semaphores_table = TABLE(semaphores, 0x20);
@@ -295,6 +332,41 @@ static const struct row events[] = {
     { EVENT_DELETE, 7, 0, 0, 0, 11, 0, 4, "T1", 0 },        /* the last number, deleted */
     { EVENT_PEND, 7, 1, 0, F, 11, 0, 4, "T1", 0 },
     { EVENT_POST, 7, 1, 0, 0, 11, 0, 4, "T1", 0 },
+    /* Whom a post wakes (No. 8). 5: 1, 4: 2. No event has bits. */
+    { EVENT_PEND, 0, 3, 0, F, 0, 2, 0, "T2", 0 },           /* task 1 waits at event 0 for 011 */
+    { EVENT_PEND, 1, 0, 6, F, 0, 2, 0, "T0", 0 },           /* task 2 at event 1 for 010 or 100 */
+    { TASK_CREATE, F, 0, 0, 0, 0, 0, 3, "T0", RISING + 28 }, /* 3 to 30 */
+    { TASK_CREATE, 9, 0, 0, 0, 0, 0, 31, "T31", 0 },
+    { EVENT_PEND, 2, 1, 8, F, 0, 2, 0, "T0", 0 },           /* task 31 at event 2 for 0001 or 1000 */
+    { TASK_SET_PRIORITY, 3, 7, 0, 0, 0, 0, F, "T3", 0 },
+    { EVENT_PEND, 3, 4, 0, 1, 0, 2, 0, "T0", 0 },           /* task 3 at event 3 for 100, limit 1 */
+    { EVENT_POST, 1, 1, 0, 0, 0, 0, 0, "T0", 0 },           /* serves nobody, though task 2 waits */
+    { EVENT_POST, 1, 0, 0, 0, 0, 0, 0, "T0", 0 },
+    { EVENT_POST, 4, 6, 0, 0, 0, 0, 0, "T0", 0 },           /* nobody waits there */
+    { EVENT_POST, 1, 4, 0, 0, 0, 0, 2, "T2", 0 },           /* 101: matched 100, 001 is left */
+    { TASK_LAST_RESULT, 2, 0, 0, 0, 0, 0, 4, "T2", 0 },     /* the bits, not a number */
+    { EVENT_PEND, 1, 0, 6, F, 0, 2, 0, "T0", 0 },
+    { INTERRUPT_IN, 0, 0, 0, 0, 0, 0, 0, "I", 0 },
+    { TICK, 0, 0, 0, 0, 0, 0, 0, "I", 0 },                  /* task 3 expires */
+    { EVENT_POST, 3, 4, 0, 0, 0, 0, 0, "I", 0 },            /* it is the waiter no more */
+    { EVENT_POST, 2, 1, 0, 0, 0, 0, 31, "I", 0 },           /* by the and-mask; runs after the interrupt only */
+    { EVENT_POST, 2, 8, 0, 0, 0, 0, 0, "I", 0 },            /* served already */
+    { INTERRUPT_OUT, 0, 0, 0, 0, 0, 0, 0, "T31", 0 },       /* 9: 31, 7: 3 */
+    { TASK_LAST_RESULT, 31, 0, 0, 0, 0, 0, 1, "T31", 0 },
+    { TASK_LAST_RESULT, 3, 0, 0, 0, 0, 1, 0, "T31", 0 },
+    { SWI_POST, 0, 0, 0, 0, 0, 0, 0, "S0", 0 },             /* wakes no task */
+    { EVENT_POST, 1, 8, 0, 0, 0, 0, 0, "S0", 0 },           /* 1001: still not task 2 */
+    { EVENT_POST, 1, 2, 0, 0, 0, 0, 2, "S0", 0 },           /* 1011: matched 0010 */
+    { EVENT_POST, 0, 1, 0, 0, 0, 0, 0, "S0", 0 },           /* half of the and-mask */
+    { EVENT_POST, 0, 2, 0, 0, 0, 0, 1, "S0", 0 },           /* the whole */
+    { SWI_END, 0, 0, 0, 0, 0, 0, 0, "T31", 0 },             /* 9: 31, 7: 3, 5: 1, 4: 2 */
+    { TASK_LAST_RESULT, 2, 0, 0, 0, 0, 0, 2, "T31", 0 },
+    { TASK_LAST_RESULT, 1, 0, 0, 0, 0, 0, 3, "T31", 0 },
+    { EVENT_PEND, 5, 5, 0, F, 0, 2, 0, "T3", 0 },           /* task 31 waits at event 5 for 101 */
+    { SWIS_OFF, 0, 0, 0, 0, 0, 0, 1, "T3", 0 },
+    { EVENT_POST, 5, 7, 0, 0, 0, 0, 31, "T3", 0 },          /* held back */
+    { SWIS_RESTORE, 1, 0, 0, 0, 0, 0, 0, "T31", 0 },
+    { TASK_LAST_RESULT, 31, 0, 0, 0, 0, 0, 5, "T31", 0 },
 };
 
 const struct named_table events_table = TABLE(events, 0x30);
@@ -371,12 +443,12 @@ static const struct row mailboxes[] = {
     { MAILBOX_PEND, 0, 0, 0, 0, 0, 1, 0, "T0", 0 },
     { INTERRUPT_IN, 0, 0, 0, 0, 0, 0, 0, "I", 0 },
     { TICK, 0, 0, 0, 0, 0, 0, 0, "I", 0 },                  /* task 2 expires: 3 1 */
-    { MAILBOX_POST, 0, 11, 0, 0, 0, 0, 0, "I", 0 },         /* to task 3 */
+    { MAILBOX_POST, 0, 11, 0, 0, 0, 0, 3, "I", 0 },         /* to task 3 */
     { MAILBOX_PEND, 0, 0, 0, 0, 0, 1, 0, "I", 0 },          /* not to the back as well */
     { INTERRUPT_OUT, 0, 0, 0, 0, 0, 0, 0, "T3", 0 },
     { TASK_LAST_RESULT, 3, 0, 0, 0, 0, 0, 11, "T3", 0 },
     { TASK_LAST_RESULT, 2, 0, 0, 0, 0, 1, 0, "T3", 0 },
-    { MAILBOX_POST, 0, 22, 0, 0, 0, 0, 0, "T3", 0 },        /* to task 1 */
+    { MAILBOX_POST, 0, 22, 0, 0, 0, 0, 1, "T3", 0 },        /* to task 1 */
     { TASK_LAST_RESULT, 1, 0, 0, 0, 0, 0, 22, "T3", 0 },
     { MAILBOX_POST, 0, 33, 0, 0, 0, 0, 0, "T3", 0 },        /* to the back */
     { MAILBOX_PEND, 0, 0, 0, 0, 0, 0, 33, "T3", 0 },
@@ -454,6 +526,49 @@ static const struct row mailboxes[] = {
     { MAILBOX_DELETE, 7, 0, 0, 0, 11, 0, 5, "T3", 0 },      /* the last number, deleted */
     { MAILBOX_PEND, 7, F, 0, 0, 11, 0, 5, "T3", 0 },
     { MAILBOX_POST, 7, 1, 0, 0, 11, 0, 5, "T3", 0 },
+    /* Whom a post wakes (No. 8). 7: 3, 6: 2, 5: 1. Mailbox 0 holds 2; mailboxes 1 and 3 hold 1; these are empty. */
+    { MAILBOX_PEND, 0, F, 0, 0, 0, 2, 0, "T2", 0 },         /* readers 3 */
+    { MAILBOX_PEND, 0, 1, 0, 0, 0, 2, 0, "T1", 0 },         /* 3 2, limit 1 */
+    { MAILBOX_PEND, 0, F, 0, 0, 0, 2, 0, "T0", 0 },         /* 3 2 1 */
+    { TASK_CREATE, F, 0, 0, 0, 0, 0, 4, "T0", RISING + 27 }, /* 4 to 30 */
+    { TASK_CREATE, 9, 0, 0, 0, 0, 0, 31, "T31", 0 },
+    { MAILBOX_PEND, 0, F, 0, 0, 0, 2, 0, "T0", 0 },         /* 3 2 1 31 */
+    { MAILBOX_POST, 0, 50, 0, 0, 0, 0, 3, "T3", 0 },        /* straight to task 3: 2 1 31 */
+    { TASK_LAST_RESULT, 3, 0, 0, 0, 0, 0, 50, "T3", 0 },    /* the word, not a number */
+    { INTERRUPT_IN, 0, 0, 0, 0, 0, 0, 0, "I", 0 },
+    { TICK, 0, 0, 0, 0, 0, 0, 0, "I", 0 },                  /* task 2 expires: 1 31 */
+    { MAILBOX_POST, 0, 51, 0, 0, 0, 0, 1, "I", 0 },         /* 31 */
+    { MAILBOX_POST, 0, 52, 0, 0, 0, 0, 31, "I", 0 },        /* runs after the interrupt only */
+    { MAILBOX_POST, 0, 53, 0, 0, 0, 0, 0, "I", 0 },         /* to the back */
+    { INTERRUPT_OUT, 0, 0, 0, 0, 0, 0, 0, "T31", 0 },       /* 9: 31, 7: 3, 6: 2, 5: 1 */
+    { TASK_LAST_RESULT, 2, 0, 0, 0, 0, 1, 0, "T31", 0 },
+    { TASK_LAST_RESULT, 1, 0, 0, 0, 0, 0, 51, "T31", 0 },
+    { TASK_LAST_RESULT, 31, 0, 0, 0, 0, 0, 52, "T31", 0 },
+    { MAILBOX_POST, 0, 54, F, 0, 0, 0, 0, "T31", 0 },       /* to the back: 53 54 */
+    { MAILBOX_POST, 0, 55, 0, 0, 0, 1, 0, "T31", 0 },
+    { MAILBOX_POST, 0, 55, F, 0, 0, 2, 0, "T3", 0 },        /* writers 31 */
+    { MAILBOX_POST, 0, 56, F, 0, 0, 2, 0, "T2", 0 },        /* 31 3 */
+    { MAILBOX_PEND, 0, 0, 0, 0, 0, 0, 53, "T31", 0 },       /* the word, though it lets task 31 in: 54 55; writers 3 */
+    { TASK_LAST_RESULT, 31, 0, 0, 0, 0, 0, 0, "T31", 0 },   /* a writer has no value */
+    { SWI_POST, 0, 0, 0, 0, 0, 0, 0, "S0", 0 },             /* wakes no task */
+    { MAILBOX_PEND, 0, 0, 0, 0, 0, 0, 54, "S0", 0 },        /* lets task 3 in: 55 56 */
+    { TASK_LAST_RESULT, 3, 0, 0, 0, 0, 0, 0, "S0", 0 },
+    { SWI_END, 0, 0, 0, 0, 0, 0, 0, "T31", 0 },
+    { MAILBOX_PEND, 1, F, 0, 0, 0, 2, 0, "T3", 0 },         /* readers 31 */
+    { MAILBOX_PEND, 1, F, 0, 0, 0, 2, 0, "T2", 0 },         /* 31 3 */
+    { SWI_POST, 0, 0, 0, 0, 0, 0, 0, "S0", 0 },
+    { MAILBOX_POST, 1, 57, 0, 0, 0, 0, 31, "S0", 0 },       /* runs after the Swi only: 3 */
+    { MAILBOX_POST, 1, 0, 0, 0, 0, 0, 3, "S0", 0 },         /* the word 0 */
+    { MAILBOX_POST, 1, 58, 0, 0, 0, 0, 0, "S0", 0 },        /* to the back */
+    { MAILBOX_POST, 1, 59, 0, 0, 0, 1, 0, "S0", 0 },        /* full */
+    { SWI_END, 0, 0, 0, 0, 0, 0, 0, "T31", 0 },             /* 9: 31, 7: 3, 6: 2, 5: 1 */
+    { TASK_LAST_RESULT, 31, 0, 0, 0, 0, 0, 57, "T31", 0 },
+    { TASK_LAST_RESULT, 3, 0, 0, 0, 0, 0, 0, "T31", 0 },
+    { MAILBOX_PEND, 3, F, 0, 0, 0, 2, 0, "T3", 0 },         /* reader of 3: 31 */
+    { TASKS_OFF, 0, 0, 0, 0, 0, 0, 1, "T3", 0 },
+    { MAILBOX_POST, 3, 60, F, 0, 0, 0, 31, "T3", 0 },       /* done at once, whatever the limit; held back */
+    { TASKS_RESTORE, 1, 0, 0, 0, 0, 0, 0, "T31", 0 },
+    { TASK_LAST_RESULT, 31, 0, 0, 0, 0, 0, 60, "T31", 0 },
 };
 
 const struct named_table mailboxes_table = TABLE(mailboxes, 0x40);

@@ -23,12 +23,11 @@ static int can_have_outcome(uint32_t number, unsigned outcome)
     }
 }
 
-/* What happened at counting semaphores, a column for each order; gives how much of it never did. */
-static unsigned print_counted(FILE *file)
-{
-    static const char *const orders[ORDERS] = { [BY_ARRIVAL] = "arrival", [BY_PRIORITY] = "priority" };
-    unsigned missing = 0;
+static const char *const orders[ORDERS] = { [BY_ARRIVAL] = "arrival", [BY_PRIORITY] = "priority" };
 
+/* What happened at counting semaphores, a column for each order. */
+static void print_counted(FILE *file)
+{
     fprintf(file, "\nhow often at a counting semaphore\n%10s%10s\n", orders[BY_ARRIVAL], orders[BY_PRIORITY]);
     for (unsigned i = 0; i < COUNTED; i++)
         fprintf(file, "%10lu%10lu  %s\n", coverage.counted[i][BY_ARRIVAL], coverage.counted[i][BY_PRIORITY], counted[i]);
@@ -36,11 +35,43 @@ static unsigned print_counted(FILE *file)
             (unsigned long long)coverage.most_posts[BY_PRIORITY]);
     fprintf(file, "%10llu%10llu  units taken since a count was set, at most\n", (unsigned long long)coverage.most_taken[BY_ARRIVAL],
             (unsigned long long)coverage.most_taken[BY_PRIORITY]);
+}
+
+static const char *const places[POST_PLACES] = { [SEMAPHORE_PLACE] = "semaphore", [EVENT_PLACE] = "event", [MAILBOX_PLACE] = "mailbox" };
+
+/* Whom posts woke, two columns for each place. */
+static void print_woke(FILE *file)
+{
+    fprintf(file, "\nhow often a post, and in how many of %lu logs\n", coverage.logs);
+    for (unsigned place = 0; place < POST_PLACES; place++)
+        fprintf(file, "%10s%6s", places[place], "logs");
     fputc('\n', file);
+    for (unsigned i = 0; i < WOKES; i++) {
+        for (unsigned place = 0; place < POST_PLACES; place++)
+            fprintf(file, "%10lu%6lu", coverage.woke[i][place].times, coverage.woke[i][place].logs);
+        fprintf(file, "  %s\n", woke[i]);
+    }
+}
+
+/* Which of the deep states were never reached; gives how many. */
+static unsigned print_never(FILE *file)
+{
+    unsigned missing = 0;
+
     for (unsigned i = 0; i < COUNTED * ORDERS; i++)
         if (coverage.counted[i / ORDERS][i % ORDERS] == 0) {
             missing++;
             fprintf(file, "never: %s, counting semaphore, order of %s\n", counted[i / ORDERS], orders[i % ORDERS]);
+        }
+    for (unsigned i = 0; i < WOKES * POST_PLACES; i++)
+        if (coverage.woke[i / POST_PLACES][i % POST_PLACES].times == 0) {
+            missing++;
+            fprintf(file, "never: %s post %s\n", places[i % POST_PLACES], woke[i / POST_PLACES]);
+        }
+    for (unsigned i = 0; i < HAPPENED; i++)
+        if (coverage.count[i].times == 0) {
+            missing++;
+            fprintf(file, "never: %s\n", happened[i]);
         }
     return missing;
 }
@@ -98,15 +129,13 @@ unsigned coverage_print(FILE *file)
     fprintf(file, "greatest number at a time (of the greatest possible)\n");
     for (unsigned i = 0; i < MOSTS; i++)
         fprintf(file, "%10lu of %3lu  %s\n", (unsigned long)coverage.most[i], (unsigned long)mosts[i].limit, mosts[i].name);
-    fprintf(file, "\nhow often\n");
+    fprintf(file, "\nhow often, and in how many of %lu logs\n", coverage.logs);
     for (unsigned i = 0; i < HAPPENED; i++)
-        fprintf(file, "%10lu  %s\n", coverage.count[i], happened[i]);
-    missing += print_counted(file);
-    for (unsigned i = 0; i < HAPPENED; i++)
-        if (coverage.count[i] == 0) {
-            missing++;
-            fprintf(file, "never: %s\n", happened[i]);
-        }
+        fprintf(file, "%10lu%6lu  %s\n", coverage.count[i].times, coverage.count[i].logs, happened[i]);
+    print_counted(file);
+    print_woke(file);
+    fputc('\n', file);
+    missing += print_never(file);
     for (unsigned i = 0; i < CALLS; i++)
         for (unsigned code = 0; code < CODES; code++)
             if (can_give(&call_forms[i], code) && coverage.pair[call_forms[i].number][code] == 0)
@@ -114,6 +143,6 @@ unsigned coverage_print(FILE *file)
     if (stray != 0)
         fprintf(file, "%lu answers with a code that the call cannot give\n", stray);
     fprintf(file, "%u pairs of call and code and %u deep states, %u of them never reached\n", pairs,
-            (unsigned)HAPPENED + COUNTED * ORDERS, missing);
+            (unsigned)HAPPENED + COUNTED * ORDERS + WOKES * POST_PLACES, missing);
     return missing + (stray != 0);
 }

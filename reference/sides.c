@@ -4,6 +4,7 @@
  */
 #include "kinds.h"
 #include "sums.h"
+#include "wakes.h"
 
 struct step {
     struct call call;
@@ -51,7 +52,7 @@ static const struct step arrival[] = {
     { { TICK, { 0 } }, { 0, 0, 0 }, { 65534, 3, 0, 65537 }, 0 },                   /* task 1 expires: 2 */
     { { SEMAPHORE_PEND, { 2, 1 } }, { 2, 0, 0 }, { 65534, 3, 0, 65537 }, 0 },
     { { SEMAPHORE_PEND, { 2 } }, { 0, 1, 0 }, { 65534, 3, 0, 65537 }, 0 },
-    { { SEMAPHORE_POST, { 2 } }, { 0, 0, 1 }, { 65534, 4, 0, 65538 }, 0 },         /* task 2 is ready */
+    { { SEMAPHORE_POST, { 2 } }, { 0, 0, 2 }, { 65534, 4, 0, 65538 }, 0 },         /* task 2 is ready */
     { { SEMAPHORE_POST, { 2 } }, { 0, 0, 0 }, { 65534, 5, 1, 65538 }, 0 },         /* nobody waits */
     { { INTERRUPT_OUT, { 0 } }, { 0, 0, 0 }, { 65534, 5, 1, 65538 }, 0 },          /* task 1 runs */
     { { SEMAPHORE_RESET, { 2, 65536 } }, { 4, 0, 0 }, { 65534, 5, 1, 65538 }, 0 },
@@ -84,7 +85,7 @@ static const struct step priority[] = {
     { { SEMAPHORE_RESET, { 0, 0 } }, { 5, 0, 0 }, { 1, 0, 0, 1 }, 0 },
     { { INTERRUPT_IN, { 0 } }, { 0, 0, 0 }, { 1, 0, 0, 1 }, 0 },
     { { TICK, { 0 } }, { 0, 0, 0 }, { 1, 0, 0, 1 }, 0 },                           /* task 2 expires: 3 1 */
-    { { SEMAPHORE_POST, { 0 } }, { 0, 0, 1 }, { 1, 1, 0, 2 }, 0 },                 /* task 3, one tick before its end */
+    { { SEMAPHORE_POST, { 0 } }, { 0, 0, 3 }, { 1, 1, 0, 2 }, 0 },                 /* task 3, one tick before its end */
     { { TICK, { 0 } }, { 0, 0, 0 }, { 1, 1, 0, 2 }, 0 },
     { { INTERRUPT_OUT, { 0 } }, { 0, 0, 0 }, { 1, 1, 0, 2 }, 0 },                  /* task 2 runs */
     { { TASK_LAST_RESULT, { 2 } }, { 0, 1, 0 }, { 1, 1, 0, 2 }, 0 },
@@ -188,16 +189,6 @@ static void check_sides(const struct sums *sums, const struct tables *t, const s
     check_equal(sums, t, sequence, step->sides.set + step->sides.posts == step->sides.now + step->sides.taken);
 }
 
-static void check_wake(const struct tables *before, const struct tables *t, const struct call *call,
-                       struct answer answer)
-{
-    int has_wake = call->number == SEMAPHORE_POST && answer.code == ACCEPTED;
-
-    expect(wake_off(before, t, call, answer) == NULL, "a wake that did not occur, or one not told");
-    answer.value = !answer.value;
-    expect((wake_off(before, t, call, answer) != NULL) == has_wake, "a wake told wrongly");
-}
-
 static void check_call(struct sums *sums, struct tables *t, const struct step *step)
 {
     static struct tables before;
@@ -210,7 +201,7 @@ static void check_call(struct sums *sums, struct tables *t, const struct step *s
     expect(answer.outcome == step->answer.outcome && answer.value == step->answer.value, "another answer");
     sums_note(sums, &step->call, answer);
     expect(sums_off(sums, t) == NULL, "a sum is off");
-    check_wake(&before, t, &step->call, answer);
+    expect(wake_off(&before, t, &step->call, answer) == NULL, "another task woken, or told");
 }
 
 /* Gives the number of calls. Nothing is told after the first step with a fault, for the rest follows from it. */

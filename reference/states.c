@@ -48,6 +48,7 @@ const char *const happened[HAPPENED] = {
     [YIELDED_TO_EQUAL] = "yielded to an equal",
     [IDLE_YIELD] = "task 0 yielded",
     [SEMAPHORE_SERVED] = "post served a waiter of several",
+    [LATER_WAITER_SERVED] = "post served a waiter by priority before one that came earlier",
     [BINARY_AT_ONE] = "binary post at 1",
     [COUNT_TO_MOST] = "counting post to 65,535",
     [EVENT_SERVED_WHOLE_AND] = "event served by the and-mask only",
@@ -108,6 +109,18 @@ const char *const counted[COUNTED] = {
     [RESET_AFTER_POSTS] = "reset accepted after accepted posts",
     [DELETED_AFTER_POSTS] = "deleted after accepted posts",
     [CREATED_ANEW] = "created with the number of a deleted one",
+};
+
+const char *const woke[WOKES] = {
+    [WOKE_OTHER] = "woke a task other than 1",
+    [WOKE_LAST_NUMBER] = "woke task 31",
+    [WOKE_BY_TASK] = "woke from a task",
+    [WOKE_BY_SWI] = "woke from a Swi",
+    [WOKE_BY_INTERRUPT] = "woke from an interrupt",
+    [WOKE_FOR_LATER] = "woke a task that does not run at once",
+    [WOKE_AFTER_EXPIRY] = "woke a task where another wait expired since the last post",
+    [WOKE_NOBODY] = "done and woke nobody",
+    [NOBODY_AFTER_EXPIRY] = "done and woke nobody where a wait expired since the last post",
 };
 
 struct counts coverage;

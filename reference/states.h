@@ -61,6 +61,7 @@ enum happened {
     YIELDED_TO_EQUAL,
     IDLE_YIELD,
     SEMAPHORE_SERVED,
+    LATER_WAITER_SERVED,
     BINARY_AT_ONE,
     COUNT_TO_MOST,
     EVENT_SERVED_WHOLE_AND,
@@ -132,12 +133,38 @@ extern const char *const counted[COUNTED]; /* in words */
 
 enum order { BY_ARRIVAL, BY_PRIORITY, ORDERS }; /* kinds 0 and 2 */
 
+/* Whom a post woke, for wakes.h. */
+enum woke {
+    WOKE_OTHER,
+    WOKE_LAST_NUMBER,
+    WOKE_BY_TASK,
+    WOKE_BY_SWI,
+    WOKE_BY_INTERRUPT,
+    WOKE_FOR_LATER,
+    WOKE_AFTER_EXPIRY,
+    WOKE_NOBODY,
+    NOBODY_AFTER_EXPIRY,
+    WOKES
+};
+
+extern const char *const woke[WOKES]; /* in words */
+
+enum place { SEMAPHORE_PLACE, EVENT_PLACE, MAILBOX_PLACE, POST_PLACES }; /* of a post */
+
+struct tally {
+    unsigned long times;
+    unsigned long logs;                /* with one of these times */
+    unsigned long log;                 /* the last of them, counted from 1 */
+};
+
 struct counts {
+    unsigned long logs;
     unsigned long calls;
     unsigned long pair[256][CODES];    /* of call and code */
     unsigned long outcome[256][3];     /* of accepted calls */
     uint32_t most[MOSTS];
-    unsigned long count[HAPPENED];
+    struct tally count[HAPPENED];
+    struct tally woke[WOKES][POST_PLACES];
     unsigned long counted[COUNTED][ORDERS];
     uint64_t most_posts[ORDERS];       /* since a count was set */
     uint64_t most_taken[ORDERS];

@@ -81,25 +81,3 @@ const char *sums_off(const struct sums *sums, const struct tables *t)
     }
     return NULL;
 }
-
-static uint32_t waiters_at(const struct tables *t, uint32_t semaphore)
-{
-    uint32_t waiters = 0;
-
-    for (uint32_t i = 0; i < TASKS; i++)
-        waiters += t->task[i].wait == AT_SEMAPHORE && t->task[i].object == semaphore;
-    return waiters;
-}
-
-const char *wake_off(const struct tables *before, const struct tables *after, const struct call *call,
-                     struct answer answer)
-{
-    static char text[80];
-    uint32_t number = call->argument[0], were = waiters_at(before, number), are = waiters_at(after, number);
-
-    if (call->number != SEMAPHORE_POST || answer.code != ACCEPTED || were == are + (answer.value != 0))
-        return NULL;
-    snprintf(text, sizeof text, "value %lu with %lu waiters before and %lu after", (unsigned long)answer.value,
-             (unsigned long)were, (unsigned long)are);
-    return text;
-}

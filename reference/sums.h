@@ -3,7 +3,8 @@
  * reset plus the accepted posts since equals the count now plus the units taken since.
  *
  * All but the count now is counted here from the history alone, the calls and their answers. The tables are looked at
- * only to hold the two sides against each other.
+ * only to hold the two sides against each other. The history takes a post's word for it that it readied a waiter, a
+ * value other than 0; wakes.h holds that value against the line.
  */
 #ifndef SUMS_H
 #define SUMS_H
@@ -39,12 +40,5 @@ void sums_note(struct sums *sums, const struct call *call, struct answer answer)
  * does not have, or the other way round.
  */
 const char *sums_off(const struct sums *sums, const struct tables *t);
-
-/*
- * The history takes a post's word for it that it readied a waiter: a value other than 0. What is off with such a wake,
- * or a null pointer: the line has one waiter less after that post, and as many after any other accepted one.
- */
-const char *wake_off(const struct tables *before, const struct tables *after, const struct call *call,
-                     struct answer answer);
 
 #endif

@@ -330,6 +330,26 @@ static const struct row swis[] = {
     { SWI_DELETE, 15, 0, 0, 0, 0, 0, 0, "T0", 0 },
     { SWI_DELETE, 15, 0, 0, 0, 11, 0, 2, "T0", 0 },         /* the last number, deleted */
     { SWI_POST, 15, 0, 0, 0, 11, 0, 2, "T0", 0 },
+    /* A Swi post wakes no task and names none (No. 8). Swi 0: trigger 7. Swi 1: 0. Swi 2: 1. */
+    { TASK_CREATE, 5, 0, 0, 0, 0, 0, 1, "T1", 0 },
+    { SEMAPHORE_CREATE, 0, 0, 0, 0, 0, 0, 0, "T1", 0 },
+    { SEMAPHORE_PEND, 0, F, 0, 0, 0, 2, 0, "T0", 0 },       /* task 1 waits */
+    { TASK_CREATE, 5, 0, 0, 0, 0, 0, 2, "T2", 0 },
+    { SWI_POST, 1, 0, 0, 0, 0, 0, 0, "S1", 0 },
+    { SWI_END, 0, 0, 0, 0, 0, 0, 0, "T2", 0 },
+    { SWI_ADD_ONE, 1, 0, 0, 0, 0, 0, 0, "S1", 0 },
+    { SWI_END, 0, 0, 0, 0, 0, 0, 0, "T2", 0 },
+    { SWI_TAKE_ONE, 2, 0, 0, 0, 0, 0, 0, "S2", 0 },         /* 1 to 0 */
+    { SWI_END, 0, 0, 0, 0, 0, 0, 0, "T2", 0 },
+    { SWI_TAKE_ONE, 0, 0, 0, 0, 0, 0, 0, "T2", 0 },         /* 7 to 6 */
+    { SWI_SET_BITS, 1, 4, 0, 0, 0, 0, 0, "S1", 0 },
+    { SWI_END, 0, 0, 0, 0, 0, 0, 0, "T2", 0 },
+    { SWI_CLEAR_BITS, 0, 2, 0, 0, 0, 0, 0, "T2", 0 },       /* 6 to 4 */
+    { SWI_CLEAR_BITS, 1, 1, 0, 0, 0, 0, 0, "S1", 0 },
+    { SEMAPHORE_POST, 0, 0, 0, 0, 0, 0, 1, "S1", 0 },       /* this wakes task 1 */
+    { SWI_POST, 1, 0, 0, 0, 0, 0, 0, "S1", 0 },             /* 5: 2 1 */
+    { SWI_END, 0, 0, 0, 0, 0, 0, 0, "S1", 0 },
+    { SWI_END, 0, 0, 0, 0, 0, 0, 0, "T2", 0 },
 };
 
 const struct named_table swis_table = TABLE(swis, 0x10);

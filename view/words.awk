@@ -209,6 +209,7 @@ function placeInWords(place) {
     if (place == "most") return (kindNamed == "semaphore" ? semaphoreKind[numberNamed] : given[1]) % 2 == 1 ? 1 : 65535
     if (place == "size") return plural(blockUnits[given[1]] * 8, "byte")
     if (place == "run") return plural(largestRun() * 8, "byte")
+    if (place == "bits") return hexWord(taskValue[value])
     if (place == "until") return untilInWords(substr(caller, 2))
     if (place == "depth") return depth
     if (place == "tick") return tickNow
@@ -313,9 +314,11 @@ function holds(test) {
 # Not met is a call that was accepted and has outcome 1; call 06 tells of an earlier one.
 function isNotMet() { return code == 0 && outcome == 1 && kindNamed != "task" }
 function mark() { return code != 0 || isNotMet() ? "!" : " " }
+# What the answer says; a post that woke a task has that one's number as its value.
 function resultInWords() {
     if ((call, outcome, "") in gotWords) return filled(gotWords[call, outcome, ""])
     if ((call, outcome, value) in gotWords) return filled(gotWords[call, outcome, value])
+    if (value != 0 && ((call, outcome, "+") in gotWords)) return filled(gotWords[call, outcome, "+"])
     return ""
 }
 function joined(text, more) { return text == "" ? more : more == "" ? text : text "; " more }
@@ -328,8 +331,8 @@ function recordInWords(   text) {
     else if (runs != ranBefore) text = joined(text, "now " threadName(runs) " runs")
     return callInWords() ": " (text == "" ? "done" : text)
 }
-# What became of tasks: woken, timed out, slept enough, and other changes of mode but those that the call's own words tell.
-function tasksInWords(   i, t, text, woken, late, slept) {
+# What became of tasks: a writer let in, timed out, slept enough, and other changes of mode but those that the call's own words tell.
+function tasksInWords(   i, t, text, writer, late, slept) {
     for (i = 1; i <= changedTasks; i++) {
         t = changedTask[i]
         if (mode[t] != 1 || modeWas[t] < 2 || modeWas[t] > 6) {
@@ -337,14 +340,13 @@ function tasksInWords(   i, t, text, woken, late, slept) {
         }
         else if (modeWas[t] == 2) slept = slept " " t
         else if (taskOutcome[t] == 1) late = late (late == "" ? "" : ", ") "task " t " at " modeObject[modeWas[t]] " " objectWas[t]
-        else woken = "woke task " t wokenWith(t)
+        else if (modeWas[t] == 6) writer = "woke task " t ", its word joins"
     }
-    text = joined(text, woken)
+    text = joined(text, writer)
     if (late != "") text = joined(text, "timed out: " late)
     if (slept != "") text = joined(text, "slept enough: " taskList(slept))
     return text
 }
-function wokenWith(t) { return modeWas[t] == 4 ? " with bits " hexWord(taskValue[t]) : modeWas[t] == 5 ? " with the word" : modeWas[t] == 6 ? ", its word joins" : "" }
 # The posts of Swis that the call made: its own, or those of the clocks that ran out.
 function postsInWords(   i, c, text) {
     if (kindNamed == "Swi" && posts == 0 && index(callWords[call], "post") > 0) return "not posted"

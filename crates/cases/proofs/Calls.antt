@@ -6,7 +6,7 @@ use Rattle.rules.specs.Fresh.{fresh}
 use Rattle.rules.proofs.Runs.{Line, _runs_, AllRun, _⇒_, asked, said, saw, T, S, I, createTask, deleteTask, setPriority, yield, end, sleep}
 use Rattle.rules.proofs.Runs.{lastResult, createSwi, deleteSwi, postSwi, endSwi, postedOf, createSemaphore, pend, createMailbox}
 use Rattle.rules.proofs.Runs.{deleteMailbox, postMailbox, pendMailbox, createClock, startClock, stopClock, ticksOf, swisOff, restoreSwis}
-use Rattle.rules.proofs.Runs.{post, deleteSemaphore, createEvent, deleteEvent, postEvent, deleteClock, tasksOff, restoreTasks, interruptIn, interruptOut, tick}
+use Rattle.rules.proofs.Runs.{post, deleteSemaphore, createEvent, deleteEvent, pendEvent, postEvent, deleteClock, tasksOff, restoreTasks, interruptIn, interruptOut, tick}
 use Rattle.rules.proofs.Faster.{faster, quickly, fresh-sound}
 
 -- "Tasks join queues at the back."; "03 yield"; "02 set priority: value the old one"; "05 sleep"; "04 end"; "01 delete: terminated only"
@@ -53,8 +53,60 @@ writers-and-readers =
     ∷ lastResult 1 ⇒ said 0 0 0 (T 1)
     ∷ pendMailbox 0 0 ⇒ said 0 0 8 (T 1)
     ∷ pendMailbox 0 forever ⇒ said 0 2 0 (T 0)
-    ∷ postMailbox 0 9 0 ⇒ said 0 0 0 (T 1)
+    ∷ postMailbox 0 9 0 ⇒ said 0 0 1 (T 1)
     ∷ lastResult 1 ⇒ said 0 0 9 (T 1)
+    ∷ []
+
+-- No. 8: "Let the value be the woken task's number, and 0 if none was woken": tasks 3 and 2 at a semaphore by priority, at one in arrival order and as
+-- readers, and task 3 at an event, woken by a task, an interrupt and a Swi, also with tasks off. Nobody is woken where the post counts, stays at 1, matches
+-- nothing, stores, is not met or waits, nor by the post of a Swi; a pend that lets a writer in answers the word; and who expired is not named
+abbrev pub woken : List Line
+woken =
+    createSemaphore 0 0 ⇒ said 0 0 0 (T 0)
+    ∷ createSemaphore 3 0 ⇒ said 0 0 1 (T 0)
+    ∷ createEvent ⇒ said 0 0 0 (T 0)
+    ∷ createMailbox 1 ⇒ said 0 0 0 (T 0)
+    ∷ createTask 1 ⇒ said 0 0 1 (T 1)
+    ∷ createTask 5 ⇒ said 0 0 2 (T 2)
+    ∷ pend 1 forever ⇒ said 0 2 0 (T 1)
+    ∷ createTask 6 ⇒ said 0 0 3 (T 3)
+    ∷ pend 1 forever ⇒ said 0 2 0 (T 1)
+    ∷ post 1 ⇒ said 0 0 3 (T 3)
+    ∷ pend 0 forever ⇒ said 0 2 0 (T 1)
+    ∷ post 1 ⇒ said 0 0 2 (T 2)
+    ∷ pend 0 forever ⇒ said 0 2 0 (T 1)
+    ∷ post 1 ⇒ said 0 0 0 (T 1)
+    ∷ post 1 ⇒ said 0 0 0 (T 1)
+    ∷ post 0 ⇒ said 0 0 3 (T 3)
+    ∷ pendEvent 0 1 0 forever ⇒ said 0 2 0 (T 1)
+    ∷ postEvent 0 2 ⇒ said 0 0 0 (T 1)
+    ∷ postEvent 0 1 ⇒ said 0 0 3 (T 3)
+    ∷ pendMailbox 0 forever ⇒ said 0 2 0 (T 1)
+    ∷ post 0 ⇒ said 0 0 2 (T 2)
+    ∷ pendMailbox 0 forever ⇒ said 0 2 0 (T 1)
+    ∷ postMailbox 0 9 0 ⇒ said 0 0 3 (T 3)
+    ∷ lastResult 3 ⇒ said 0 0 9 (T 3)
+    ∷ postMailbox 0 8 0 ⇒ said 0 0 2 (T 3)
+    ∷ postMailbox 0 7 0 ⇒ said 0 0 0 (T 3)
+    ∷ postMailbox 0 6 0 ⇒ said 0 1 0 (T 3)
+    ∷ postMailbox 0 6 forever ⇒ said 0 2 0 (T 2)
+    ∷ pendMailbox 0 0 ⇒ said 0 0 7 (T 3)
+    ∷ lastResult 3 ⇒ said 0 0 0 (T 3)
+    ∷ pend 0 1 ⇒ said 0 2 0 (T 2)
+    ∷ pend 0 forever ⇒ said 0 2 0 (T 1)
+    ∷ interruptIn ⇒ said 0 0 0 I
+    ∷ tick ⇒ said 0 0 0 I
+    ∷ post 0 ⇒ said 0 0 2 I
+    ∷ interruptOut ⇒ said 0 0 0 (T 3)
+    ∷ pend 0 forever ⇒ said 0 2 0 (T 2)
+    ∷ pend 0 forever ⇒ said 0 2 0 (T 1)
+    ∷ tasksOff ⇒ said 0 0 1 (T 1)
+    ∷ post 0 ⇒ said 0 0 3 (T 1)
+    ∷ restoreTasks 1 ⇒ said 0 0 0 (T 3)
+    ∷ createSwi 3 0 ⇒ said 0 0 0 (T 3)
+    ∷ postSwi 0 ⇒ said 0 0 0 (S 0)
+    ∷ post 0 ⇒ said 0 0 2 (S 0)
+    ∷ endSwi ⇒ said 0 0 0 (T 3)
     ∷ []
 
 -- "50 create: .. stopped"; "start sets the first ticks again"; "at 0 the Swi is posted, and the clock has its period again or stops if that is 0"
@@ -197,6 +249,7 @@ pub record Calls : Type 0 where
   pub of-interrupts : fresh runs interrupts
   pub of-numbers : fresh runs numbers
   pub of-order : fresh runs order
+  pub of-woken : fresh runs woken
 
 abbrev all : List (List Line)
 all =
@@ -208,6 +261,7 @@ all =
     ∷ interrupts
     ∷ numbers
     ∷ order
+    ∷ woken
     ∷ []
 
 all-run : AllRun fresh all
@@ -225,4 +279,5 @@ calls =
       of-interrupts = all-run .1 .1 .1 .1 .1 .0;
       of-numbers = all-run .1 .1 .1 .1 .1 .1 .0;
       of-order = all-run .1 .1 .1 .1 .1 .1 .1 .0;
+      of-woken = all-run .1 .1 .1 .1 .1 .1 .1 .1 .0;
     }

@@ -6,10 +6,10 @@ use mathlib.Core.Bool.{cond as if}
 use mathlib.Core.List.{List}
 use borrow.Author.Tests.{eq-eqb, ne-eqb, lt-ltb, le-ltb}
 use lib.ListN.{length}
-use Rattle.rules.specs.Answer.{after, answer}
+use Rattle.rules.specs.Answer.{After, after, answer}
 use Rattle.rules.specs.Tables.{semaphore, withSemaphore, task, current, atSemaphore, KIND, COUNT}
-use Rattle.rules.specs.Lines.{line, semaphoreLine, first, Queued, queued, moved, atBack, byPriority}
-use Rattle.rules.specs.Waits.{served, waiting, woken}
+use Rattle.rules.specs.Lines.{line, semaphoreLine, Queued, queued, moved, atBack, byPriority}
+use Rattle.rules.specs.Waits.{Served, served, waiting, wakesFirst}
 use Rattle.rules.specs.Semaphores.{placeIn, countUp, pendEffect, postEffect}
 use Rattle.rules.specs.declared.Answer.{Answer}
 use Rattle.rules.specs.declared.Task.{Task}
@@ -57,14 +57,12 @@ module _ (ts ls ss st : List ℕ) (a limit : ℕ) {n : ℕ} {r : Answer} (e : n 
       (m ∙ (λ y. moved (placeIn (k y) ts (task ts (c y) .priority)) (c y) (waiting (task ts (c y)) atSemaphore a limit 0 0) (queued ts ls))))
 
 -- ---- the effect of a post
-module _ (ts ls ss : List ℕ) (a : ℕ) {n : ℕ} {r : Answer} (e : n ≡ length (line ls (semaphoreLine a))) where
-  pub post-wakes : 0 < n → {i : ℕ} {ts₁ ls₁ : List ℕ} → i ≡ first ls (semaphoreLine a) → queued ts₁ ls₁ ≡ woken i 0 0 (queued ts ls)
-      → r ≡ answer 0 0 1 → after r (served ts₁ ls₁ ss) ≡ postEffect (served ts ls ss) a
+module _ (ts ls ss : List ℕ) (a : ℕ) {n : ℕ} (e : n ≡ length (line ls (semaphoreLine a))) where
+  pub post-wakes : 0 < n → {u : After Served} → u ≡ wakesFirst (semaphoreLine a) 0 (served ts ls ss) → u ≡ postEffect (served ts ls ss) a
   unfolding postEffect
-  post-wakes h f m g =
-      rw (is-above 0 e h) (requeued-is (served ts ls ss) 0 1 g (m ∙ ap (λ (i : ℕ). woken i 0 0 (queued ts ls)) f))
+  post-wakes h w = rw (is-above 0 e h) w
 
-  pub post-counts : n ≤ 0 → {kind m up : ℕ} {ss₁ : List ℕ} → kind ≡ semaphore ss a KIND → m ≡ semaphore ss a COUNT → up ≡ countUp kind m
+  pub post-counts : n ≤ 0 → {kind m up : ℕ} {ss₁ : List ℕ} {r : Answer} → kind ≡ semaphore ss a KIND → m ≡ semaphore ss a COUNT → up ≡ countUp kind m
       → ss₁ ≡ withSemaphore ss a COUNT up → r ≡ answer 0 0 0 → after r (served ts ls ss₁) ≡ postEffect (served ts ls ss) a
   unfolding postEffect
   post-counts h k c u f g =

@@ -155,7 +155,7 @@ pub fn post_code(semaphores: &Semaphores, a: u32, b: u32, c: u32, d: u32) -> u32
     0
 }
 
-// Value 1 and the first waiter ready, or value 0 and the count one up.
+// The first waiter ready, and its number the value; or value 0 and the count one up.
 pub fn post_effect(
     tasks: &mut Tasks,
     lines: &mut Lines,
@@ -166,9 +166,7 @@ pub fn post_effect(
 {
     let i = a as usize;
     if 0 < rows::lines::len(lines, i) {
-        let first = rows::lines::first(lines, i);
-        waits::moves::wake(tasks, lines, first as u32, 0, 0);
-        return rows::answers::accepted(0, 1);
+        return waits::moves::wake_first(tasks, lines, i, 0);
     }
     let kind = words::semaphore(semaphores, i, KIND);
     let n = words::semaphore(semaphores, i, COUNT);

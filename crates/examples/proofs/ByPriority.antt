@@ -28,7 +28,7 @@ abbrev pub beginning : List Line
 beginning = Runs.pend 0 forever ⇒ said 0 2 0 (T 0) ∷ []
 
 abbrev pub overtaking : List Line
-overtaking = createTask 6 ⇒ said 0 0 2 (T 2) ∷ Runs.pend 0 forever ⇒ said 0 2 0 (T 0) ∷ post 0 ⇒ said 0 0 1 (T 2) ∷ []
+overtaking = createTask 6 ⇒ said 0 0 2 (T 2) ∷ Runs.pend 0 forever ⇒ said 0 2 0 (T 0) ∷ post 0 ⇒ said 0 0 2 (T 2) ∷ []
 
 -- the mode of task 1, the mode and priority of task 2, who waits at the semaphore, who is ready at 5 and at 6, the current task
 unfoldable pub tablesOf : ℕ → ℕ → ℕ → List ℕ → List ℕ → List ℕ → ℕ → Tables

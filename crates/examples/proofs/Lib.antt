@@ -6,4 +6,6 @@ pub mod ByPriority
 pub mod StrongerTurns
 pub mod StrongerAnswers
 pub mod Posts
+pub mod Wakes
 pub mod StrongerPosts
+pub mod StrongerWakes

@@ -36,7 +36,7 @@ told (Runs.asked n a b c d ∷ xs) (said k o v t ∷ ys) = record { asked = aske
 told (Runs.asked n a b c d ∷ xs) (saw m ∷ ys) = told xs ys
 told (look f ∷ xs) (y ∷ ys) = told xs ys
 
-history-told : (t : Tables) (xs : List Runs.Asked) → history t (asks xs) ≡ told xs (says t xs)
+pub history-told : (t : Tables) (xs : List Runs.Asked) → history t (asks xs) ≡ told xs (says t xs)
 unfolding history says
 history-told t [] = refl
 history-told t (Runs.asked n a b c d ∷ xs) = rw (history-told (next t (asked n a b c d)) xs)

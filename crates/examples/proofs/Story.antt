@@ -50,12 +50,12 @@ flood =
     ∷ tick ⇒ said 0 0 0 I
     ∷ lastResult 1 ⇒ said 0 1 0 I
     ∷ interruptOut ⇒ said 0 0 0 (T 1)
-    ∷ post 0 ⇒ said 0 0 1 (T 1)
+    ∷ post 0 ⇒ said 0 0 2 (T 1)
     ∷ []
 
 -- the post that readies task 3, behind 1 and 2
 abbrev pub serving : List Line
-serving = post 0 ⇒ said 0 0 1 (T 1) ∷ []
+serving = post 0 ⇒ said 0 0 3 (T 1) ∷ []
 
 -- task 1 yields, a task joins behind, a tick and the third post, which counts, and task 2 ends
 abbrev pub queueing : List Line

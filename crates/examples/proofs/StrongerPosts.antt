@@ -1,31 +1,32 @@
 -- Request No. 12 says no more than is true: for each must-fail edit of `no_post_lost`, the statement that it makes, denied by a run. That is the run of
--- `Posts`, where what is counted wrongly gives two sides that differ; and for what a post's value tells one more post after it, and the run of `Story`.
+-- `Posts`, where what is counted wrongly gives two sides that differ; and for what a post's value tells one more post after it.
 use Prim.Native.Nat.{ℕ, _+_}
 use mathlib.Core.Path.{_≡_, refl, sym, ap, _∙_}
 use mathlib.Core.Logic.{_≢_}
 use mathlib.Core.Bool.{Bool, true, false, not, _&&_, _||_}
-use mathlib.Core.List.{List, [], _∷_, _++_, nil≢cons, cons≢nil}
+use mathlib.Core.List.{List, [], _∷_, _++_}
 use native.Mathlib.Omega.{arith}
 use lib.Dec.{eqb}
-use lib.ListN.{take}
+use lib.ListN.{take, drop}
 use borrow.Author.Tests.{eq-eqb}
 use Rattle.fold.specs.Lists.{zeros}
-use Rattle.rules.specs.Answer.{done, notMet, nowWaiting}
-use Rattle.rules.specs.Tables.{Typed, tables, task, semaphore, USED, KIND, COUNT}
-use Rattle.rules.specs.Lines.{line, semaphoreLine}
+use Rattle.rules.specs.Answer.{answer, done, notMet, nowWaiting}
+use Rattle.rules.specs.Tables.{Typed, forever, ready, tables, semaphore, USED, KIND, COUNT}
+use Rattle.rules.specs.Lines.{line, semaphoreLine, readyLine}
 use Rattle.rules.specs.Semaphores.{isBinary}
+use Rattle.rules.specs.Fresh.{fresh}
 use Rattle.rules.specs.Sound.{Sound}
 use Rattle.rules.specs.declared.Tables.{Tables}
-use Rattle.rules.proofs.Runs.{Line, _⇒_, said, says, T, post}
+use Rattle.rules.proofs.Runs.{Line, Said, _⇒_, said, says, calls, answers, T, createTask, createSemaphore, pend, post}
 use Rattle.rules.proofs.Faster.{quickly}
-use Rattle.rules.proofs.Standing.{linesWith}
-use Rattle.runs.specs.Run.{Asked, asked, made, next, after}
+use Rattle.rules.proofs.Standing.{linesWith, _has_}
+use Rattle.runs.specs.Run.{Asked, asked, made, next}
+use Rattle.demands.proofs.Two.{fresh-typed, fresh-is-sound}
 use Rattle.no_post_lost.specs.NoPostLost.{CallAndAnswer, howMany, isAccepted, isAcceptedOn, setsCount, isPost, takesUnit, Counting}
-use Rattle.no_post_lost.specs.Readied.{OneReadied}
-use Rattle.no_post_lost.proofs.Readied.{value-tells}
-use Rattle.examples.proofs.BySteps.{pass, inWords, Leads, leads, anything}
-use Rattle.examples.proofs.Story.{tablesOf, flooded, moment, to-flooded, to-moment}
-use Rattle.examples.proofs.Posts.{createdZero, createdTwo, createdThree, resetOne, now, to-now, all, at, since, Counted, Sums, in-run, counting}
+use Rattle.woken_task.specs.WokenTask.{semaphorePost, Woke}
+use Rattle.examples.proofs.BySteps.{asks, pass, inWords, Leads, leads, anything}
+use Rattle.examples.proofs.Posts.{told, history-told, createdZero, createdTwo, createdThree, resetOne, now, to-now, all, at, since}
+use Rattle.examples.proofs.Posts.{Counted, Sums, in-run, counting}
 
 -- ---- with another test of what takes a unit; of a post; of what sets the count; of which semaphores
 abbrev takenBy : (ℕ → CallAndAnswer → Bool) → Counted
@@ -198,10 +199,6 @@ to-posted : Leads anything 0 now once 1 posted
 unfolding quickly linesWith pass inWords now posted
 to-posted = leads anything 0 now (to-now .typed) (to-now .sound) once 1 posted refl refl
 
-nobody-there : line (now .lines) (semaphoreLine 0) ≡ []
-unfolding quickly linesWith now
-nobody-there = refl
-
 -- a post on s
 abbrev postOn : ℕ → Asked
 postOn s = asked 0x23 s 0 0 0
@@ -211,38 +208,53 @@ counted-up : (made now (postOn 0) .answer .code ≡ 0) × (made now (postOn 0) .
 unfolding says
 counted-up = let e = to-posted .answers .so in (cc, cc)
 
-abbrev Told : (Tables → Asked → Type 0) → Type 0
-Told P = (t : Tables) → Typed t → Sound t → (q : Asked) → isPost 0 record { asked = q; answer = made t q .answer } ≡ true → P t q
-
-pub not-told-by-a-value-of-0 : Told (λ t q. made t q .answer .value ≢ 1 → OneReadied 0 t (next t q)) → ⊥
+pub not-told-by-a-value-of-0
+    : ((t : Tables) → Typed t → Sound t → (q : Asked) → isPost 0 record { asked = q; answer = made t q .answer } ≡ true
+    → made t q .answer .value ≢ 1 → Woke semaphorePost t q (made t q .answer) (next t q)) → ⊥
 not-told-by-a-value-of-0 every =
-    let x = every now (to-now .typed) (to-now .sound) (postOn 0) (rw (eq-eqb _ 0 (counted-up .0))) (λ e. omega (arith, e, counted-up .1)) in
-    nil≢cons (sym nobody-there ∙ x .first)
+    let w = every now (to-now .typed) (to-now .sound) (postOn 0) (rw (eq-eqb _ 0 (counted-up .0))) (λ e. omega (arith, e, counted-up .1)) in
+    w .named (counted-up .1)
 
--- and who was readied has left the line: in the run of `Story` task 3 waited alone
-abbrev StillInLine : Tables → Asked → Type 0
-StillInLine t q = made t q .answer .value ≢ 0 → line (t .lines) (semaphoreLine 0) ≡ line (next t q .lines) (semaphoreLine 0)
+-- ---- a waiter that a post readied shows in a value other than 0, whoever it is (No. 8): a unit is taken, and the value is 2
+abbrev byTaskTwo : List Line
+byTaskTwo =
+    createSemaphore 0 0 ⇒ said 0 0 0 (T 0)
+    ∷ createTask 5 ⇒ said 0 0 1 (T 1)
+    ∷ createTask 6 ⇒ said 0 0 2 (T 2)
+    ∷ pend 0 forever ⇒ said 0 2 0 (T 1)
+    ∷ post 0 ⇒ said 0 0 2 (T 2)
+    ∷ []
 
-woke : (made flooded (postOn 0) .answer .code ≡ 0) × (made flooded (postOn 0) .answer .value ≡ 1)
-unfolding says
-woke = let e = to-moment .answers .so in (cc, cc)
+unfoldable taken : Tables
+taken =
+    tables (ready ∷ (zeros 7 ++ (ready ∷ 5 ∷ (zeros 6 ++ (ready ∷ 6 ∷ zeros 238)))))
+    (linesWith (readyLine 0 has (0 ∷ []) ∷ readyLine 5 has (1 ∷ []) ∷ readyLine 6 has (2 ∷ []) ∷ []))
+    (1 ∷ zeros 47) (zeros 16) (zeros 80) (zeros 96) (zeros 80) (zeros 256)
+    (0 ∷ 1 ∷ 1 ∷ 0 ∷ 2 ∷ [])
 
-one-there : (line (flooded .lines) (semaphoreLine 0) ≡ 3 ∷ []) × (line (moment .lines) (semaphoreLine 0) ≡ [])
-unfolding quickly linesWith tablesOf flooded moment
-one-there = (refl, refl)
+to-taken : Leads anything 0 fresh byTaskTwo 1 taken
+unfolding quickly linesWith pass inWords taken
+to-taken = leads anything 0 fresh fresh-typed fresh-is-sound byTaskTwo 1 taken refl refl
 
-pub not-still-in-line : Told StillInLine → ⊥
-unfolding after
-not-still-in-line every =
-    let same = every flooded (to-flooded .typed) (to-flooded .sound) (postOn 0) (rw (eq-eqb _ 0 (woke .0))) (λ e. omega (arith, e, woke .1)) in
-    cons≢nil (sym (one-there .0) ∙ same ∙ ap (λ (u : Tables). line (u .lines) (semaphoreLine 0)) (to-moment .now) ∙ one-there .1)
+abbrev twoTold : List CallAndAnswer
+twoTold = told (calls byTaskTwo) (answers byTaskTwo)
 
--- and its wait was met: it did not expire
-abbrev AsExpired : Tables → Asked → Type 0
-AsExpired t q = made t q .answer .value ≢ 0 → (x : OneReadied 0 t (next t q)) → task (next t q .tasks) (x .waiter) .outcome ≡ notMet
+taken-counting : Counting 0 taken
+unfolding quickly taken
+taken-counting = record { used = λ e. omega (arith, e); kind = refl }
 
-pub not-readied-as-expired : Told AsExpired → ⊥
-not-readied-as-expired every =
-    let post : isPost 0 record { asked = postOn 0; answer = made flooded (postOn 0) .answer } ≡ true = rw (eq-eqb _ 0 (woke .0)) in
-    let x = value-tells flooded (to-flooded .typed) (to-flooded .sound) 0 (postOn 0) post .0 (λ e. omega (arith, e, woke .1)) in
-    omega (arith, x .outcome, every flooded (to-flooded .typed) (to-flooded .sound) (postOn 0) post (λ e. omega (arith, e, woke .1)) x)
+no-count : semaphore (taken .semaphores) 0 COUNT ≡ 0
+unfolding quickly taken
+no-count = refl
+
+abbrev ofTaskOne : ℕ → CallAndAnswer → Bool
+ofTaskOne s e = (isAcceptedOn 0x22 s e && eqb (e .answer .outcome) done) || (isPost s e && eqb (e .answer .value) 1)
+
+pub not-of-task-1-alone : Sums (takenBy ofTaskOne) → ⊥
+unfolding howMany
+not-of-task-1-alone every =
+    let split = history-told fresh (calls byTaskTwo) ∙ ap (λ (ys : List Said). told (calls byTaskTwo) ys) (to-taken .answers .so) in
+    let sum =
+    every fresh fresh-typed fresh-is-sound (asks (calls byTaskTwo)) (to-taken .words) 0 (rw (to-taken .now) taken-counting) []
+    (record { asked = asked 0x20 0 0 0 0; answer = answer 0 0 0 }) (drop 1 twoTold) split refl refl in
+    omega (arith, no-count, rw (to-taken .now) at sum)

@@ -25,7 +25,7 @@ use Rattle.examples.proofs.Example.{begins, readied-there, in-moment, q
 
 -- ---- "one of the next k + 1 accepted posts": k are not enough. Task 3 waits behind two, and the two posts ready these
 abbrev twoPosts : List Line
-twoPosts = post 0 ⇒ said 0 0 1 (T 1) ∷ post 0 ⇒ said 0 0 1 (T 1) ∷ []
+twoPosts = post 0 ⇒ said 0 0 1 (T 1) ∷ post 0 ⇒ said 0 0 2 (T 1) ∷ []
 
 unfoldable alone : Tables
 alone = tablesOf (row ready 0 0 ++ (row ready 0 0 ++ (row atSemaphore 0 0 ++ zeros 8))) (3 ∷ []) (1 ∷ 2 ∷ []) 0 0 1

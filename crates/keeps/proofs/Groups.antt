@@ -26,6 +26,10 @@ pub record Words (a b c d : ℕ) : Type 0 where
 abbrev pub OfTasks : ℕ → Type 0
 OfTasks j = (j < postedLine 0) ⊎ ((activeLine < j) × (j < lineCount))
 
+-- task i stands in no line of waiters: these come first, before the posted Swis'
+abbrev pub NeverWaits : ℕ → List ℕ → Type 0
+NeverWaits i ls = (j : ℕ) → j < postedLine 0 → count i (line ls j) ≡ 0
+
 -- those who stand in a line of Swis are the same
 abbrev pub SwisStay : List ℕ → List ℕ → Type 0
 SwisStay ls ls′ = (j : ℕ) → postedLine 0 ≤ j → j ≤ activeLine → line ls′ j ≡ line ls j

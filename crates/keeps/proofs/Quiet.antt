@@ -4,13 +4,13 @@ use mathlib.Core.Path.{_≡_, refl, sym, ap, _∙_}
 use mathlib.Core.Bool.{Bool, true, false, not, _&&_, _||_, true≢false, cond as if}
 use mathlib.Core.List.{List}
 use native.Mathlib.Omega.{arith}
-use borrow.Author.Tests.{eqb-true, eqb-false}
+use borrow.Author.Tests.{eqb-true, eqb-false, ne-eqb}
 use lib.Dec.{eqb, ltb}
 use Rattle.fold.specs.Rule.{Means}
-use Rattle.rules.specs.Answer.{Cases, After, accepted, Call, called, codeOf, notMet, nowWaiting}
+use Rattle.rules.specs.Answer.{Cases, After, accepted, Call, called, codeOf, done, nowWaiting}
 use Rattle.rules.specs.Tables.{noTask, reading, writing, semaphore, event, mailbox, current, USED, COUNT, BITS, CAPACITY, MESSAGES}
-use Rattle.rules.specs.Lines.{semaphoreLine, line, anyone, homeBy, Queued, atBack}
-use Rattle.rules.specs.Waits.{Served, queue}
+use Rattle.rules.specs.Lines.{semaphoreLine, mailboxLine, eventLine, postedLine, line, anyone, first, homeBy, Queued, atBack}
+use Rattle.rules.specs.Waits.{Served, served, queue, wakesFirst}
 use Rattle.rules.specs.Sound.{tasksRule}
 use Rattle.rules.specs.Tasks as Tasks
 use Rattle.rules.specs.Semaphores as Semaphores
@@ -18,8 +18,10 @@ use Rattle.rules.specs.Events as Events
 use Rattle.rules.specs.Mailboxes as Mailboxes
 use Rattle.laws.proofs.Rows.{row-used}
 use Rattle.laws.proofs.Calls.{chosen}
-use Rattle.keeps.proofs.Groups.{SwisStay}
+use Rattle.keeps.proofs.Groups.{SwisStay, NeverWaits}
 use Rattle.keeps.proofs.Codes.{accepted-is, object-used}
+use Rattle.keeps.proofs.Standing.{first-not}
+use Rattle.keeps.proofs.Objects.{match-waits, first-waits}
 use Rattle.keeps.proofs.Aside.{home-aside, moved-aside, waits-aside, woken-aside, placed-aside, priority-aside}
 
 -- ---- what an accepted call leaves: the lines of Swis as they were, and all lines as they were where `moves` says of its outcome and value that
@@ -74,13 +76,23 @@ module _ (q : Queued) (rows : Means (tasksRule (q .tasks))) (st : List ℕ) (x n
       tested (eqb a 0) (stays refl) (goes (rw (eqb-true number 0x05 e)) (moved-aside q rows atBack (current st) _ (λ j low high n. omega arith)))))
       (numbered (eqb number 0x06) (λ _. same refl) (same refl)))))))
 
--- ---- semaphores and events: only a wait that begins, and a post with a wake, move a task
-abbrev pub servedMoves : ℕ → ℕ → ℕ → ℕ → Bool
-servedMoves post number o v = eqb o nowWaiting || (eqb number post && not (eqb v 0))
+-- ---- a post at any of the three kinds: it wakes the first in line, who is not task 0, so its value says that a task has moved
+module _ (q : Served) (rows : Means (tasksRule (q .tasks))) (never : NeverWaits 0 (q .lines)) where
+  wakes-one : {moves : ℕ → ℕ → Bool} (j v : ℕ) (os : List ℕ) → ((i : ℕ) → eqb i 0 ≡ false → moves done i ≡ true)
+      → j < postedLine 0 → anyone (q .lines) j ≡ true
+      → Leaves (λ (y : Served). y .lines) (q .lines) moves (wakesFirst j v (served (q .tasks) (q .lines) os))
+  wakes-one j v os says waiters some =
+      goes (says _ (ne-eqb (first (q .lines) j) 0 (first-not 0 (q .lines) never j waiters some))) (woken-aside (queue q) rows _ done v)
 
-module _ (q : Served) (rows : Means (tasksRule (q .tasks))) (st : List ℕ) (x number a b c d : ℕ) where
-  pend-leaves : codeOf (Semaphores.pendCases (q .objects) st x a b c d) ≡ 0
-      → Leaves (λ (y : Served). y .lines) (q .lines) (servedMoves 0x23 number) (Semaphores.pendEffect q st a b)
+-- ---- semaphores and events: only a wait that begins, and a post with a wake, move a task (`settling/specs/Settle` says it of the code's answer)
+abbrev pub waitsOrWakes : ℕ → ℕ → ℕ → ℕ → Bool
+waitsOrWakes post number o v = eqb o nowWaiting || (eqb number post && not (eqb v 0))
+
+module _ (q : Served) (rows : Means (tasksRule (q .tasks))) (never : NeverWaits 0 (q .lines)) (st : List ℕ) (x number a b c d : ℕ) where
+  abbrev LeavesBy : ℕ → After Served → Type 0
+  LeavesBy post e = Leaves (λ (y : Served). y .lines) (q .lines) (waitsOrWakes post number) e
+
+  pend-leaves : codeOf (Semaphores.pendCases (q .objects) st x a b c d) ≡ 0 → LeavesBy 0x23 (Semaphores.pendEffect q st a b)
   unfolding Semaphores.pendCases Semaphores.pendEffect homeBy
   pend-leaves z =
       let ok = accepted-is (Semaphores.pendCases (q .objects) st x a b c d) z in
@@ -88,21 +100,25 @@ module _ (q : Served) (rows : Means (tasksRule (q .tasks))) (st : List ℕ) (x n
       tested (ltb 0 (semaphore (q .objects) a COUNT)) (stays refl)
       (tested (eqb b 0) (stays refl) (goes refl (waits-aside (queue q) rows _ (current st) _ (omega arith))))
 
-  post-leaves : eqb number 0x23 ≡ true → Leaves (λ (y : Served). y .lines) (q .lines) (servedMoves 0x23 number) (Semaphores.postEffect q a)
-  unfolding Semaphores.postEffect
-  post-leaves e = tested (anyone (q .lines) (semaphoreLine a)) (goes (rw e) (woken-aside (queue q) rows _ 0 0)) (stays refl)
+  post-leaves : eqb number 0x23 ≡ true → codeOf (Semaphores.postCases (q .objects) a b c d) ≡ 0 → LeavesBy 0x23 (Semaphores.postEffect q a)
+  unfolding Semaphores.postCases Semaphores.postEffect
+  post-leaves e z =
+      let ok = accepted-is (Semaphores.postCases (q .objects) a b c d) z in
+      let lt : a < 16 = row-used 3 16 (q .objects) a 0 (eqb-false (semaphore (q .objects) a USED) 0 (object-used _ _ (ok .at3) (ok .at11))) in
+      chosen (LeavesBy 0x23) (anyone (q .lines) (semaphoreLine a)) _ _
+      (wakes-one q rows never (semaphoreLine a) 0 (q .objects) (λ i n. rw (e, n)) (omega arith))
+      (λ _. stays refl)
 
-  pub semaphores-quiet : Quiet (λ (y : Served). y .lines) (q .lines) (servedMoves 0x23 number) (Semaphores.semaphoreCall q st x number a b c d)
+  pub semaphores-quiet : Quiet (λ (y : Served). y .lines) (q .lines) (waitsOrWakes 0x23 number) (Semaphores.semaphoreCall q st x number a b c d)
   unfolding Semaphores.semaphoreCall Semaphores.createEffect Semaphores.deleteEffect Semaphores.resetEffect
   semaphores-quiet =
       numbered (eqb number 0x20) (λ _. same refl)
       (numbered (eqb number 0x21) (λ _. same refl)
       (numbered (eqb number 0x22) (λ _. does pend-leaves)
-      (numbered (eqb number 0x23) (λ e. does (λ _. post-leaves e))
+      (numbered (eqb number 0x23) (λ e. does (post-leaves e))
       (numbered (eqb number 0x24) (λ _. same refl) (same refl)))))
 
-  event-pend-leaves : codeOf (Events.pendCases (q .lines) (q .objects) st x a b c d) ≡ 0
-      → Leaves (λ (y : Served). y .lines) (q .lines) (servedMoves 0x33 number) (Events.pendEffect q st a b c d)
+  event-pend-leaves : codeOf (Events.pendCases (q .lines) (q .objects) st x a b c d) ≡ 0 → LeavesBy 0x33 (Events.pendEffect q st a b c d)
   unfolding Events.pendCases Events.pendEffect homeBy
   event-pend-leaves z =
       let ok = accepted-is (Events.pendCases (q .lines) (q .objects) st x a b c d) z in
@@ -111,34 +127,42 @@ module _ (q : Served) (rows : Means (tasksRule (q .tasks))) (st : List ℕ) (x n
       (tested (eqb d 0) (stays refl) (goes refl (waits-aside (queue q) rows _ (current st) _ (omega arith))))
       (stays refl)
 
-  event-post-leaves : (bits : ℕ) → eqb number 0x33 ≡ true
-      → Leaves (λ (y : Served). y .lines) (q .lines) (servedMoves 0x33 number) (Events.postedBits q a bits)
-  unfolding Events.postedBits
-  event-post-leaves bits e =
-      tested (eqb (Events.waiterMatch (q .tasks) (q .lines) a bits) 0) (stays refl) (goes (rw e) (woken-aside (queue q) rows _ 0 _))
+  event-post-leaves : (bits : ℕ) → eqb number 0x33 ≡ true → codeOf (Events.postCases (q .objects) a c d) ≡ 0 → LeavesBy 0x33 (Events.postedBits q a bits)
+  unfolding Events.postCases Events.postedBits
+  event-post-leaves bits e z =
+      let ok = accepted-is (Events.postCases (q .objects) a c d) z in
+      let lt : a < 8 = row-used 2 8 (q .objects) a 0 (eqb-false (event (q .objects) a USED) 0 (object-used _ _ (ok .at3) (ok .at11))) in
+      chosen (LeavesBy 0x33) (eqb (Events.waiterMatch (q .tasks) (q .lines) a bits) 0) _ _
+      (λ _. stays refl)
+      (λ m. wakes-one q rows never (eventLine a) _ _ (λ i n. rw (e, n)) (omega arith) (match-waits (q .tasks) (q .lines) a bits m))
 
-  pub events-quiet : Quiet (λ (y : Served). y .lines) (q .lines) (servedMoves 0x33 number) (Events.eventCall q st x number a b c d)
+  pub events-quiet : Quiet (λ (y : Served). y .lines) (q .lines) (waitsOrWakes 0x33 number) (Events.eventCall q st x number a b c d)
   unfolding Events.eventCall Events.createEffect Events.deleteEffect
   events-quiet =
       numbered (eqb number 0x30) (λ _. same refl)
       (numbered (eqb number 0x31) (λ _. same refl)
       (numbered (eqb number 0x32) (λ _. does event-pend-leaves)
-      (numbered (eqb number 0x33) (λ e. does (λ _. event-post-leaves _ e)) (same refl))))
+      (numbered (eqb number 0x33) (λ e. does (event-post-leaves _ e)) (same refl))))
 
--- ---- mailboxes: a create, a delete, and what is not met move nobody
+-- ---- mailboxes: the same, and a pend that is done, which may let a writer in
 abbrev pub mailboxMoves : ℕ → ℕ → ℕ → Bool
-mailboxMoves number o v = ltb 0x41 number && not (eqb o notMet)
+mailboxMoves number o v = waitsOrWakes 0x42 number o v || (eqb number 0x43 && eqb o done)
 
-module _ (q : Served) (rows : Means (tasksRule (q .tasks))) (st : List ℕ) (x number a b c d : ℕ) where
+module _ (q : Served) (rows : Means (tasksRule (q .tasks))) (never : NeverWaits 0 (q .lines)) (st : List ℕ) (x number a b c d : ℕ) where
+  abbrev LeavesMailbox : After Served → Type 0
+  LeavesMailbox e = Leaves (λ (y : Served). y .lines) (q .lines) (mailboxMoves number) e
+
   mailbox-post-leaves : eqb number 0x42 ≡ true → codeOf (Mailboxes.postCases (q .tasks) (q .lines) (q .objects) st x a c d) ≡ 0
-      → Leaves (λ (y : Served). y .lines) (q .lines) (mailboxMoves number) (Mailboxes.postEffect q st a b c)
+      → LeavesMailbox (Mailboxes.postEffect q st a b c)
   unfolding Mailboxes.postCases Mailboxes.postEffect homeBy
   mailbox-post-leaves e z =
       let ok = accepted-is (Mailboxes.postCases (q .tasks) (q .lines) (q .objects) st x a c d) z in
       let lt : a < 8 = row-used 10 8 (q .objects) a 0 (eqb-false (mailbox (q .objects) a CAPACITY) 0 (object-used _ _ (ok .at3) (ok .at11))) in
-      tested (Mailboxes.waitsFirst (q .tasks) (q .lines) a reading) (goes (rw (eqb-true number 0x42 e)) (woken-aside (queue q) rows _ 0 b))
-      (tested (Mailboxes.isFull (q .objects) a)
-      (tested (eqb c 0) (stays refl) (goes (rw (eqb-true number 0x42 e)) (waits-aside (queue q) rows _ (current st) _ (omega arith))))
+      chosen LeavesMailbox (Mailboxes.waitsFirst (q .tasks) (q .lines) a reading) _ _
+      (λ w. wakes-one q rows never (mailboxLine a) b (q .objects) (λ i n. rw (e, n)) (omega arith) (first-waits (q .tasks) (q .lines) a reading w))
+      (λ _.
+      tested (Mailboxes.isFull (q .objects) a)
+      (tested (eqb c 0) (stays refl) (goes refl (waits-aside (queue q) rows _ (current st) _ (omega arith))))
       (stays refl))
 
   taken-aside : SwisStay (q .lines) (Mailboxes.oldestTaken q a .lines)
@@ -148,13 +172,13 @@ module _ (q : Served) (rows : Means (tasksRule (q .tasks))) (st : List ℕ) (x n
       (λ _. woken-aside (queue q) rows _ 0 0 j low high) (λ _. refl)
 
   mailbox-pend-leaves : eqb number 0x43 ≡ true → codeOf (Mailboxes.pendCases (q .objects) st x a b c d) ≡ 0
-      → Leaves (λ (y : Served). y .lines) (q .lines) (mailboxMoves number) (Mailboxes.pendEffect q st a b)
+      → LeavesMailbox (Mailboxes.pendEffect q st a b)
   unfolding Mailboxes.pendCases Mailboxes.pendEffect homeBy
   mailbox-pend-leaves e z =
       let ok = accepted-is (Mailboxes.pendCases (q .objects) st x a b c d) z in
       let lt : a < 8 = row-used 10 8 (q .objects) a 0 (eqb-false (mailbox (q .objects) a CAPACITY) 0 (object-used _ _ (ok .at3) (ok .at11))) in
       tested (eqb (mailbox (q .objects) a MESSAGES) 0)
-      (tested (eqb b 0) (stays refl) (goes (rw (eqb-true number 0x43 e)) (waits-aside (queue q) rows _ (current st) _ (omega arith))))
+      (tested (eqb b 0) (stays refl) (goes refl (waits-aside (queue q) rows _ (current st) _ (omega arith))))
       (goes (rw (eqb-true number 0x43 e)) taken-aside)
 
   pub mailboxes-quiet : Quiet (λ (y : Served). y .lines) (q .lines) (mailboxMoves number) (Mailboxes.mailboxCall q st x number a b c d)

@@ -6,16 +6,17 @@ use mathlib.Core.Bool.{true, false}
 use mathlib.Core.List.{List}
 use native.Mathlib.Omega.{arith}
 use lib.Dec.{eqb}
-use borrow.Author.Tests.{eq-eqb, ne-eqb, lt-ltb, le-ltb, le-leb, lt-leb}
+use lib.ListN.{length}
+use borrow.Author.Tests.{eq-eqb, ne-eqb, lt-ltb, le-ltb, le-leb, lt-leb, ltb-true}
 use Rattle.fold.specs.Lists.{bit, count}
 use Rattle.fold.specs.Rule.{Means, _is_, every}
-use Rattle.fold.proofs.Laws.{same?, lt-or-le}
+use Rattle.fold.proofs.Laws.{same?, lt-or-le, count-first}
 use Rattle.rules.specs.Tables.{Typed, taskCount, swiCount, swiWidth, ready, task, swi, levels, PRIORITY, POSTED}
-use Rattle.rules.specs.Lines.{lineCount, nowhere, readyLine, postedLine, activeLine, line, taskHome, swiHome}
+use Rattle.rules.specs.Lines.{lineCount, nowhere, readyLine, postedLine, activeLine, line, anyone, first, homeBy, taskHome, swiHome}
 use Rattle.rules.specs.Sound.{Sound, isPosted, homeIn, membersRule, onceRule, tasksRule, swiRule}
 use Rattle.rules.specs.declared.Tables.{Tables}
 use Rattle.laws.proofs.Rows.{by-range, field-out}
-use Rattle.keeps.proofs.Groups.{OfTasks, Standing, Almost}
+use Rattle.keeps.proofs.Groups.{OfTasks, NeverWaits, Standing, Almost}
 use Rattle.keeps.proofs.Members.{bit-same, bit-other, bit-eq, every-at, every-make}
 use Rattle.keeps.proofs.TaskRows.{home-out, task-stands, stands-in, ready-row}
 
@@ -155,3 +156,18 @@ module _ (t : Tables) (a : Almost t) where
       rw e (a .standing .swis i (swi (t .swis) i PRIORITY) low ∙ bit-same (swiHome (t .swis) i) (postedLine (swi (t .swis) i PRIORITY)) e))
       (λ (e : swiHome (t .swis) i ≡ nowhere). absurd (omega arith))
       (swi-stands (t .swis) i)
+
+-- No. 8: "task 0 never waits, so 0 is free for that": it is ready at priority 0, so its line is that queue, and it stands in no line of waiters
+pub task-0-never-waits : (t : Tables) → Sound t → NeverWaits 0 (t .lines)
+unfolding homeBy
+task-0-never-waits t s j waiters =
+    let (mode, (priority, _)) = s .tasks 0 (omega arith) .0 refl in
+    let home : taskHome (t .tasks) 0 ≡ readyLine 0 = rw (mode, priority) in
+    sound-standing (t .tasks) (t .swis) (t .lines) (s .members) (s .taskOnce) (s .swiOnce) .tasks 0 j (inl waiters)
+    ∙ bit-other (taskHome (t .tasks) 0) j (λ e. omega (arith, home, e, waiters))
+
+-- so whoever is first in such a line is another
+pub first-not : (i : ℕ) (ls : List ℕ) → NeverWaits i ls → (j : ℕ) → j < postedLine 0 → anyone ls j ≡ true → first ls j ≢ i
+first-not i ls never j waiters some e =
+    let there : 0 < count (first ls j) (line ls j) = count-first (line ls j) (ltb-true 0 (length (line ls j)) some) in
+    omega (arith, never j waiters, rw e at there)

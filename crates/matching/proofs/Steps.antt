@@ -9,12 +9,12 @@ use lib.ListN.{length}
 use Rattle.rules.specs.Answer.{After, after, answer}
 use Rattle.rules.specs.Tables.{event, withEvent, task, current, atEvent, BITS}
 use Rattle.rules.specs.Lines.{line, eventLine, first, queued, moved, atBack}
-use Rattle.rules.specs.Waits.{Served, served, waiting, woken}
+use Rattle.rules.specs.Waits.{Served, served, waiting, wakesFirst}
 use Rattle.rules.specs.Swis.{cleared}
 use Rattle.rules.specs.Events.{matched, waiterMatch, pendEffect, postedBits, postEffect}
 use Rattle.rules.specs.declared.Answer.{Answer}
 use Rattle.rules.specs.declared.Task.{Task}
-use Rattle.waits.proofs.Served.{kept-is, objects-is, requeued-is, both-is, is-same, is-other, is-above, is-within}
+use Rattle.waits.proofs.Served.{kept-is, objects-is, requeued-is, is-same, is-other, is-above, is-within}
 
 -- ---- what the waiter matches
 module _ (ts ls : List ℕ) (a bits : ℕ) {n : ℕ} (e : n ≡ length (line ls (eventLine a))) where
@@ -50,18 +50,19 @@ module _ (ts ls es st : List ℕ) (a b c limit : ℕ) {m : ℕ} {r : Answer} (e 
       (requeued-is (served ts ls es) 2 0 g (w ∙ ap (λ (i : ℕ). moved atBack i (waiting (task ts i) atEvent a limit b c) (queued ts ls)) k))
 
 -- ---- the effect of a post
-module _ (ts ls es : List ℕ) (a bits : ℕ) {m : ℕ} {r : Answer} (e : m ≡ waiterMatch ts ls a bits) where
-  pub posted-only : m ≡ 0 → {es₁ : List ℕ} → es₁ ≡ withEvent es a BITS bits → r ≡ answer 0 0 0
+module _ (ts ls es : List ℕ) (a bits : ℕ) {m : ℕ} (e : m ≡ waiterMatch ts ls a bits) where
+  pub posted-only : m ≡ 0 → {es₁ : List ℕ} {r : Answer} → es₁ ≡ withEvent es a BITS bits → r ≡ answer 0 0 0
       → after r (served ts ls es₁) ≡ postedBits (served ts ls es) a bits
   unfolding postedBits
   posted-only h f g = rw (is-same 0 e h) (objects-is (served ts ls es) 0 0 g f)
 
-  pub posted-serves : m ≢ 0 → {i : ℕ} {ts₁ ls₁ es₁ : List ℕ} → es₁ ≡ withEvent es a BITS (cleared bits m) → i ≡ first ls (eventLine a)
-      → queued ts₁ ls₁ ≡ woken i 0 m (queued ts ls) → r ≡ answer 0 0 1 → after r (served ts₁ ls₁ es₁) ≡ postedBits (served ts ls es) a bits
+  pub posted-serves : m ≢ 0 → {es₁ : List ℕ} → es₁ ≡ withEvent es a BITS (cleared bits m)
+      → {u : After Served} → u ≡ wakesFirst (eventLine a) m (served ts ls es₁) → u ≡ postedBits (served ts ls es) a bits
   unfolding postedBits
-  posted-serves h f k w g =
+  posted-serves h f w =
       rw (is-other 0 e h)
-      (both-is (served ts ls es) 0 1 g (w ∙ (λ z. woken (k z) 0 (e z) (queued ts ls))) (f ∙ ap (λ (n : ℕ). withEvent es a BITS (cleared bits n)) e))
+      (w ∙ ap (λ (os : List ℕ). wakesFirst (eventLine a) m (served ts ls os)) f
+      ∙ ap (λ (n : ℕ). wakesFirst (eventLine a) n (served ts ls (withEvent es a BITS (cleared bits n)))) e)
 
 -- the mask's bits are set first
 pub posted-with : (q : Served) (a mask : ℕ) {bits : ℕ} {u : After Served} → bits ≡ event (q .objects) a BITS

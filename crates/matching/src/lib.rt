@@ -133,7 +133,7 @@ pub fn post_code(events: &Events, a: u32, c: u32, d: u32) -> u32
     0
 }
 
-// With these bits posted: value 1 and the waiter ready, what it matches cleared; or value 0.
+// With these bits posted: the waiter ready, what it matches cleared, and its number the value; or value 0.
 pub fn post_bits(
     tasks: &mut Tasks,
     lines: &mut Lines,
@@ -150,9 +150,7 @@ pub fn post_bits(
         return rows::answers::accepted(0, 0);
     }
     words::set_event(events, i, BITS, bits & !m);
-    let first = rows::lines::first(lines, 24 + i);
-    waits::moves::wake(tasks, lines, first as u32, 0, m);
-    rows::answers::accepted(0, 1)
+    waits::moves::wake_first(tasks, lines, 24 + i, m)
 }
 
 pub fn post_effect(

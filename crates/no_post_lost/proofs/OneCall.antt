@@ -13,6 +13,7 @@ use Rattle.rules.specs.declared.Tables.{Tables}
 use Rattle.runs.specs.Run.{Asked, made, next}
 use Rattle.turns.proofs.Made.{Accepted, Refused, by-answer, semaphores-after}
 use Rattle.no_post_lost.specs.NoPostLost.{CallAndAnswer, setsCount, isPost, takesUnit, Counting}
+use Rattle.keeps.proofs.Standing.{task-0-never-waits}
 use Rattle.no_post_lost.proofs.SemaphoreCalls.{countIn, holds, set-to}
 
 -- the count of s in these tables
@@ -50,7 +51,7 @@ module _ (t : Tables) (typed : Typed t) (sound : Sound t) (s : ℕ) (q : Asked) 
   accepted-kept ok not-set now =
       let same = semaphores-after t q ok in
       let k =
-      holds t typed s (q .a) (q .b) (q .c) (q .d) (q .number) (ok .cases) (rw (ok .answer) at not-set) (rw same at (now .used), rw same at (now .kind)) in
+      holds t typed (task-0-never-waits t sound) s (q .a) (q .b) (q .c) (q .d) (q .number) (ok .cases) (rw (ok .answer) at not-set) (rw same at (now .used), rw same at (now .kind)) in
       record { before = record { used = k .before .0; kind = k .before .1 }; even = rw (ok .answer, same) (k .even) }
 
   pub one-call : setsCount s (answered t q) ≡ false → Counting s (next t q) → Kept
@@ -61,4 +62,4 @@ module _ (t : Tables) (typed : Typed t) (sound : Sound t) (s : ℕ) (q : Asked) 
   count-set e =
       by-answer t sound q
       (λ back. absurd (false≢true (sym (sets-none back) ∙ e)))
-      (λ ok. rw (semaphores-after t q ok) (set-to t typed s (q .a) (q .b) (q .c) (q .d) (q .number) (ok .cases) (rw (ok .answer) at e)))
+      (λ ok. rw (semaphores-after t q ok) (set-to t typed (task-0-never-waits t sound) s (q .a) (q .b) (q .c) (q .d) (q .number) (ok .cases) (rw (ok .answer) at e)))

@@ -13,7 +13,7 @@ use Rattle.fold.specs.Lists.{bit, zeros}
 use Rattle.fold.proofs.Laws.{same?}
 use Rattle.rules.specs.Answer.{After, Call, answer, codeOf, done, notMet, nowWaiting}
 use Rattle.rules.specs.Tables.{Typed, semaphoreCount, semaphoreWidth, semaphore, withSemaphore, semaphoreRow, USED, KIND, COUNT}
-use Rattle.rules.specs.Lines.{anyone, semaphoreLine}
+use Rattle.rules.specs.Lines.{anyone, first, semaphoreLine}
 use Rattle.rules.specs.Waits.{Served, served}
 use Rattle.rules.specs.Semaphores.{isBinary, most, freeSemaphore, createCases, createEffect, deleteEffect, pendEffect}
 use Rattle.rules.specs.Semaphores.{postCases, postEffect, countUp, resetCases, resetEffect, semaphoreCall}
@@ -25,6 +25,8 @@ use Rattle.laws.proofs.Rows.{field-same, field-row, field-out, row-same, row-ot
 use Rattle.laws.proofs.Calls.{chosen}
 use Rattle.runs.specs.Run.{asked}
 use Rattle.keeps.proofs.Codes.{accepted-is, object-used}
+use Rattle.keeps.proofs.Groups.{NeverWaits}
+use Rattle.keeps.proofs.Standing.{first-not}
 use Rattle.keeps.proofs.Objects.{free-is}
 use Rattle.turns.proofs.SameKind.{other-word, on-semaphores-or-not}
 use Rattle.no_post_lost.specs.NoPostLost.{CallAndAnswer, isAcceptedOn, setsCount, isPost, takesUnit}
@@ -36,11 +38,11 @@ CountingIn s ss = (semaphore ss s USED ≢ 0) × (isBinary (semaphore ss s KIND)
 abbrev pub countIn : ℕ → List ℕ → ℕ
 countIn s ss = semaphore ss s COUNT
 
--- ---- what a call counts, by the test b of its number, its code and its semaphore: a post that readied a waiter is a unit taken, and a post that
--- did not, a pend that was not done and a call elsewhere take none
-readied : (b : Bool) → bit b ≡ bit (b && true)
-readied true = refl
-readied false = refl
+-- ---- what a call counts, by the test b of its number, its code and its semaphore: a post that readied a waiter, whose value is not 0, is a unit taken,
+-- and a post that did not, a pend that was not done and a call elsewhere take none
+readied : (b : Bool) (value : ℕ) → value ≢ 0 → bit b ≡ bit (b && not (eqb value 0))
+readied true value named = rw (ne-eqb value 0 named)
+readied false value named = refl
 
 not-done : (b : Bool) → 0 ≡ bit (b && false || false)
 not-done true = refl
@@ -65,7 +67,7 @@ module _ (ss : List ℕ) (size : length ss ≡ 48) (a v : ℕ) where
   count-now inside = field-same semaphoreWidth semaphoreCount ss a COUNT v (omega arith) inside (omega arith)
 
 -- ---- an accepted call with these arguments
-module _ (t : Tables) (typed : Typed t) (s a b c d : ℕ) where
+module _ (t : Tables) (typed : Typed t) (never : NeverWaits 0 (t .lines)) (s a b c d : ℕ) where
   abbrev ss : List ℕ
   ss = t .semaphores
 
@@ -141,7 +143,7 @@ module _ (t : Tables) (typed : Typed t) (s a b c d : ℕ) where
       (λ _. still 0x22 ss (answer 0 nowWaiting 0) (λ f. refl) (not-done (isAcceptedOn 0x22 s (withAnswer 0x22 (answer 0 nowWaiting 0))))))
 
   -- 23 readies a waiter, who takes the unit, or counts one up
-  module _ (not-full : (not (isBinary (semaphore ss a KIND)) && leb 65535 (countIn a ss)) ≡ false) where
+  module _ (used : a < semaphoreCount) (not-full : (not (isBinary (semaphore ss a KIND)) && leb 65535 (countIn a ss)) ≡ false) where
     abbrev up : ℕ
     up = countUp (semaphore ss a KIND) (countIn a ss)
 
@@ -155,7 +157,10 @@ module _ (t : Tables) (typed : Typed t) (s a b c d : ℕ) where
     unfolding postEffect
     post-even =
         chosen (Leaves 0x23) (anyone (t .lines) (semaphoreLine a)) _ _
-        (λ _. still 0x23 ss (answer 0 done 1) (λ f. refl) (readied (isPost s (withAnswer 0x23 (answer 0 done 1)))))
+        (λ some.
+        let woken : ℕ = first (t .lines) (semaphoreLine a) in
+        still 0x23 ss (answer 0 done woken) (λ f. refl)
+        (readied (isPost s (withAnswer 0x23 (answer 0 done woken))) woken (first-not 0 (t .lines) never (semaphoreLine a) (omega arith) some)))
         (λ _.
         ⊎-elim
         (λ (i : s ≡ a) _ now.
@@ -195,7 +200,10 @@ module _ (t : Tables) (typed : Typed t) (s a b c d : ℕ) where
 
   at-23 : Holds 0x23
   unfolding callOf semaphoreCall postCases
-  at-23 z = post-even (accepted-is (callAt 0x23 .cases) z .at7)
+  at-23 z =
+      let ok = accepted-is (callAt 0x23 .cases) z in
+      let used = eqb-false (semaphore ss a USED) 0 (object-used _ (ltb a semaphoreCount) (ok .at3) (ok .at11)) in
+      post-even (row-used semaphoreWidth semaphoreCount ss a USED used) (ok .at7)
 
   at-24 : Holds 0x24
   unfolding callOf semaphoreCall resetEffect

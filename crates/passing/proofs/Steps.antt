@@ -8,8 +8,8 @@ use borrow.Author.Tests.{eq-eqb, ne-eqb}
 use lib.ListN.{drop, getD}
 use Rattle.rules.specs.Answer.{After, after, answer}
 use Rattle.rules.specs.Tables.{task, current, mailbox, messages, withMessages}
-use Rattle.rules.specs.Lines.{first, queued, moved, atBack}
-use Rattle.rules.specs.Waits.{Served, served, waiting, woken}
+use Rattle.rules.specs.Lines.{mailboxLine, first, queued, moved, atBack}
+use Rattle.rules.specs.Waits.{Served, served, waiting, woken, wakesFirst}
 use Rattle.rules.specs.Mailboxes.{waitsFirst, isFull, postEffect, oldestTaken, pendEffect}
 use Rattle.rules.specs.declared.Answer.{Answer}
 use Rattle.rules.specs.declared.Task.{Task}
@@ -28,11 +28,9 @@ module _ (ts ls st : List ℕ) (mode a limit word : ℕ) {r : Answer} where
       (requeued-is (served ts ls ms) 2 0 g (f ∙ ap (λ (i : ℕ). moved atBack i (waiting (task ts i) mode a limit word 0) (queued ts ls)) e))
 
 module _ (ts ls ms st : List ℕ) (a word limit : ℕ) {t : Bool} (is : t ≡ waitsFirst ts ls a 5) where
-  pub post-reader : t ≡ true → {i : ℕ} → i ≡ first ls (16 + a) → {ts₁ ls₁ : List ℕ} → queued ts₁ ls₁ ≡ woken i 0 word (queued ts ls)
-      → {r : Answer} → r ≡ answer 0 0 0 → after r (served ts₁ ls₁ ms) ≡ postEffect (served ts ls ms) st a word limit
+  pub post-reader : t ≡ true → {u : After Served} → u ≡ wakesFirst (mailboxLine a) word (served ts ls ms) → u ≡ postEffect (served ts ls ms) st a word limit
   unfolding postEffect
-  post-reader p e f g =
-      rw (sym is ∙ p) (requeued-is (served ts ls ms) 0 0 g (f ∙ ap (λ (i : ℕ). woken i 0 word (queued ts ls)) e))
+  post-reader p w = rw (sym is ∙ p) w
 
   module _ (p : t ≡ false) {f : Bool} (so : f ≡ isFull ms a) where
     pub post-full : f ≡ true → {u : After Served} → u ≡ notDone (served ts ls ms) st 6 a limit word → u ≡ postEffect (served ts ls ms) st a word limit

@@ -81,7 +81,7 @@ pub fn post_code(
     0
 }
 
-// The word goes to the first waiting reader, or to the back, or the post is not done at once.
+// The word goes to the first waiting reader, whose number is the value; or to the back, or the post is not done at once.
 pub fn post_effect(
     tasks: &mut Tasks,
     lines: &mut Lines,
@@ -94,9 +94,7 @@ pub fn post_effect(
     ensures { λ r. ⌜ after r (served (now (tasks .exit)) (now (lines .exit)) (now (mailboxes .exit))) ≡ postEffect (served (now (tasks .entry)) (now (lines .entry)) (now (mailboxes .entry))) (now (state .entry)) a word limit ⌝ }
 {
     if waits_first(tasks, lines, a, READING) {
-        let i = first(lines, a);
-        waits::moves::wake(tasks, lines, i, 0, word);
-        return rows::answers::accepted(0, 0);
+        return waits::moves::wake_first(tasks, lines, 16 + a as usize, word);
     }
     if is_full(mailboxes, a) {
         return not_done(tasks, lines, state, WRITING, a, limit, word);

@@ -6,13 +6,14 @@ use mathlib.Core.List.{List, [], _∷_, _++_}
 use Rattle.fold.specs.Lists.{zeros}
 use Rattle.fold.specs.Rule.{holds}
 use Rattle.rules.specs.Answer.{After, answer, accepted, refused, called, answered, named, codeOf, given, onObject, never, done}
-use Rattle.rules.specs.Tables.{task, forever, ready, sleeping, atSemaphore}
-use Rattle.rules.specs.Lines.{line, joined, queued, semaphoreLine, postedLine, activeLine, readyLine}
+use Rattle.rules.specs.Tables.{task, forever, ready, sleeping, atSemaphore, atEvent, reading, writing}
+use Rattle.rules.specs.Lines.{line, joined, queued, semaphoreLine, mailboxLine, eventLine, postedLine, activeLine, readyLine}
 use Rattle.rules.specs.Waits.{ticksFor, served}
 use Rattle.rules.specs.Tasks.{reprioritized}
 use Rattle.rules.specs.Swis.{posts, endEffect}
 use Rattle.rules.specs.Semaphores.{placeIn, postEffect}
 use Rattle.rules.specs.Events.{freeEvent, matched, postCases, postEffect as postEvent}
+use Rattle.rules.specs.Mailboxes.{postEffect as postMailbox, pendEffect as pendMailbox}
 use Rattle.rules.specs.Tick.{Ticked, taskTick, tickedOf, ticked}
 use Rattle.rules.specs.Dispatch.{started}
 use Rattle.rules.specs.Sound.{otherRule}
@@ -33,6 +34,21 @@ waiting = linesWith (semaphoreLine 0 has (1 ∷ 2 ∷ []) ∷ readyLine 0 has (0
 -- a counting semaphore with this count
 abbrev pub counting : ℕ → List ℕ
 counting n = 1 ∷ 0 ∷ n ∷ zeros 45
+
+-- tasks 1 and 2 are blocked in this mode at object 0 and hold this word, and task 2 stands before task 1 in this line
+abbrev pub blocked : ℕ → ℕ → List ℕ
+blocked mode word = (ready ∷ zeros 7) ++ (mode ∷ 5 ∷ 0 ∷ 0 ∷ word ∷ zeros 3) ++ (mode ∷ 5 ∷ 0 ∷ 0 ∷ word ∷ zeros 3) ++ zeros 232
+
+abbrev pub twoAt : ℕ → List ℕ
+unfolding linesWith
+twoAt j = linesWith (j has (2 ∷ 1 ∷ []) ∷ readyLine 0 has (0 ∷ []) ∷ [])
+
+-- a mailbox for one message: it is empty; it has this word
+abbrev pub empty : List ℕ
+empty = 1 ∷ zeros 79
+
+abbrev pub full : ℕ → List ℕ
+full word = 1 ∷ 1 ∷ word ∷ zeros 77
 
 -- a Swi of priority 3 and initial trigger 5, with this taken trigger
 abbrev pub taking : ℕ → List ℕ
@@ -98,10 +114,18 @@ pub record Sentences : Type 0 where
   pub wakes : line (postEffect (served (waiters 5 0) waiting (counting 0)) 0 .next .lines) (semaphoreLine 0) ≡ 2 ∷ []
   -- "or value 0 and count one up", where nobody waits
   pub counts : postEffect (served [] [] (counting 0)) 0 ≡ accepted done 0 (served [] [] (counting 1))
-  -- value 1 and a waiter ready, "or" the count: not both
+  -- a waiter ready, "or" the count: not both
   pub wakes-only : postEffect (served (waiters 5 0) waiting (counting 0)) 0 .next .objects ≡ counting 0
-  -- "33 post: .. value 1 if it did, else 0": nobody was served
+  -- "33 post: sets bits", value 0: nobody was served
   pub unserved : postEvent (served [] [] (bits 0)) 0 1 ≡ accepted done 0 (served [] [] (bits 1))
+  -- No. 8: "Let the value be the woken task's number": the first in line, at each of the three kinds
+  pub names-waiter : postEffect (served (blocked atSemaphore 0) (twoAt (semaphoreLine 0)) (counting 0)) 0 .answer ≡ answer 0 done 2
+  pub names-served : postEvent (served (blocked atEvent 1) (twoAt (eventLine 0)) (bits 0)) 0 1 .answer ≡ answer 0 done 2
+  pub names-reader : postMailbox (served (blocked reading 0) (twoAt (mailboxLine 0)) empty) [] 0 9 0 .answer ≡ answer 0 done 2
+  -- "and 0 if none was woken": a word that is stored
+  pub stores : postMailbox (served [] [] empty) [] 0 9 0 ≡ accepted done 0 (served [] [] (full 9))
+  -- "43 pend: value the oldest word", also where a writer is let in
+  pub lets-in : pendMailbox (served (blocked writing 8) (twoAt (mailboxLine 0)) (full 9)) [] 0 0 .answer ≡ answer 0 done 9
   -- "the whole and-mask if all its bits are posted", and no part of it
   pub no-part : matched 1 3 0 ≡ 0
   pub whole-mask : matched 3 3 0 ≡ 3
@@ -144,6 +168,11 @@ sentences =
       counts = refl;
       wakes-only = refl;
       unserved = refl;
+      names-waiter = refl;
+      names-served = refl;
+      names-reader = refl;
+      stores = refl;
+      lets-in = refl;
       no-part = refl;
       whole-mask = refl;
       leaves = refl;

@@ -9,7 +9,7 @@ use Rattle.fold.specs.Find.{firstBelow}
 use Rattle.rules.specs.Answer.{Cases, given, onObject, never, Call, called, After, accepted, unknown, done, notMet, nowWaiting, notT, unused}
 use Rattle.rules.specs.Tables.{eventCount, eventWidth, event, withEvent, eventRow, task, current, atEvent, USED, BITS}
 use Rattle.rules.specs.Lines.{eventLine, anyone, first, moved, atBack}
-use Rattle.rules.specs.Waits.{Served, served, queue, requeued, outside, switchOff, idle, waiting, woken}
+use Rattle.rules.specs.Waits.{Served, served, queue, requeued, outside, switchOff, idle, waiting, wakesFirst}
 use Rattle.rules.specs.Swis.{cleared}
 
 unfoldable pub freeEvent : List ℕ → ℕ
@@ -59,6 +59,7 @@ pendEffect q st a b c limit =
     (withEvent (q .objects) a BITS (cleared (event (q .objects) a BITS) (matched (event (q .objects) a BITS) b c)))))
 
 -- ---- "33 post (event, mask; T S I): sets bits, then by the same match serves the waiter; value 1 if it did, else 0. Bits persist."
+-- No. 8, in place of value 1: "the woken task's number, and 0 if none was woken"
 unfoldable pub postCases : List ℕ → ℕ → ℕ → ℕ → Cases
 postCases es a c d = onObject eventCount a (event es a USED) (given 4 (unused 0 0 c d) never)
 
@@ -71,9 +72,8 @@ waiterMatch ts ls a bits =
 unfoldable pub postedBits : Served → ℕ → ℕ → After Served
 postedBits q a bits =
     if (eqb (waiterMatch (q .tasks) (q .lines) a bits) 0) (accepted done 0 (served (q .tasks) (q .lines) (withEvent (q .objects) a BITS bits)))
-    (accepted done 1
-    (requeued (served (q .tasks) (q .lines) (withEvent (q .objects) a BITS (cleared bits (waiterMatch (q .tasks) (q .lines) a bits))))
-    (woken (first (q .lines) (eventLine a)) 0 (waiterMatch (q .tasks) (q .lines) a bits) (queue q))))
+    (wakesFirst (eventLine a) (waiterMatch (q .tasks) (q .lines) a bits)
+    (served (q .tasks) (q .lines) (withEvent (q .objects) a BITS (cleared bits (waiterMatch (q .tasks) (q .lines) a bits)))))
 
 abbrev pub postEffect : Served → ℕ → ℕ → After Served
 postEffect q a mask = postedBits q a (bitOr (event (q .objects) a BITS) mask)

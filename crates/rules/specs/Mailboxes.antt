@@ -9,7 +9,7 @@ use Rattle.fold.specs.Find.{firstBelow}
 use Rattle.rules.specs.Answer.{Cases, given, onObject, never, Call, called, After, accepted, unknown, done, notMet, nowWaiting, notT, unused}
 use Rattle.rules.specs.Tables.{mailboxCount, mailboxWidth, mailboxMost, mailbox, mailboxRow, messages, withMessages, task, current, reading, writing, CAPACITY, MESSAGES}
 use Rattle.rules.specs.Lines.{mailboxLine, anyone, first, moved, atBack}
-use Rattle.rules.specs.Waits.{Served, served, queue, requeued, outside, switchOff, idle, waiting, woken}
+use Rattle.rules.specs.Waits.{Served, served, queue, requeued, outside, switchOff, idle, waiting, woken, wakesFirst}
 
 unfoldable pub freeMailbox : List ℕ → ℕ
 freeMailbox ms = firstBelow mailboxCount (λ i. eqb (mailbox ms i CAPACITY) 0)
@@ -45,6 +45,7 @@ unfoldable pub deleteEffect : Served → ℕ → After Served
 deleteEffect q a = accepted done 0 (served (q .tasks) (q .lines) (mailboxRow (q .objects) a (zeros mailboxWidth)))
 
 -- ---- "42 post (mailbox, word, limit): to the first waiting reader, else to the back, else wait holding the word."
+-- No. 8: "a mailbox post that goes straight to a reader answers that reader's number"
 unfoldable pub postWaits : List ℕ → List ℕ → List ℕ → ℕ → ℕ → Bool
 postWaits ts ls ms a limit = not (waitsFirst ts ls a reading) && isFull ms a && not (eqb limit 0)
 
@@ -60,7 +61,7 @@ postCases ts ls ms st x a c d =
 unfoldable pub postEffect : Served → List ℕ → ℕ → ℕ → ℕ → After Served
 postEffect q st a word limit =
     if (waitsFirst (q .tasks) (q .lines) a reading)
-    (accepted done 0 (requeued q (woken (first (q .lines) (mailboxLine a)) 0 word (queue q))))
+    (wakesFirst (mailboxLine a) word q)
     (if (isFull (q .objects) a)
     (if (eqb limit 0) (accepted notMet 0 q)
     (accepted nowWaiting 0
@@ -86,7 +87,7 @@ oldestTaken q a =
     (requeued
     (served (q .tasks) (q .lines)
     (withMessages (q .objects) a (drop 1 (messages (q .objects) a) ++ (task (q .tasks) (first (q .lines) (mailboxLine a)) .first ∷ []))))
-    (woken (first (q .lines) (mailboxLine a)) 0 0 (queue q)))
+    (woken (first (q .lines) (mailboxLine a)) done 0 (queue q)))
     (served (q .tasks) (q .lines) (withMessages (q .objects) a (drop 1 (messages (q .objects) a))))
 
 unfoldable pub pendEffect : Served → List ℕ → ℕ → ℕ → After Served

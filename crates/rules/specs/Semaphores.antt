@@ -7,8 +7,8 @@ use Rattle.fold.specs.Lists.{zeros}
 use Rattle.fold.specs.Find.{firstBelow}
 use Rattle.rules.specs.Answer.{Cases, given, onObject, never, Call, called, After, accepted, unknown, done, notMet, nowWaiting, notT, unused}
 use Rattle.rules.specs.Tables.{semaphoreCount, semaphoreWidth, semaphore, withSemaphore, semaphoreRow, task, current, atSemaphore, USED, KIND, COUNT}
-use Rattle.rules.specs.Lines.{semaphoreLine, anyone, first, moved, atBack, byPriority}
-use Rattle.rules.specs.Waits.{Served, served, queue, requeued, outside, switchOff, idle, waiting, woken}
+use Rattle.rules.specs.Lines.{semaphoreLine, anyone, moved, atBack, byPriority}
+use Rattle.rules.specs.Waits.{Served, served, queue, requeued, outside, switchOff, idle, waiting, wakesFirst}
 
 unfoldable pub freeSemaphore : List ℕ → ℕ
 freeSemaphore ss = firstBelow semaphoreCount (λ i. eqb (semaphore ss i USED) 0)
@@ -82,6 +82,7 @@ pendEffect q st a limit =
     (queue q)))))
 
 -- ---- "23 post (T S I): value 1 and the first waiter ready, or value 0 and count one up; binary at 1 stays 1; counting at 65,535 is 7 (house)."
+-- No. 8, in place of value 1: "the woken task's number, and 0 if none was woken"
 unfoldable pub postCases : List ℕ → ℕ → ℕ → ℕ → ℕ → Cases
 postCases ss a b c d =
     onObject semaphoreCount a (semaphore ss a USED)
@@ -94,7 +95,7 @@ countUp kind n = if (ltb n (most kind)) (n + 1) n
 
 unfoldable pub postEffect : Served → ℕ → After Served
 postEffect q a =
-    if (anyone (q .lines) (semaphoreLine a)) (accepted done 1 (requeued q (woken (first (q .lines) (semaphoreLine a)) 0 0 (queue q))))
+    if (anyone (q .lines) (semaphoreLine a)) (wakesFirst (semaphoreLine a) 0 q)
     (accepted done 0
     (served (q .tasks) (q .lines)
     (withSemaphore (q .objects) a COUNT (countUp (semaphore (q .objects) a KIND) (semaphore (q .objects) a COUNT)))))

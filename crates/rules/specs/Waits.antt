@@ -3,9 +3,9 @@ use Prim.Native.Nat.{ℕ}
 use mathlib.Core.Bool.{Bool, not, _&&_, _||_, cond as if}
 use mathlib.Core.List.{List}
 use lib.Dec.{eqb}
-use Rattle.rules.specs.Answer.{T}
+use Rattle.rules.specs.Answer.{T, After, accepted, done}
 use Rattle.rules.specs.Tables.{task, state, current, forever, ready, SWIS, TASKS}
-use Rattle.rules.specs.Lines.{Queued, queued, moved, atBack}
+use Rattle.rules.specs.Lines.{Queued, queued, first, moved, atBack}
 use Rattle.rules.specs.declared.Task.{Task}
 
 -- "a limit other than 0 outside a task"; "Pend and post with a limit may be called by S and I with limit 0."
@@ -60,3 +60,8 @@ queue q = queued (q .tasks) (q .lines)
 
 abbrev pub requeued : Served → Queued → Served
 requeued q x = served (x .tasks) (x .lines) (q .objects)
+
+-- an accepted post serves the first in line j, where somebody stands: its wait leaves outcome 0 and value v, and it is ready. No. 8: "Let the value be the
+-- woken task's number"
+abbrev pub wakesFirst : ℕ → ℕ → Served → After Served
+wakesFirst j v q = accepted done (first (q .lines) j) (requeued q (woken (first (q .lines) j) done v (queue q)))

@@ -21,7 +21,7 @@ two-waiters =
     ∷ interruptOut ⇒ said 0 0 0 (T 0)
     ∷ post 0 ⇒ said 0 0 1 (T 1)
     ∷ waitersAt 0 ⇒ saw 1
-    ∷ post 0 ⇒ said 0 0 1 (T 2)
+    ∷ post 0 ⇒ said 0 0 2 (T 2)
     ∷ []
 
 pub waiters : fresh runs two-waiters

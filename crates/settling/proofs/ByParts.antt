@@ -1,14 +1,14 @@
 -- The code's cases of dispatch after a call: what can be left to do, by range, and its parts one after the other.
 use Prim.Native.Nat.{ℕ, _≤_, _<_}
-use mathlib.Core.Path.{_≡_, refl}
+use mathlib.Core.Path.{_≡_, refl, ap, _∙_}
 use mathlib.Core.Logic.{_≢_, ⊎-elim}
 use mathlib.Core.Bool.{Bool, true, false, not, _&&_, _||_, cond as if}
 use mathlib.Core.List.{List}
 use native.Mathlib.Omega.{arith}
 use borrow.Author.Tests.{eq-eqb, ne-eqb}
-use lib.Dec.{eqb, ltb}
+use lib.Dec.{eqb}
 use Rattle.fold.proofs.Laws.{lt-or-le}
-use Rattle.rules.specs.Answer.{notMet, nowWaiting}
+use Rattle.rules.specs.Answer.{done}
 use Rattle.rules.specs.Tables.{state, DEPTH}
 use Rattle.rules.specs.Swis.{Posts, posts}
 use Rattle.rules.specs.Dispatch.{swiDue, swiDispatched, taskDispatched, dispatchedOf}
@@ -17,7 +17,7 @@ use Rattle.keeps.proofs.Waiting.{both}
 use Rattle.keeps.proofs.Chosen.{chosen}
 use Rattle.keeps.proofs.Objects.{other-fails}
 use Rattle.laws.proofs.Numbers.{within, past}
-use Rattle.settling.specs.Settle.{tasksOnly, bothParts, leftBy, partsSettled, settledAfter}
+use Rattle.settling.specs.Settle.{tasksOnly, bothParts, waitsOrWakes, leftBy, partsSettled, settledAfter}
 use Rattle.settling.specs.declared.Parts.{Parts}
 
 -- ---- what can be left to do, by range
@@ -30,17 +30,20 @@ module _ (n o v : ℕ) {r : Parts} where
   unfolding leftBy
   swis-part l h e = rw (past n 0x10 l 0x00 refl, within n 0x10 l h) e
 
-  pub semaphores-part : 0x20 ≤ n → n < 0x30 → r ≡ tasksOnly (eqb o nowWaiting || (eqb n 0x23 && not (eqb v 0))) → r ≡ leftBy n o v
+  pub semaphores-part : 0x20 ≤ n → n < 0x30 → {some : Bool} → some ≡ waitsOrWakes 0x23 n o v → r ≡ tasksOnly some → r ≡ leftBy n o v
   unfolding leftBy
-  semaphores-part l h e = let p = past n 0x20 l in rw (p 0x00 refl, p 0x10 refl, within n 0x20 l h) e
+  semaphores-part l h m e = let p = past n 0x20 l in rw (p 0x00 refl, p 0x10 refl, within n 0x20 l h) (e ∙ ap tasksOnly m)
 
-  pub events-part : 0x30 ≤ n → n < 0x40 → r ≡ tasksOnly (eqb o nowWaiting || (eqb n 0x33 && not (eqb v 0))) → r ≡ leftBy n o v
+  pub events-part : 0x30 ≤ n → n < 0x40 → {some : Bool} → some ≡ waitsOrWakes 0x33 n o v → r ≡ tasksOnly some → r ≡ leftBy n o v
   unfolding leftBy
-  events-part l h e = let p = past n 0x30 l in rw (p 0x00 refl, p 0x10 refl, p 0x20 refl, within n 0x30 l h) e
+  events-part l h m e = let p = past n 0x30 l in rw (p 0x00 refl, p 0x10 refl, p 0x20 refl, within n 0x30 l h) (e ∙ ap tasksOnly m)
 
-  pub mailboxes-part : 0x40 ≤ n → n < 0x50 → r ≡ tasksOnly (ltb 0x41 n && not (eqb o notMet)) → r ≡ leftBy n o v
+  pub mailboxes-part : 0x40 ≤ n → n < 0x50 → {some : Bool} → some ≡ waitsOrWakes 0x42 n o v → r ≡ tasksOnly (some || (eqb n 0x43 && eqb o done)) → r ≡ leftBy n o v
   unfolding leftBy
-  mailboxes-part l h e = let p = past n 0x40 l in rw (p 0x00 refl, p 0x10 refl, p 0x20 refl, p 0x30 refl, within n 0x40 l h) e
+  mailboxes-part l h m e =
+      let p = past n 0x40 l in
+      rw (p 0x00 refl, p 0x10 refl, p 0x20 refl, p 0x30 refl, within n 0x40 l h)
+      (e ∙ ap (λ (some : Bool). tasksOnly (some || (eqb n 0x43 && eqb o done))) m)
 
   pub no-part : 0x50 ≤ n → n < 0x70 → r ≡ tasksOnly false → r ≡ leftBy n o v
   unfolding leftBy

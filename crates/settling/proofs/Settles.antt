@@ -16,6 +16,7 @@ use Rattle.rules.specs.declared.Tables.{Tables}
 use Rattle.keeps.proofs.Groups.{SwisStay}
 use Rattle.keeps.proofs.Chosen.{chosen}
 use Rattle.keeps.proofs.Nothing.{tasks-left, nothing-left}
+use Rattle.keeps.proofs.Standing.{task-0-never-waits}
 use Rattle.keeps.proofs.Quiet.{tasks-quiet, semaphores-quiet, events-quiet, mailboxes-quiet}
 use Rattle.settling.specs.Settle.{tasksOnly, bothParts, leftBy, partsSettled, settledAfter}
 use Rattle.settling.specs.declared.Parts.{Parts}
@@ -60,19 +61,19 @@ module _ (t : Tables) (s : Sound t) where
         (ranged (inRange number 0x20)
         (record {
           rule = λ z.
-              let l = semaphores-quiet (served (t .tasks) (t .lines) (t .semaphores)) (s .tasks) (t .state) x number a b c d .leaves z in
+              let l = semaphores-quiet (served (t .tasks) (t .lines) (t .semaphores)) (s .tasks) (task-0-never-waits t s) (t .state) x number a b c d .leaves z in
               of-tasks _ _ (l .swis) (l .none);
         })
         (ranged (inRange number 0x30)
         (record {
           rule = λ z.
-              let l = events-quiet (served (t .tasks) (t .lines) (t .events)) (s .tasks) (t .state) x number a b c d .leaves z in
+              let l = events-quiet (served (t .tasks) (t .lines) (t .events)) (s .tasks) (task-0-never-waits t s) (t .state) x number a b c d .leaves z in
               of-tasks _ _ (l .swis) (l .none);
         })
         (ranged (inRange number 0x40)
         (record {
           rule = λ z.
-              let l = mailboxes-quiet (served (t .tasks) (t .lines) (t .mailboxes)) (s .tasks) (t .state) x number a b c d .leaves z in
+              let l = mailboxes-quiet (served (t .tasks) (t .lines) (t .mailboxes)) (s .tasks) (task-0-never-waits t s) (t .state) x number a b c d .leaves z in
               of-tasks _ _ (l .swis) (l .none);
         })
         (ranged (inRange number 0x50) (record { rule = λ _. nothing })

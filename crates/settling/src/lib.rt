@@ -7,7 +7,7 @@ ghost use mathlib.Core.Path.{_≡_};
 ghost use mathlib.Core.Bool.{cond};
 ghost use Rattle.rules.specs.Dispatch.{swiDispatched, taskDispatched, dispatchedOf};
 ghost use Rattle.rules.specs.Swis.{posts};
-ghost use Rattle.settling.specs.Settle.{tasksOnly, bothParts, leftBy, settledAfter};
+ghost use Rattle.settling.specs.Settle.{tasksOnly, bothParts, waitsOrWakes, leftBy, settledAfter};
 
 // Which parts of the dispatch rule can have something to do: the Swis', the tasks'.
 struct Parts {
@@ -35,6 +35,14 @@ fn both_parts() -> Parts
     }
 }
 
+// Whether a call at a semaphore, an event or a mailbox, whose post is this number, has begun a wait or
+// woken a task: the post's value is who was woken.
+fn waits_or_wakes(post: u32, number: u32, outcome: u32, value: u32) -> bool
+    ensures { λ r. ⌜ r ≡ waitsOrWakes post number outcome value ⌝ }
+{
+    (outcome == 2) | ((number == post) & (value != 0))
+}
+
 // What an accepted call on sound tables can have left to do. Before it there was nothing; calls of
 // Swis and switches apart no Swi moves, and the number and the answer tell where no task has.
 fn left_by(number: u32, outcome: u32, value: u32) -> Parts
@@ -43,9 +51,11 @@ fn left_by(number: u32, outcome: u32, value: u32) -> Parts
     match number {
         0x00..=0x0f => tasks_only((number != 0x01) & (number != 0x06)),
         0x10..=0x1f => both_parts(),
-        0x20..=0x2f => tasks_only((outcome == 2) | ((number == 0x23) & (value != 0))),
-        0x30..=0x3f => tasks_only((outcome == 2) | ((number == 0x33) & (value != 0))),
-        0x40..=0x4f => tasks_only((0x41 < number) & (outcome != 1)),
+        0x20..=0x2f => tasks_only(waits_or_wakes(0x23, number, outcome, value)),
+        0x30..=0x3f => tasks_only(waits_or_wakes(0x33, number, outcome, value)),
+        0x40..=0x4f => tasks_only(
+            waits_or_wakes(0x42, number, outcome, value) | ((number == 0x43) & (outcome == 0)),
+        ),
         0x50..=0x6f => tasks_only(false),
         _ => both_parts(),
     }

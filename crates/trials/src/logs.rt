@@ -122,7 +122,7 @@ pub(crate) fn try_log(path: &[u8]) {
         os::fail(path);
         return;
     }
-    let mut log = io::buffer();
+    let mut log = io::large_buffer();
     let n = io::read_full(fd, &mut log);
     libc::close(fd);
     print_heading(path);

@@ -13,7 +13,8 @@ pub mod Ahead
 pub mod Made
 pub mod Reach
 pub mod SameKind
-pub mod SemaphorePosts
+pub mod Wakes
+pub mod Posts
 pub mod Turns
 pub mod Begins
 pub mod Waits

@@ -38,11 +38,11 @@ module _ (t : Tables) (q : Asked) (z : codeOf (callFor t q .cases) ≡ 0) where
   of-post e =
       row-used semaphoreWidth semaphoreCount (t .semaphores) (q .a) 0 (eqb-false _ _ (object-used _ _ (accepted-is _ (rw e at z) .at3) (accepted-is _ (rw e at z) .at11)))
 
-  of-event : q .number ≡ 0x33 → q .a < eventCount
+  pub of-event : q .number ≡ 0x33 → q .a < eventCount
   unfolding callOf Events.eventCall Events.postCases
   of-event e = row-used eventWidth eventCount (t .events) (q .a) 0 (eqb-false _ _ (object-used _ _ (accepted-is _ (rw e at z) .at3) (accepted-is _ (rw e at z) .at11)))
 
-  of-mailbox : (q .number ≡ 0x42) ⊎ (q .number ≡ 0x43) → q .a < mailboxCount
+  pub of-mailbox : (q .number ≡ 0x42) ⊎ (q .number ≡ 0x43) → q .a < mailboxCount
   unfolding callOf Mailboxes.mailboxCall Mailboxes.postCases Mailboxes.pendCases
   of-mailbox (inl e) = row-used mailboxWidth mailboxCount (t .mailboxes) (q .a) 0 (eqb-false _ _ (object-used _ _ (accepted-is _ (rw e at z) .at3) (accepted-is _ (rw e at z) .at11)))
   of-mailbox (inr e) = row-used mailboxWidth mailboxCount (t .mailboxes) (q .a) 0 (eqb-false _ _ (object-used _ _ (accepted-is _ (rw e at z) .at3) (accepted-is _ (rw e at z) .at11)))

@@ -1,6 +1,6 @@
 -- One call and a task's turn: a ready task that does not run, and a task that waits without end at a semaphore in arrival order.
 use Prim.Native.Nat.{ℕ, _+_, _<_, _≤_}
-use mathlib.Core.Path.{_≡_, sym, ap, _∙_}
+use mathlib.Core.Path.{_≡_, sym, ap, subst, _∙_}
 use mathlib.Core.Logic.{_≢_, _⊎_, inl, inr, ⊎-elim}
 use mathlib.Core.Bool.{Bool, true, false, cond as if, and-false}
 use mathlib.Core.List.{List, [], Sublistᴰ, Sublistᴰ·refl}
@@ -36,7 +36,8 @@ use Rattle.turns.proofs.Calls.{call-same}
 use Rattle.turns.proofs.Ahead.{sub-length, ahead-first, first-ahead, ahead-back}
 use Rattle.turns.proofs.Made.{Accepted, by-answer, tasks-after, semaphores-after, line-after}
 use Rattle.turns.proofs.Reach.{Reaches, atSemaphore, atEvent, atMailbox, nobody, reaches, reached-line, not-first}
-use Rattle.turns.proofs.SemaphorePosts.{foremost, foremost-readied, others-stay, foremost-gone}
+use Rattle.turns.proofs.Wakes.{ServesFirst, foremost-readied, others-stay, foremost-gone}
+use Rattle.turns.proofs.Posts.{semaphore-wakes}
 use Rattle.turns.proofs.SameKind.{kind-kept}
 
 -- the running thread is a task: the current one
@@ -216,8 +217,11 @@ module _ (t : Tables) (typed : Typed t) (sound : Sound t) (s i : ℕ) (w : Waite
 
     -- ---- a post on s serves the first in line
     module _ (number : q .number ≡ 0x23) (at : q .a ≡ s) where
+      wakes : ServesFirst t q (semaphoreLine s) 0
+      wakes = subst (λ (a : ℕ). ServesFirst t q (semaphoreLine a) 0) at (semaphore-wakes t q ok number (rw at has-waiters))
+
       abbrev x : ℕ
-      x = foremost t typed sound q ok s number at has-waiters
+      x = first (t .lines) (semaphoreLine s)
 
       is-post : isPost s t q ≡ true
       is-post = rw (eq-eqb _ _ number, eq-eqb _ _ at, eq-eqb _ _ (ok .code))
@@ -225,7 +229,7 @@ module _ (t : Tables) (typed : Typed t) (sound : Sound t) (s i : ℕ) (w : Waite
       serves : x ≡ i → Served s i t q
       serves e =
           let row : task (next t q .tasks) i ≡ readied (task (t .tasks) x) 0 0 =
-          rw (← e) (foremost-readied t typed sound q ok s number at has-waiters) in
+          rw (← e) (foremost-readied t typed sound q ok (semaphoreLine s) 0 wakes) in
           record {
             post = is-post;
             first = ahead-first i (line (t .lines) (semaphoreLine s)) someone e;
@@ -237,8 +241,8 @@ module _ (t : Tables) (typed : Typed t) (sound : Sound t) (s i : ℕ) (w : Waite
       passes : x ≢ i → Stays s i t q
       passes n =
           let d : i ≢ x = λ e. n (sym e) in
-          let row = others-stay t typed sound q ok s number at has-waiters i d in
-          let gone = foremost-gone t typed sound q ok s number at has-waiters in
+          let row = others-stay t typed sound q ok (semaphoreLine s) 0 wakes i d in
+          let gone = foremost-gone t typed sound q ok (semaphoreLine s) 0 wakes in
           let before : 0 < count x (beforeAt s i t) = first-ahead i (line (t .lines) (semaphoreLine s)) someone n in (
             record {
               blocked = rw row (w .blocked);

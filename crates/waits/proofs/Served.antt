@@ -8,8 +8,8 @@ use native.Mathlib.Omega.{arith}
 use borrow.Author.Tests.{eq-eqb, ne-eqb, lt-ltb, le-ltb}
 use lib.Dec.{eqb, ltb}
 use Rattle.rules.specs.Answer.{after, accepted, answer}
-use Rattle.rules.specs.Lines.{Queued, queued}
-use Rattle.rules.specs.Waits.{Served, served, requeued}
+use Rattle.rules.specs.Lines.{Queued, queued, first}
+use Rattle.rules.specs.Waits.{Served, served, requeued, woken, wakesFirst}
 use Rattle.rules.specs.declared.Answer.{Answer}
 
 -- an answer and the tables, each equal to what is said of it
@@ -29,15 +29,16 @@ module _ (q : Served) (o v : ℕ) {r : Answer} (is : r ≡ answer 0 o v) where
   pub requeued-is : {ts₁ ls₁ : List ℕ} {x : Queued} → queued ts₁ ls₁ ≡ x → after r (served ts₁ ls₁ (q .objects)) ≡ accepted o v (requeued q x)
   requeued-is e = accepted-is o v is (ap (requeued q) e)
 
-  -- a task moved, and the objects changed
-  pub both-is : {ts₁ ls₁ os₁ os : List ℕ} {x : Queued} → queued ts₁ ls₁ ≡ x → os₁ ≡ os
-      → after r (served ts₁ ls₁ os₁) ≡ accepted o v (requeued (served (q .tasks) (q .lines) os) x)
-  both-is e f = accepted-is o v is (λ z. served (e z .tasks) (e z .lines) (f z))
-
 -- a new object: its number is the value, and its row is stored
 pub made-is : (q : Served) (row : ℕ → List ℕ) (n : ℕ) {i : ℕ} {os₁ : List ℕ} {r : Answer} → i ≡ n → os₁ ≡ row i → r ≡ answer 0 0 i
     → after r (served (q .tasks) (q .lines) os₁) ≡ accepted 0 n (served (q .tasks) (q .lines) (row n))
 made-is q row n a e f = objects-is q 0 n (f ∙ ap (answer 0 0) a) (e ∙ ap row a)
+
+-- a post wakes the first in line j, and its number is the value
+pub first-woken : (j v : ℕ) (ts ls : List ℕ) {i : ℕ} {ts₁ ls₁ : List ℕ} {r : Answer} → i ≡ first ls j
+    → queued ts₁ ls₁ ≡ woken i 0 v (queued ts ls) → r ≡ answer 0 0 i → (os : List ℕ) → after r (served ts₁ ls₁ os) ≡ wakesFirst j v (served ts ls os)
+first-woken j v ts ls f w a os =
+    requeued-is (served ts ls os) 0 (first ls j) (a ∙ ap (answer 0 0) f) (w ∙ ap (λ (i : ℕ). woken i 0 v (queued ts ls)) f)
 
 -- ---- a number that was read, tested against n
 module _ (n : ℕ) {v w : ℕ} (is : v ≡ w) where

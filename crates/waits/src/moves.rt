@@ -1,12 +1,15 @@
 // A task leaves its line, gets a new row, and enters the line of that row.
+use rules::Answer;
 use rules::Lines;
 use rules::Task;
 use rules::Tasks;
 ghost use mathlib.Core.Path.{_≡_};
+ghost use mathlib.Core.List.{List};
 ghost use Prim.Native.Nat.{ℕ, _≤_};
+ghost use Rattle.rules.specs.Answer.{after};
 ghost use Rattle.rules.specs.Tables.{task};
 ghost use Rattle.rules.specs.Lines.{line, homeOf, queued, moved, atBack, byPriority, entered};
-ghost use Rattle.rules.specs.Waits.{waiting, woken};
+ghost use Rattle.rules.specs.Waits.{waiting, woken, served, wakesFirst};
 
 // How many stand in line j before the first of a priority lower than p.
 pub fn place(tasks: &Tasks, lines: &Lines, j: usize, p: u32) -> usize
@@ -72,6 +75,15 @@ pub fn wake(tasks: &mut Tasks, lines: &mut Lines, i: u32, outcome: u32, value: u
         value,
     };
     move_back(tasks, lines, i, k);
+}
+
+// The first in line j is woken by a post, its wait done with this value. The answer's value is its number.
+pub fn wake_first(tasks: &mut Tasks, lines: &mut Lines, j: usize, value: u32) -> Answer
+    ensures { λ r. ⌜ ((os : List ℕ) → after r (served (now (tasks .exit)) (now (lines .exit)) os) ≡ wakesFirst j value (served (now (tasks .entry)) (now (lines .entry)) os)) ⌝ }
+{
+    let i = rows::lines::first(lines, j) as u32;
+    wake(tasks, lines, i, 0, value);
+    rows::answers::accepted(0, i)
 }
 
 // A task's row once it waits in this mode, at this object, with this limit, holding first and second.

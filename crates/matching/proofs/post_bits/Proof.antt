@@ -14,7 +14,4 @@ post-bits-spec =
     (λ c κs. search needs)
     (λ c. search needs)
     (λ c κs. search needs)
-    (λ c. search needs)
-    (λ c κs. search needs)
-    (λ c κs. search needs)
-    (λ c. let b = c .before .before .before .before .before .before .before .before .before .before .before .before in posted-serves (b .args .tasks .now) (b .args .lines .now) (b .args .events .now) (b .args .a) (b .args .bits) (c .before .before .before .before .before .before .before .before .before .waiter-match .ensures) (c .before .before .before .before .before .before .before .before .if1 .left) (c .before .before .before .before .before .before .set-event2 .ensures) (c .before .before .before .before .first .ensures) (c .before .wake .ensures) (c .accepted2 .ensures)))
+    (λ c. let stored = c .before .before .before in let test = stored .before .before in let b = test .before .before .before .before in posted-serves (b .args .tasks .now) (b .args .lines .now) (b .args .events .now) (b .args .a) (b .args .bits) (test .before .waiter-match .ensures) (test .if1 .left) (stored .set-event2 .ensures) (c .wake-first .ensures _)))
