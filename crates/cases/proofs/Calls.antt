@@ -6,7 +6,8 @@ use Rattle.rules.specs.Fresh.{fresh}
 use Rattle.rules.proofs.Runs.{Line, _runs_, AllRun, _⇒_, asked, said, saw, T, S, I, createTask, deleteTask, setPriority, yield, end, sleep}
 use Rattle.rules.proofs.Runs.{lastResult, createSwi, deleteSwi, postSwi, endSwi, postedOf, createSemaphore, pend, createMailbox}
 use Rattle.rules.proofs.Runs.{deleteMailbox, postMailbox, pendMailbox, createClock, startClock, stopClock, ticksOf, swisOff, restoreSwis}
-use Rattle.rules.proofs.Runs.{post, deleteSemaphore, createEvent, deleteEvent, pendEvent, postEvent, deleteClock, tasksOff, restoreTasks, interruptIn, interruptOut, tick}
+use Rattle.rules.proofs.Runs.{post, deleteSemaphore, createEvent, deleteEvent, pendEvent, postEvent, deleteClock, tasksOff, restoreTasks}
+use Rattle.rules.proofs.Runs.{interruptIn, interruptOut, tick}
 use Rattle.rules.proofs.Faster.{faster, quickly, fresh-sound}
 
 -- "Tasks join queues at the back."; "03 yield"; "02 set priority: value the old one"; "05 sleep"; "04 end"; "01 delete: terminated only"

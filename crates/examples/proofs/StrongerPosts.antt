@@ -1,5 +1,5 @@
 -- Request No. 12 says no more than is true: for each must-fail edit of `no_post_lost`, the statement that it makes, denied by a run. That is the run of
--- `Posts`, where what is counted wrongly gives two sides that differ; and for what a post's value tells one more post after it.
+-- `Posts`, where what is counted wrongly gives two sides that differ; and for what a post's value tells one more post after it, and a run in which task 2 is woken.
 use Prim.Native.Nat.{ℕ, _+_}
 use mathlib.Core.Path.{_≡_, refl, sym, ap, _∙_}
 use mathlib.Core.Logic.{_≢_}
@@ -12,7 +12,7 @@ use borrow.Author.Tests.{eq-eqb}
 use Rattle.fold.specs.Lists.{zeros}
 use Rattle.rules.specs.Answer.{answer, done, notMet, nowWaiting}
 use Rattle.rules.specs.Tables.{Typed, forever, ready, tables, semaphore, USED, KIND, COUNT}
-use Rattle.rules.specs.Lines.{line, semaphoreLine, readyLine}
+use Rattle.rules.specs.Lines.{readyLine}
 use Rattle.rules.specs.Semaphores.{isBinary}
 use Rattle.rules.specs.Fresh.{fresh}
 use Rattle.rules.specs.Sound.{Sound}

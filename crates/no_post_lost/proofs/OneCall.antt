@@ -51,7 +51,8 @@ module _ (t : Tables) (typed : Typed t) (sound : Sound t) (s : ℕ) (q : Asked) 
   accepted-kept ok not-set now =
       let same = semaphores-after t q ok in
       let k =
-      holds t typed (task-0-never-waits t sound) s (q .a) (q .b) (q .c) (q .d) (q .number) (ok .cases) (rw (ok .answer) at not-set) (rw same at (now .used), rw same at (now .kind)) in
+      holds t typed (task-0-never-waits t sound) s (q .a) (q .b) (q .c) (q .d) (q .number) (ok .cases)
+      (rw (ok .answer) at not-set) (rw same at (now .used), rw same at (now .kind)) in
       record { before = record { used = k .before .0; kind = k .before .1 }; even = rw (ok .answer, same) (k .even) }
 
   pub one-call : setsCount s (answered t q) ≡ false → Counting s (next t q) → Kept

@@ -35,8 +35,8 @@ fn both_parts() -> Parts
     }
 }
 
-// Whether a call at a semaphore, an event or a mailbox, whose post is this number, has begun a wait or
-// woken a task: the post's value is who was woken.
+// Whether a call at a semaphore, an event or a mailbox has begun a wait or, being the post with this
+// number, woken a task: its value is who was woken.
 fn waits_or_wakes(post: u32, number: u32, outcome: u32, value: u32) -> bool
     ensures { λ r. ⌜ r ≡ waitsOrWakes post number outcome value ⌝ }
 {

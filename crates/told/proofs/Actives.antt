@@ -29,6 +29,7 @@ use Rattle.laws.proofs.Calls.{chosen}
 use Rattle.keeps.proofs.Codes.{accepted-is, unknown-refused}
 use Rattle.keeps.proofs.Actives.{last-leaves}
 use Rattle.keeps.proofs.Aside.{woken-aside}
+use Rattle.keeps.proofs.Groups.{NeverWaits}
 use Rattle.keeps.proofs.Standing.{sound-almost, task-0-never-waits}
 use Rattle.keeps.proofs.Ticking.{rising-keeps, withClocked, clocks-tick, Ready, task-ticks}
 use Rattle.keeps.proofs.OfSwis.{context-S}
@@ -190,6 +191,9 @@ module _ (t : Tables) (typed : Typed t) (s : Sound t) where
         → (codeOf (c .cases) ≡ 0 → line (put (c .effect .next) .lines) activeLine ≡ line (t .lines) activeLine) → Kind (over put c)
     other-kind put c n e = record { active = λ z. same-active n (e z) }
 
+    never : NeverWaits 0 (t .lines)
+    never = task-0-never-waits t s
+
     pub effect-active : Leaves (λ (u : Tables). u .lines) number (t .lines) (callOf t who number a b c d)
     unfolding callOf
     effect-active =
@@ -197,11 +201,11 @@ module _ (t : Tables) (typed : Typed t) (s : Sound t) where
         (λ z. tasks-quiet (queued (t .tasks) (t .lines)) (s .tasks) (t .state) who number a b c d .leaves z .swis activeLine (omega arith) (omega arith)))
         (numbered (inRange number 0x10) (λ e. of-kind (withPosts t) _ (λ x. refl) swis-active)
         (numbered (inRange number 0x20) (λ e. other-kind (withSemaphores t) _ (λ z. omega (arith, within 0x20 e .0))
-        (λ z. semaphores-quiet (served (t .tasks) (t .lines) (t .semaphores)) (s .tasks) (task-0-never-waits t s) (t .state) who number a b c d .leaves z .swis activeLine (omega arith) (omega arith)))
+        (λ z. semaphores-quiet (served (t .tasks) (t .lines) (t .semaphores)) (s .tasks) never (t .state) who number a b c d .leaves z .swis activeLine (omega arith) (omega arith)))
         (numbered (inRange number 0x30) (λ e. other-kind (withEvents t) _ (λ z. omega (arith, within 0x30 e .0))
-        (λ z. events-quiet (served (t .tasks) (t .lines) (t .events)) (s .tasks) (task-0-never-waits t s) (t .state) who number a b c d .leaves z .swis activeLine (omega arith) (omega arith)))
+        (λ z. events-quiet (served (t .tasks) (t .lines) (t .events)) (s .tasks) never (t .state) who number a b c d .leaves z .swis activeLine (omega arith) (omega arith)))
         (numbered (inRange number 0x40) (λ e. other-kind (withMailboxes t) _ (λ z. omega (arith, within 0x40 e .0))
-        (λ z. mailboxes-quiet (served (t .tasks) (t .lines) (t .mailboxes)) (s .tasks) (task-0-never-waits t s) (t .state) who number a b c d .leaves z .swis activeLine (omega arith) (omega arith)))
+        (λ z. mailboxes-quiet (served (t .tasks) (t .lines) (t .mailboxes)) (s .tasks) never (t .state) who number a b c d .leaves z .swis activeLine (omega arith) (omega arith)))
         (numbered (inRange number 0x50) (λ e. other-kind (withClocks t) _ (λ z. omega (arith, within 0x50 e .0)) (λ z. refl))
         (numbered (inRange number 0x60) (λ e. other-kind (withHeap t) _ (λ z. omega (arith, within 0x60 e .0)) (λ z. refl))
         (numbered (inRange number 0x70) (λ e. of-kind (withTicked t) _ (λ x. refl) switches-active) (nothing t))))))))

@@ -79,7 +79,9 @@ pub fn wake(tasks: &mut Tasks, lines: &mut Lines, i: u32, outcome: u32, value: u
 
 // The first in line j is woken by a post, its wait done with this value. The answer's value is its number.
 pub fn wake_first(tasks: &mut Tasks, lines: &mut Lines, j: usize, value: u32) -> Answer
-    ensures { λ r. ⌜ ((os : List ℕ) → after r (served (now (tasks .exit)) (now (lines .exit)) os) ≡ wakesFirst j value (served (now (tasks .entry)) (now (lines .entry)) os)) ⌝ }
+    ensures { λ r. ⌜ ((os : List ℕ)
+        → after r (served (now (tasks .exit)) (now (lines .exit)) os)
+        ≡ wakesFirst j value (served (now (tasks .entry)) (now (lines .entry)) os)) ⌝ }
 {
     let i = rows::lines::first(lines, j) as u32;
     wake(tasks, lines, i, 0, value);
