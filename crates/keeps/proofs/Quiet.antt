@@ -7,7 +7,7 @@ use native.Mathlib.Omega.{arith}
 use borrow.Author.Tests.{eqb-true, eqb-false, ne-eqb}
 use lib.Dec.{eqb, ltb}
 use Rattle.fold.specs.Rule.{Means}
-use Rattle.rules.specs.Answer.{Cases, After, accepted, Call, called, codeOf, done, nowWaiting}
+use Rattle.rules.specs.Answer.{Cases, After, accepted, Call, called, codeOf, done, notMet, nowWaiting}
 use Rattle.rules.specs.Tables.{noTask, reading, writing, semaphore, event, mailbox, current, USED, COUNT, BITS, CAPACITY, MESSAGES}
 use Rattle.rules.specs.Lines.{semaphoreLine, mailboxLine, eventLine, postedLine, line, anyone, first, homeBy, Queued, atBack}
 use Rattle.rules.specs.Waits.{Served, served, queue, wakesFirst}
@@ -144,9 +144,9 @@ module _ (q : Served) (rows : Means (tasksRule (q .tasks))) (never : NeverWaits 
       (numbered (eqb number 0x32) (λ _. does event-pend-leaves)
       (numbered (eqb number 0x33) (λ e. does (event-post-leaves _ e)) (same refl))))
 
--- ---- mailboxes: the same, and a pend that is done, which may let a writer in
+-- ---- mailboxes: a post that waits or wakes, and a pend unless it is not met
 abbrev pub mailboxMoves : ℕ → ℕ → ℕ → Bool
-mailboxMoves number o v = waitsOrWakes 0x42 number o v || (eqb number 0x43 && eqb o done)
+mailboxMoves number o v = if (eqb number 0x42) (eqb o nowWaiting || not (eqb v 0)) (eqb number 0x43 && not (eqb o notMet))
 
 module _ (q : Served) (rows : Means (tasksRule (q .tasks))) (never : NeverWaits 0 (q .lines)) (st : List ℕ) (x number a b c d : ℕ) where
   abbrev LeavesMailbox : After Served → Type 0
@@ -162,7 +162,7 @@ module _ (q : Served) (rows : Means (tasksRule (q .tasks))) (never : NeverWaits 
       (λ w. wakes-one q rows never (mailboxLine a) b (q .objects) (λ i n. rw (e, n)) (omega arith) (first-waits (q .tasks) (q .lines) a reading w))
       (λ _.
       tested (Mailboxes.isFull (q .objects) a)
-      (tested (eqb c 0) (stays refl) (goes refl (waits-aside (queue q) rows _ (current st) _ (omega arith))))
+      (tested (eqb c 0) (stays refl) (goes (rw e) (waits-aside (queue q) rows _ (current st) _ (omega arith))))
       (stays refl))
 
   taken-aside : SwisStay (q .lines) (Mailboxes.oldestTaken q a .lines)
@@ -178,7 +178,7 @@ module _ (q : Served) (rows : Means (tasksRule (q .tasks))) (never : NeverWaits 
       let ok = accepted-is (Mailboxes.pendCases (q .objects) st x a b c d) z in
       let lt : a < 8 = row-used 10 8 (q .objects) a 0 (eqb-false (mailbox (q .objects) a CAPACITY) 0 (object-used _ _ (ok .at3) (ok .at11))) in
       tested (eqb (mailbox (q .objects) a MESSAGES) 0)
-      (tested (eqb b 0) (stays refl) (goes refl (waits-aside (queue q) rows _ (current st) _ (omega arith))))
+      (tested (eqb b 0) (stays refl) (goes (rw (eqb-true number 0x43 e)) (waits-aside (queue q) rows _ (current st) _ (omega arith))))
       (goes (rw (eqb-true number 0x43 e)) taken-aside)
 
   pub mailboxes-quiet : Quiet (λ (y : Served). y .lines) (q .lines) (mailboxMoves number) (Mailboxes.mailboxCall q st x number a b c d)

@@ -8,7 +8,7 @@ use native.Mathlib.Omega.{arith}
 use borrow.Author.Tests.{eq-eqb, ne-eqb}
 use lib.Dec.{eqb}
 use Rattle.fold.proofs.Laws.{lt-or-le}
-use Rattle.rules.specs.Answer.{done}
+use Rattle.rules.specs.Answer.{notMet, nowWaiting}
 use Rattle.rules.specs.Tables.{state, DEPTH}
 use Rattle.rules.specs.Swis.{Posts, posts}
 use Rattle.rules.specs.Dispatch.{swiDue, swiDispatched, taskDispatched, dispatchedOf}
@@ -17,8 +17,16 @@ use Rattle.keeps.proofs.Waiting.{both}
 use Rattle.keeps.proofs.Chosen.{chosen}
 use Rattle.keeps.proofs.Objects.{other-fails}
 use Rattle.laws.proofs.Numbers.{within, past}
-use Rattle.settling.specs.Settle.{tasksOnly, bothParts, waitsOrWakes, leftBy, partsSettled, settledAfter}
+use Rattle.settling.specs.Settle.{tasksOnly, bothParts, waitsOrWakes, mailboxMoves, leftBy, partsSettled, settledAfter}
 use Rattle.settling.specs.declared.Parts.{Parts}
+
+-- ---- whom a call at a mailbox can have moved: a post or not
+module _ (n o v : ℕ) where
+  pub by-post : n ≡ 0x42 → (eqb o nowWaiting || not (eqb v 0)) ≡ mailboxMoves n o v
+  by-post e = rw (eq-eqb n 0x42 e)
+
+  pub by-another : n ≢ 0x42 → (eqb n 0x43 && not (eqb o notMet)) ≡ mailboxMoves n o v
+  by-another e = rw (ne-eqb n 0x42 e)
 
 -- ---- what can be left to do, by range
 module _ (n o v : ℕ) {r : Parts} where
@@ -38,12 +46,12 @@ module _ (n o v : ℕ) {r : Parts} where
   unfolding leftBy
   events-part l h m e = let p = past n 0x30 l in rw (p 0x00 refl, p 0x10 refl, p 0x20 refl, within n 0x30 l h) (e ∙ ap tasksOnly m)
 
-  pub mailboxes-part : 0x40 ≤ n → n < 0x50 → {some : Bool} → some ≡ waitsOrWakes 0x42 n o v → r ≡ tasksOnly (some || (eqb n 0x43 && eqb o done)) → r ≡ leftBy n o v
+  pub mailboxes-part : 0x40 ≤ n → n < 0x50 → {some : Bool} → some ≡ mailboxMoves n o v → r ≡ tasksOnly some → r ≡ leftBy n o v
   unfolding leftBy
   mailboxes-part l h m e =
       let p = past n 0x40 l in
       rw (p 0x00 refl, p 0x10 refl, p 0x20 refl, p 0x30 refl, within n 0x40 l h)
-      (e ∙ ap (λ (some : Bool). tasksOnly (some || (eqb n 0x43 && eqb o done))) m)
+      (e ∙ ap tasksOnly m)
 
   pub no-part : 0x50 ≤ n → n < 0x70 → r ≡ tasksOnly false → r ≡ leftBy n o v
   unfolding leftBy

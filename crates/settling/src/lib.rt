@@ -7,7 +7,7 @@ ghost use mathlib.Core.Path.{_≡_};
 ghost use mathlib.Core.Bool.{cond};
 ghost use Rattle.rules.specs.Dispatch.{swiDispatched, taskDispatched, dispatchedOf};
 ghost use Rattle.rules.specs.Swis.{posts};
-ghost use Rattle.settling.specs.Settle.{tasksOnly, bothParts, waitsOrWakes, leftBy, settledAfter};
+ghost use Rattle.settling.specs.Settle.{tasksOnly, bothParts, waitsOrWakes, mailboxMoves, leftBy, settledAfter};
 
 // Which parts of the dispatch rule can have something to do: the Swis', the tasks'.
 struct Parts {
@@ -35,12 +35,23 @@ fn both_parts() -> Parts
     }
 }
 
-// Whether a call at a semaphore, an event or a mailbox has begun a wait or, being the post with this
-// number, woken a task: its value is who was woken.
+// Whether a call at a semaphore or an event has begun a wait or, being the post with this number, woken
+// a task: its value is who was woken.
 fn waits_or_wakes(post: u32, number: u32, outcome: u32, value: u32) -> bool
     ensures { λ r. ⌜ r ≡ waitsOrWakes post number outcome value ⌝ }
 {
     (outcome == 2) | ((number == post) & (value != 0))
+}
+
+// Whether a call at a mailbox can have moved a task: a post that waits or wakes somebody, or a pend that
+// waits or may have let a writer in.
+fn mailbox_moves(number: u32, outcome: u32, value: u32) -> bool
+    ensures { λ r. ⌜ r ≡ mailboxMoves number outcome value ⌝ }
+{
+    if number == 0x42 {
+        return (outcome == 2) | (value != 0);
+    }
+    (number == 0x43) & (outcome != 1)
 }
 
 // What an accepted call on sound tables can have left to do. Before it there was nothing; calls of
@@ -53,9 +64,7 @@ fn left_by(number: u32, outcome: u32, value: u32) -> Parts
         0x10..=0x1f => both_parts(),
         0x20..=0x2f => tasks_only(waits_or_wakes(0x23, number, outcome, value)),
         0x30..=0x3f => tasks_only(waits_or_wakes(0x33, number, outcome, value)),
-        0x40..=0x4f => tasks_only(
-            waits_or_wakes(0x42, number, outcome, value) | ((number == 0x43) & (outcome == 0)),
-        ),
+        0x40..=0x4f => tasks_only(mailbox_moves(number, outcome, value)),
         0x50..=0x6f => tasks_only(false),
         _ => both_parts(),
     }

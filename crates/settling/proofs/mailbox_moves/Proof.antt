@@ -1,0 +1,10 @@
+use Rattle.settling.proofs.ByParts.{by-post, by-another}
+use Rattle.settling.proofs.mailbox_moves.Statement.{statement}
+use Rattle.settling.proofs.mailbox_moves.Tie as tie
+
+pub mailbox-moves-spec : {M : Type 1} → statement M
+mailbox-moves-spec =
+    tie.close
+    (tie.spec
+    (λ c. let a = c .before .args in by-post (a .number) (a .outcome) (a .value) (c .if1 .taken))
+    (λ c. let a = c .before .args in by-another (a .number) (a .outcome) (a .value) (c .if1 .left)))
