@@ -1,6 +1,7 @@
 // Calls 30 and 31. Of each: its code, 0 where it is accepted; its effect where it is; and the call.
 use super::table::free_event;
 use super::table::put_event;
+use matching::EVENT_LINES;
 use rules::Answer;
 use rules::Events;
 use rules::Lines;
@@ -63,7 +64,7 @@ pub fn delete_code(lines: &Lines, events: &Events, x: u32, a: u32, b: u32, c: u3
     if rows::answers::unused(0, b, c, d) {
         return 4;
     }
-    if 0 < rows::lines::len(lines, 24 + i) {
+    if 0 < rows::lines::len(lines, EVENT_LINES + i) {
         return 5;
     }
     0

@@ -12,6 +12,9 @@ ghost use Rattle.rules.specs.Waits.{served};
 ghost use Rattle.rules.specs.Tables.{event, BITS};
 ghost use Rattle.rules.specs.Events.{matched, waiterMatch, waits, postedBits, pendCases, pendEffect, postCases, postEffect};
 
+// Where the lines of events begin: event a's is a lines on.
+pub const EVENT_LINES: usize = 24;
+
 // What of event a's posted bits matches these masks.
 pub fn event_match(events: &Events, a: u32, and_mask: u32, or_mask: u32) -> u32
     ensures { λ r. ⌜ r ≡ matched (event (now (events .entry)) a BITS) «and_mask» «or_mask» ⌝ }
@@ -23,7 +26,7 @@ pub fn event_match(events: &Events, a: u32, and_mask: u32, or_mask: u32) -> u32
 pub fn waiter_match(tasks: &Tasks, lines: &Lines, a: u32, bits: u32) -> u32
     ensures { λ r. ⌜ r ≡ waiterMatch (now (tasks .entry)) (now (lines .entry)) a bits ⌝ }
 {
-    let j = 24 + a as usize;
+    let j = EVENT_LINES + a as usize;
     if 0 < rows::lines::len(lines, j) {
         let k = words::task(tasks, fold::wide(rows::lines::first(lines, j)));
         return rows::readings::matched(bits, k.first, k.second);
@@ -63,7 +66,7 @@ pub fn pend_code(
         return 4;
     }
     let begins = waits(events, a, b, c, d);
-    if (0 < rows::lines::len(lines, 24 + i)) | (begins & waits::tests::idle(state)) {
+    if (0 < rows::lines::len(lines, EVENT_LINES + i)) | (begins & waits::tests::idle(state)) {
         return 5;
     }
     if begins & waits::tests::switch_off(state) {
@@ -150,7 +153,7 @@ pub fn post_bits(
         return rows::answers::accepted(0, 0);
     }
     words::set_event(events, i, BITS, bits & !m);
-    waits::moves::wake_first(tasks, lines, 24 + i, m)
+    waits::moves::wake_first(tasks, lines, EVENT_LINES + i, m)
 }
 
 pub fn post_effect(

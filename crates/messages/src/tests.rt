@@ -13,18 +13,21 @@ pub const READING: u32 = 5;
 
 pub const WRITING: u32 = 6;
 
+// Where the lines of mailboxes begin: mailbox a's is a lines on.
+pub const MAILBOX_LINES: usize = 16;
+
 // Someone waits at mailbox a.
 pub fn anyone(lines: &Lines, a: u32) -> bool
     ensures { λ r. ⌜ r ≡ anyone (now (lines .entry)) (mailboxLine a) ⌝ }
 {
-    0 < rows::lines::len(lines, 16 + a as usize)
+    0 < rows::lines::len(lines, MAILBOX_LINES + a as usize)
 }
 
 // The first who waits at mailbox a; 0 where nobody does.
 pub fn first(lines: &Lines, a: u32) -> u32
     ensures { λ r. ⌜ r ≡ first (now (lines .entry)) (mailboxLine a) ⌝ }
 {
-    rows::lines::first(lines, 16 + a as usize) as u32
+    rows::lines::first(lines, MAILBOX_LINES + a as usize) as u32
 }
 
 // Someone waits at mailbox a, and the first is in this mode.

@@ -3,6 +3,7 @@ use messages::oldest;
 use messages::put_word;
 use messages::shift;
 use messages::take_word;
+use messages::tests::MAILBOX_LINES;
 use messages::tests::READING;
 use messages::tests::WRITING;
 use messages::tests::first;
@@ -94,7 +95,7 @@ pub fn post_effect(
     ensures { λ r. ⌜ after r (served (now (tasks .exit)) (now (lines .exit)) (now (mailboxes .exit))) ≡ postEffect (served (now (tasks .entry)) (now (lines .entry)) (now (mailboxes .entry))) (now (state .entry)) a word limit ⌝ }
 {
     if waits_first(tasks, lines, a, READING) {
-        return waits::moves::wake_first(tasks, lines, 16 + a as usize, word);
+        return waits::moves::wake_first(tasks, lines, MAILBOX_LINES + a as usize, word);
     }
     if is_full(mailboxes, a) {
         return not_done(tasks, lines, state, WRITING, a, limit, word);

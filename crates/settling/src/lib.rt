@@ -9,6 +9,11 @@ ghost use Rattle.rules.specs.Dispatch.{swiDispatched, taskDispatched, dispatche
 ghost use Rattle.rules.specs.Swis.{posts};
 ghost use Rattle.settling.specs.Settle.{tasksOnly, bothParts, waitsOrWakes, mailboxMoves, leftBy, settledAfter};
 
+// The outcomes that tell whether a task has moved.
+const NOT_MET: u32 = 1;
+
+const NOW_WAITING: u32 = 2;
+
 // Which parts of the dispatch rule can have something to do: the Swis', the tasks'.
 struct Parts {
     swis: bool,
@@ -40,7 +45,7 @@ fn both_parts() -> Parts
 fn waits_or_wakes(post: u32, number: u32, outcome: u32, value: u32) -> bool
     ensures { λ r. ⌜ r ≡ waitsOrWakes post number outcome value ⌝ }
 {
-    (outcome == 2) | ((number == post) & (value != 0))
+    (outcome == NOW_WAITING) | ((number == post) & (value != 0))
 }
 
 // Whether a call at a mailbox can have moved a task: a post that waits or wakes somebody, or a pend that
@@ -49,9 +54,9 @@ fn mailbox_moves(number: u32, outcome: u32, value: u32) -> bool
     ensures { λ r. ⌜ r ≡ mailboxMoves number outcome value ⌝ }
 {
     if number == 0x42 {
-        return (outcome == 2) | (value != 0);
+        return (outcome == NOW_WAITING) | (value != 0);
     }
-    (number == 0x43) & (outcome != 1)
+    (number == 0x43) & (outcome != NOT_MET)
 }
 
 // What an accepted call on sound tables can have left to do. Before it there was nothing; calls of
