@@ -1,5 +1,5 @@
 -- Request No. 12, "a waiter that a post readied": what an accepted post's value tells of the tables before and after it, t and u. Who was readied is said
--- in `WokenTask` (request No. 8). Where nobody was, nobody waited, and of a semaphore post no row at all has changed.
+-- in `WokenTask` (request No. 8). Of a semaphore post it is said here that where nobody was readied, nobody waited, and no row has changed.
 use Prim.Native.Nat.{ℕ}
 use mathlib.Core.Path.{_≡_}
 use mathlib.Core.Logic.{_≢_}

@@ -29,7 +29,7 @@ pub record Post : Type 0 where
   pub due : Tables → Asked → Bool
   pub given : Tables → Asked → ℕ
 
--- whoever waits is due, and is given nothing
+-- somebody is due if anyone waits, and is given nothing: value 0
 abbrev pub semaphorePost : Post
 semaphorePost =
     record {
@@ -40,14 +40,15 @@ semaphorePost =
       given = λ t q. 0;
     }
 
--- the waiter is due if it matches any of the bits, and is given what it matches
+-- what the waiter matches of the event's bits with the post's set; 0 where nobody waits
 abbrev pub match : Tables → Asked → ℕ
 match t q = waiterMatch (t .tasks) (t .lines) (q .a) (bitOr (event (t .events) (q .a) BITS) (q .b))
 
+-- the waiter is due if that is not 0, and is given it
 abbrev pub eventPost : Post
 eventPost = record { number = 0x33; mode = atEvent; lineOf = eventLine; due = λ t q. not (eqb (match t q) 0); given = match }
 
--- a reader is due, and is given the word
+-- somebody is due if the first in line reads, and is given the word
 abbrev pub mailboxPost : Post
 mailboxPost =
     record {
@@ -63,8 +64,8 @@ abbrev pub BlockedAt : Post → ℕ → ℕ → Tables → Type 0
 BlockedAt p a i t = (task (t .tasks) i .mode ≡ p .mode) × (task (t .tasks) i .object ≡ a)
 
 -- ---- the post q on tables t is answered r and leaves tables u
--- it woke a task, which is the value: that task was blocked there and the first in line, and is ready, its wait ended with what the post gives. The post was
--- done; those behind wait on, and no other task's row has changed
+-- it woke a task, which is the value: that task was blocked there and the first in line, and is ready, its wait ended with what the post gives (`row`, of
+-- which `ready` is the mode). The post was done; those behind wait on, and no other task's row has changed
 pub record Woke (p : Post) (t : Tables) (q : Asked) (r : Answer) (u : Tables) : Type 0 where
   pub named : r .value ≢ 0
   pub due : p .due t q ≡ true
@@ -75,7 +76,8 @@ pub record Woke (p : Post) (t : Tables) (q : Asked) (r : Answer) (u : Tables) : 
   pub row : task (u .tasks) (r .value) ≡ readied (task (t .tasks) (r .value)) done (p .given t q)
   pub others : (x : ℕ) → x ≢ r .value → task (u .tasks) x ≡ task (t .tasks) x
 
--- it woke nobody, since nobody was due, and the value is 0: every task's row is as it was, but that of a caller that now waits to write
+-- it woke nobody, since nobody was due, and the value is 0: every task's row is as it was, but that of the current task, which may now wait to write (where
+-- and with what word is `Mailboxes.postEffect`'s)
 pub record WokeNobody (p : Post) (t : Tables) (q : Asked) (r : Answer) (u : Tables) : Type 0 where
   pub none : r .value ≡ 0
   pub due : p .due t q ≡ false
