@@ -47,13 +47,11 @@ const struct call_form call_forms[CALLS] = {
     { 0x60, "take", { "bytes" }, "0248" },
     { 0x61, "give back", { "offset", "bytes" }, "024" },
 
-    { 0x70, "Swis off", { NULL }, "024" },
-    { 0x71, "Swis restore", { "key" }, "024" },
-    { 0x72, "tasks off", { NULL }, "024" },
-    { 0x73, "tasks restore", { "key" }, "024" },
     { 0x74, "interrupt in", { NULL }, "047" },
     { 0x75, "interrupt out", { NULL }, "024" },
     { 0x76, "tick", { NULL }, "024" },
+    { 0x77, "switches off", { "which" }, "024" },
+    { 0x78, "switches restore", { "which", "key" }, "024" },
 };
 
 const struct call_form *form_of(uint32_t number)

@@ -6,9 +6,12 @@
 #include <stdio.h>
 
 enum {
-    CALLS = 42,
+    CALLS = 40,
     CODES = 12     /* 0 to 11 */
 };
+
+/* The numbers that No. 10 took away. */
+enum { FIRST_GONE = 0x70, LAST_GONE = 0x73 };
 
 struct call {
     uint32_t number, argument[4];

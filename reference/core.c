@@ -987,47 +987,42 @@ static struct answer heap_give_back(struct tables *t, uint32_t offset, uint32_t 
 
 /* Switches, interrupts and the tick */
 
-static struct answer swis_off(struct tables *t, uint32_t a, uint32_t b, uint32_t c, uint32_t d)
+/* A task may name any switch, a Swi that of the Swis alone, an interrupt none. */
+static inline int may_name(const struct tables *t, uint32_t which)
 {
-    uint32_t were_on = t->swis_on;
-
-    if (in_interrupt(t))
-        return refused(WRONG_CONTEXT);
-    if ((a | b | c | d) != 0)
-        return refused(BAD_ARGUMENT);
-    t->swis_on = 0;
-    return done(were_on);
+    return in_task(t) || (in_swi(t) && which == SWIS_SWITCH);
 }
 
-static struct answer swis_restore(struct tables *t, uint32_t key, uint32_t b, uint32_t c, uint32_t d)
+static inline int is_switch(uint32_t which)
 {
-    if (in_interrupt(t))
-        return refused(WRONG_CONTEXT);
-    if (key > 1 || (b | c | d) != 0)
-        return refused(BAD_ARGUMENT);
-    t->swis_on |= key;
-    return dispatched(t, done(0));
+    return which >= SWIS_SWITCH && which <= BOTH_SWITCHES;
 }
 
-static struct answer tasks_off(struct tables *t, uint32_t a, uint32_t b, uint32_t c, uint32_t d)
+static struct answer switches_off(struct tables *t, uint32_t which, uint32_t b, uint32_t c, uint32_t d)
 {
-    uint32_t were_on = t->tasks_on;
+    uint32_t were_on = t->swis_on * SWIS_SWITCH | t->tasks_on * TASKS_SWITCH;
 
-    if (!in_task(t))
+    if (!may_name(t, which))
         return refused(WRONG_CONTEXT);
-    if ((a | b | c | d) != 0)
+    if (!is_switch(which) || (b | c | d) != 0)
         return refused(BAD_ARGUMENT);
-    t->tasks_on = 0;
-    return done(were_on);
+    if (which & SWIS_SWITCH)
+        t->swis_on = 0;
+    if (which & TASKS_SWITCH)
+        t->tasks_on = 0;
+    return done(were_on & which);
 }
 
-static struct answer tasks_restore(struct tables *t, uint32_t key, uint32_t b, uint32_t c, uint32_t d)
+static struct answer switches_restore(struct tables *t, uint32_t which, uint32_t key, uint32_t c, uint32_t d)
 {
-    if (!in_task(t))
+    if (!may_name(t, which))
         return refused(WRONG_CONTEXT);
-    if (key > 1 || (b | c | d) != 0)
+    if (!is_switch(which) || (key & ~which) != 0 || (c | d) != 0)
         return refused(BAD_ARGUMENT);
-    t->tasks_on |= key;
+    if (key & SWIS_SWITCH)
+        t->swis_on = 1;
+    if (key & TASKS_SWITCH)
+        t->tasks_on = 1;
     return dispatched(t, done(0));
 }
 
@@ -1136,18 +1131,16 @@ static struct answer (*const calls[])(struct tables *t, uint32_t a, uint32_t b, 
     [CLOCK_STOP] = clock_stop,
     [HEAP_TAKE] = heap_take,
     [HEAP_GIVE_BACK] = heap_give_back,
-    [SWIS_OFF] = swis_off,
-    [SWIS_RESTORE] = swis_restore,
-    [TASKS_OFF] = tasks_off,
-    [TASKS_RESTORE] = tasks_restore,
     [INTERRUPT_IN] = interrupt_in,
     [INTERRUPT_OUT] = interrupt_out,
     [TICK] = tick,
+    [SWITCHES_OFF] = switches_off,
+    [SWITCHES_RESTORE] = switches_restore,
 };
 
 struct answer core_call(struct tables *t, uint32_t number, uint32_t a, uint32_t b, uint32_t c, uint32_t d)
 {
-    if (number > TICK || calls[number] == NULL)
+    if (number > SWITCHES_RESTORE || calls[number] == NULL)
         return refused(UNKNOWN_CALL);
     return calls[number](t, a, b, c, d);
 }

@@ -73,14 +73,15 @@ enum call_number {
     HEAP_TAKE = 0x60,
     HEAP_GIVE_BACK,
 
-    SWIS_OFF = 0x70,
-    SWIS_RESTORE,
-    TASKS_OFF,
-    TASKS_RESTORE,
-    INTERRUPT_IN,
+    INTERRUPT_IN = 0x74,
     INTERRUPT_OUT,
-    TICK
+    TICK,
+    SWITCHES_OFF,
+    SWITCHES_RESTORE
 };
+
+/* The switches, as calls 77 and 78 name them; bits, in which, key and value alike. */
+enum switches { SWIS_SWITCH = 1, TASKS_SWITCH = 2, BOTH_SWITCHES = SWIS_SWITCH | TASKS_SWITCH };
 
 /* In the order of the checks. With OUTSIDE_TABLE and OBJECT_NOT_IN_USE the value names the table, with any other refusal it is 0. */
 enum code {

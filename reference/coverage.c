@@ -363,6 +363,89 @@ static void note_sums(const struct sums *sums, const struct call *call, struct a
     }
 }
 
+static enum context context_of(const struct tables *t)
+{
+    return t->depth != 0 ? FROM_INTERRUPT : t->active_count != 0 ? FROM_SWI : FROM_TASK;
+}
+
+static uint32_t switches_on(const struct tables *t)
+{
+    return t->swis_on * SWIS_SWITCH | t->tasks_on * TASKS_SWITCH;
+}
+
+/* An accepted or refused call 77 or 78, by its context and its arguments. */
+static void note_switches(const struct tables *before, const struct call *call, uint32_t code)
+{
+    struct tally (*tally)[SWITCH_CALLS] = coverage.switched;
+    enum switch_call place = call->number == SWITCHES_OFF ? CALL_OFF : CALL_RESTORE;
+    enum context context = context_of(before);
+    uint32_t which = call->argument[0], key = place == CALL_OFF ? 0 : call->argument[1];
+    int is_unused_bad = ((place == CALL_OFF ? call->argument[1] : 0) | call->argument[2] | call->argument[3]) != 0;
+    int is_named_badly = which < SWIS_SWITCH || which > BOTH_SWITCHES, is_other_bad = is_unused_bad || (key & ~which) != 0;
+    int is_done = code == ACCEPTED, is_bad = code == BAD_ARGUMENT;
+    int is_swi_refused = code == WRONG_CONTEXT && context == FROM_SWI;
+    int is_interrupt_refused = code == WRONG_CONTEXT && context == FROM_INTERRUPT;
+
+    add_to(&tally[SWITCHED_BY_TASK][place], is_done && context == FROM_TASK);
+    add_to(&tally[SWITCHED_BY_SWI][place], is_done && context == FROM_SWI);
+    add_to(&tally[SWITCHED_SWIS][place], is_done && which == SWIS_SWITCH);
+    add_to(&tally[SWITCHED_TASKS][place], is_done && which == TASKS_SWITCH);
+    add_to(&tally[SWITCHED_BOTH][place], is_done && which == BOTH_SWITCHES);
+    add_to(&tally[INTERRUPT_NAMED_ONE][place], is_interrupt_refused && !is_named_badly && !is_other_bad);
+    add_to(&tally[INTERRUPT_NAMED_BADLY][place], is_interrupt_refused && (is_named_badly || is_other_bad));
+    add_to(&tally[SWI_NAMED_TASKS][place], is_swi_refused && which == TASKS_SWITCH);
+    add_to(&tally[SWI_NAMED_BOTH][place], is_swi_refused && which == BOTH_SWITCHES);
+    add_to(&tally[SWI_NAMED_NONE][place], is_swi_refused && which == 0);
+    add_to(&tally[SWI_NAMED_MORE][place], is_swi_refused && which > BOTH_SWITCHES);
+    add_to(&tally[SWI_NAMED_BADLY][place], is_swi_refused && !is_named_badly && is_other_bad);
+    add_to(&tally[SWI_BAD_ARGUMENT][place], is_bad && context == FROM_SWI);
+    add_to(&tally[TASK_NAMED_NONE][place], is_bad && context == FROM_TASK && which == 0);
+    add_to(&tally[TASK_NAMED_MORE][place], is_bad && context == FROM_TASK && which > BOTH_SWITCHES);
+    add_to(&tally[TASK_UNUSED_ARGUMENT][place], is_bad && context == FROM_TASK && !is_named_badly && (key & ~which) == 0);
+}
+
+/* Of a call 78 that names a switch and has no bad unused argument. */
+static void note_key(uint32_t which, uint32_t key)
+{
+    note(KEY_TASKS_NOT_NAMED, which == SWIS_SWITCH && (key & ~which) == TASKS_SWITCH);
+    note(KEY_SWIS_NOT_NAMED, which == TASKS_SWITCH && (key & ~which) == SWIS_SWITCH);
+    note(KEY_NO_SWITCH, (key & ~which) != 0 && (key & BOTH_SWITCHES & ~which) == 0);
+}
+
+/* Of an accepted call 77. */
+static void note_off(const struct tables *before, uint32_t which)
+{
+    uint32_t on = switches_on(before);
+
+    note(ANSWERED_NONE_ON, which == BOTH_SWITCHES && on == 0);
+    note(ANSWERED_SWIS_ON, which == BOTH_SWITCHES && on == SWIS_SWITCH);
+    note(ANSWERED_TASKS_ON, which == BOTH_SWITCHES && on == TASKS_SWITCH);
+    note(ANSWERED_BOTH_ON, which == BOTH_SWITCHES && on == BOTH_SWITCHES);
+    note(SWIS_OFF_ALREADY, which == SWIS_SWITCH && (on & SWIS_SWITCH) == 0);
+    note(TASKS_OFF_ALREADY, which == TASKS_SWITCH && (on & TASKS_SWITCH) == 0);
+    note(OTHER_SWITCH_LEFT_ON, (on & ~which) != 0);
+}
+
+/* Of an accepted call 78. */
+static void note_restore(const struct tables *before, const struct tables *after, uint32_t which, uint32_t key, int swi_started)
+{
+    uint32_t on = switches_on(before), highest = 31u - (uint32_t)__builtin_clz(after->ready_levels);
+    int other_runs = before->current != after->current;
+    int were_both_off = on == 0 && key == BOTH_SWITCHES;
+
+    note(KEY_NONE, key == 0 && (which & ~on) != 0);
+    note(KEY_SWIS_OF_BOTH, which == BOTH_SWITCHES && on == 0 && key == SWIS_SWITCH);
+    note(KEY_TASKS_OF_BOTH, which == BOTH_SWITCHES && on == 0 && key == TASKS_SWITCH);
+    note(KEY_ON_ALREADY, (key & on) != 0);
+    note(KEY_LEFT_ONE_ON, (which & on & ~key) != 0);
+    note(SWI_AFTER_RESTORE, swi_started);
+    note(TASK_AFTER_RESTORE, other_runs && on == SWIS_SWITCH);
+    note(TASK_AFTER_SWIS_RESTORE, other_runs && on == TASKS_SWITCH);
+    note(TASK_AFTER_BOTH_RESTORE, other_runs && were_both_off);
+    note(SWI_AFTER_BOTH_RESTORE, swi_started && were_both_off);
+    note(SWI_BEFORE_TASK, swi_started && were_both_off && after->link[HEAD_OF_READY + highest].next != after->current);
+}
+
 void coverage_note(const struct sums *sums, const struct tables *before, const struct tables *after, const struct call *call,
                    struct answer answer)
 {
@@ -379,6 +462,12 @@ void coverage_note(const struct sums *sums, const struct tables *before, const s
     if (number == HEAP_TAKE || number == HEAP_GIVE_BACK)
         note_heap(before, after, call, answer);
     note_sums(sums, call, answer);
+    if (number == SWITCHES_OFF || number == SWITCHES_RESTORE)
+        note_switches(before, call, answer.code);
+    if (number == SWITCHES_RESTORE && answer.code == BAD_ARGUMENT && (call->argument[2] | call->argument[3]) == 0)
+        note_key(a, call->argument[1]);
+    if (number >= FIRST_GONE && number <= LAST_GONE)
+        add_to(&coverage.gone[number - FIRST_GONE][context_of(before)], answer.code == UNKNOWN_CALL);
     if (answer.code == STATE_FORBIDS)
         note(FIVE_BEFORE_NINE, before->current == 0 && (!before->swis_on || !before->tasks_on)
                                    && (number == TASK_SLEEP || number == TASK_END || number == SEMAPHORE_PEND || number == MAILBOX_POST));
@@ -460,16 +549,19 @@ void coverage_note(const struct sums *sums, const struct tables *before, const s
     case TICK:
         note_tick(before, after);
         break;
+    case SWITCHES_OFF:
+        note_off(before, a);
+        break;
+    case SWITCHES_RESTORE:
+        note_restore(before, after, a, call->argument[1], swi_started);
+        break;
     default:
         break;
     }
     note(SWI_PREEMPTED, swi_started && before->active_count != 0 && number != SWI_END);
     note(SWI_AFTER_SWI, swi_started && number == SWI_END);
     note(SWI_AFTER_INTERRUPT, swi_started && number == INTERRUPT_OUT);
-    note(SWI_AFTER_RESTORE, swi_started && number == SWIS_RESTORE);
     note(SWI_WHILE_TASKS_OFF, swi_started && !after->tasks_on);
-    note(TASK_AFTER_RESTORE, number == TASKS_RESTORE && before->current != after->current);
-    note(TASK_AFTER_SWIS_RESTORE, number == SWIS_RESTORE && before->current != after->current);
     note(PREEMPTED, before->current != after->current && after->task[before->current].mode == READY && number != TASK_YIELD
                         && after->task[before->current].priority == before->task[before->current].priority);
 }

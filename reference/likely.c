@@ -131,9 +131,48 @@ static uint32_t bytes(struct maker *m)
     }
 }
 
-static uint32_t key(struct maker *m)
+/* For a Swi most often its own alone; now and then a number that names none. */
+static uint32_t some_switches(struct maker *m)
 {
-    return chance(m, 75) ? 1 : chance(m, 85) ? 0 : 2 + below(m, 3);
+    uint32_t which = 1 + below(m, 3);
+
+    if (chance(m, 8)) {
+        switch (below(m, 4)) {
+        case 0:
+            return 0;
+        case 1:
+            return BOTH_SWITCHES + which;
+        case 2:
+            return which | bit(2 + below(m, 30)); /* a switch, if some bits were left out */
+        default:
+            return wild(m);
+        }
+    }
+    return in_swi(m) && chance(m, 82) ? SWIS_SWITCH : which;
+}
+
+/* Most often of the named switches, or of one of them; now and then with another bit. */
+static uint32_t key(struct maker *m, uint32_t which)
+{
+    switch (below(m, 24)) {
+    case 0:
+        return wild(m);
+    case 1:
+        return BOTH_SWITCHES & ~which;
+    case 2:
+        return which | bit(chance(m, 25) ? 31 : below(m, 31));
+    case 3:
+    case 4:
+    case 5:
+        return 0;
+    case 6:
+    case 7:
+    case 8:
+    case 9:
+        return which & bit(below(m, 2));
+    default:
+        return which;
+    }
 }
 
 /* Calls */
@@ -279,9 +318,14 @@ struct call likely(struct maker *m, uint32_t number)
         break;
     case HEAP_GIVE_BACK:
         return give_back(m);
-    case SWIS_RESTORE:
-    case TASKS_RESTORE:
-        argument[0] = key(m);
+    case SWITCHES_OFF:
+        argument[0] = some_switches(m);
+        argument[1] = chance(m, 4) ? argument[0] : 0; /* a key that it does not take */
+        break;
+    case SWITCHES_RESTORE:
+        argument[0] = some_switches(m);
+        argument[1] = key(m, argument[0]);
+        argument[2] = chance(m, 6);
         break;
     default:
         break;
@@ -298,15 +342,19 @@ struct call any(struct maker *m)
     static const uint8_t from_swi[] = { TASK_LAST_RESULT, SWI_POST, SWI_ADD_ONE, SWI_TAKE_ONE, SWI_SET_BITS, SWI_CLEAR_BITS, SEMAPHORE_POST,
                                         EVENT_POST, MAILBOX_POST, MAILBOX_PEND, SEMAPHORE_PEND, EVENT_PEND, CLOCK_START, CLOCK_STOP,
                                         INTERRUPT_IN, SWI_END, SWI_END, SWI_END, SWI_END, SWI_TAKEN_TRIGGER, SWI_TAKEN_TRIGGER, TASK_SET_PRIORITY,
-                                        TASK_SET_PRIORITY, SWIS_OFF, SWIS_RESTORE, SWIS_RESTORE };
+                                        TASK_SET_PRIORITY, SWITCHES_OFF, SWITCHES_RESTORE, SWITCHES_RESTORE };
 
+    if (in_swi(m) && front_task(m) != m->tables.current && chance(m, 10)) /* only one of the two is the current task */
+        return call_of(TASK_SET_PRIORITY, chance(m, 50) ? m->tables.current : front_task(m), MINUS_ONE, 0, 0);
     if (!in_task(m) && chance(m, 75)) {
         if (in_swi(m))
             return likely(m, from_swi[below(m, sizeof from_swi)]);
         return likely(m, from_interrupt[below(m, sizeof from_interrupt)]);
     }
-    if (in_task(m) && (!m->tables.swis_on || !m->tables.tasks_on) && chance(m, 20))
-        return likely(m, chance(m, 50) ? SWIS_RESTORE : TASKS_RESTORE);
+    if (in_task(m) && !is_calm(m) && chance(m, 20))
+        return likely(m, SWITCHES_RESTORE);
+    if (chance(m, 4))
+        return likely(m, chance(m, 50) ? SWITCHES_OFF : SWITCHES_RESTORE);
     return likely(m, call_forms[below(m, CALLS)].number);
 }
 
@@ -357,6 +405,18 @@ struct call deleted_call(struct maker *m)
     struct call call = on_object(m, m->deleted_from);
 
     call.argument[0] = m->deleted;
+    return call;
+}
+
+struct call gone_call(struct maker *m)
+{
+    uint32_t number = FIRST_GONE + below(m, LAST_GONE - FIRST_GONE + 1);
+    struct call call = call_of(number, number % 2 == 1 && chance(m, 80), 0, 0, 0);
+
+    if (chance(m, 10))
+        return call_of(SWITCHES_RESTORE + 1, BOTH_SWITCHES, BOTH_SWITCHES, 0, 0);
+    if (chance(m, 20))
+        call.argument[below(m, 4)] = 1 + below(m, 3);
     return call;
 }
 

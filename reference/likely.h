@@ -43,6 +43,9 @@ struct call absent_call(struct maker *m);
 /* A call on the object that the last call deleted. */
 struct call deleted_call(struct maker *m);
 
+/* A number that No. 10 took away, most often as it was called; now and then the one past its calls. */
+struct call gone_call(struct maker *m);
+
 /* Any number as call or argument. */
 struct call wild_call(struct maker *m);
 

@@ -197,6 +197,8 @@ struct call maker_next(struct maker *m)
         call = deleted_call(m);
     else if (chance(m, 1))
         call = absent_call(m);
+    else if (below(m, 1000) < 5)
+        call = gone_call(m);
     else if (chance(m, m->style->stray))
         call = chance(m, 20) ? likely(m, in_swi(m) ? SWI_TAKEN_TRIGGER : TASK_LAST_RESULT) : any(m);
     else

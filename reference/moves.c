@@ -4,17 +4,29 @@
 #include "moves.h"
 #include "sight.h"
 
+struct call turn_on(struct maker *m)
+{
+    uint32_t key = switches_now_off(m), which;
+
+    if (key == BOTH_SWITCHES && chance(m, 50))
+        key = 1 + below(m, 2);
+    which = chance(m, 30) ? BOTH_SWITCHES : key;
+    if (which == BOTH_SWITCHES && chance(m, 30))
+        key = BOTH_SWITCHES; /* on already, some of it */
+    return call_of(SWITCHES_RESTORE, which, key, 0, 0);
+}
+
 struct call calm_down(struct maker *m)
 {
     const struct tables *t = &m->tables;
 
     if (t->depth != 0)
         return call_of(INTERRUPT_OUT, 0, 0, 0, 0);
+    if (t->active_count == 0)
+        return turn_on(m);
     if (!t->swis_on)
-        return call_of(SWIS_RESTORE, 1, 0, 0, 0);
-    if (t->active_count != 0)
-        return call_of(chance(m, 85) ? SWI_END : SWI_TAKEN_TRIGGER, 0, 0, 0, 0);
-    return call_of(TASKS_RESTORE, 1, 0, 0, 0);
+        return call_of(SWITCHES_RESTORE, SWIS_SWITCH, SWIS_SWITCH, 0, 0);
+    return call_of(chance(m, 85) ? SWI_END : SWI_TAKEN_TRIGGER, 0, 0, 0, 0);
 }
 
 /* A post that serves the first waiter somewhere, but not where the spared tasks wait; or any call. */

@@ -7,6 +7,9 @@
 /* Towards a running task with both switches on. */
 struct call calm_down(struct maker *m);
 
+/* From a task: turns on what is off, or one of the two, named alone or with the other. */
+struct call turn_on(struct maker *m);
+
 /* A post that serves the first waiter somewhere; or any call. */
 struct call serve_somebody(struct maker *m);
 

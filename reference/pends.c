@@ -100,18 +100,18 @@ static const struct row semaphores[] = {
     { INTERRUPT_OUT, 0, 0, 0, 0, 0, 0, 0, "T3", 0 },        /* 15: 3, 5: 2, 4: 4 */
     { TASK_LAST_RESULT, 2, 0, 0, 0, 0, 1, 0, "T3", 0 },
     { TASK_LAST_RESULT, 3, 0, 0, 0, 0, 0, 0, "T3", 0 },
-    { TASKS_OFF, 0, 0, 0, 0, 0, 0, 1, "T3", 0 },
+    { SWITCHES_OFF, 2, 0, 0, 0, 0, 0, 2, "T3", 0 },
     { SEMAPHORE_PEND, 1, F, 0, 0, 9, 0, 0, "T3", 0 },
     { SEMAPHORE_PEND, 16, F, 0, 0, 3, 0, 3, "T3", 0 },      /* not 9 */
     { SEMAPHORE_PEND, 15, F, 0, 0, 11, 0, 3, "T3", 0 },
     { SEMAPHORE_PEND, 1, 0, 0, 0, 0, 1, 0, "T3", 0 },
     { SEMAPHORE_POST, 1, 0, 0, 0, 0, 0, 0, "T3", 0 },
     { SEMAPHORE_PEND, 1, F, 0, 0, 0, 0, 0, "T3", 0 },       /* no wait begins */
-    { TASKS_RESTORE, 1, 0, 0, 0, 0, 0, 0, "T3", 0 },
-    { SWIS_OFF, 0, 0, 0, 0, 0, 0, 1, "T3", 0 },
+    { SWITCHES_RESTORE, 2, 2, 0, 0, 0, 0, 0, "T3", 0 },
+    { SWITCHES_OFF, 1, 0, 0, 0, 0, 0, 1, "T3", 0 },
     { SEMAPHORE_PEND, 1, 3, 0, 0, 9, 0, 0, "T3", 0 },
     { SEMAPHORE_PEND, 1, 3, 1, 0, 4, 0, 0, "T3", 0 },       /* 4 before 9 */
-    { SWIS_RESTORE, 1, 0, 0, 0, 0, 0, 0, "T3", 0 },
+    { SWITCHES_RESTORE, 1, 1, 0, 0, 0, 0, 0, "T3", 0 },
     { SEMAPHORE_DELETE, 16, 0, 0, 0, 3, 0, 3, "T3", 0 },
     { SEMAPHORE_DELETE, F, 0, 0, 0, 3, 0, 3, "T3", 0 },
     { SEMAPHORE_DELETE, 16, 1, 0, 0, 3, 0, 3, "T3", 0 },
@@ -184,9 +184,9 @@ static const struct row semaphores[] = {
     { TASK_CREATE, F, 0, 0, 0, 0, 0, 6, "T2", RISING + 25 }, /* 6 to 30 */
     { TASK_CREATE, 9, 0, 0, 0, 0, 0, 31, "T31", 0 },
     { SEMAPHORE_PEND, 2, F, 0, 0, 0, 2, 0, "T2", 0 },       /* 31 4 1: it came last */
-    { TASKS_OFF, 0, 0, 0, 0, 0, 0, 1, "T2", 0 },
+    { SWITCHES_OFF, 2, 0, 0, 0, 0, 0, 2, "T2", 0 },
     { SEMAPHORE_POST, 2, 0, 0, 0, 0, 0, 31, "T2", 0 },      /* the highest, held back: 4 1 */
-    { TASKS_RESTORE, 1, 0, 0, 0, 0, 0, 0, "T31", 0 },
+    { SWITCHES_RESTORE, 2, 2, 0, 0, 0, 0, 0, "T31", 0 },
     { SEMAPHORE_POST, 2, 0, 0, 0, 0, 0, 4, "T31", 0 },      /* it is below task 31: line 1 */
     { SEMAPHORE_PEND, 3, F, 0, 0, 0, 2, 0, "T4", 0 },       /* line of 3: 31 */
     { SEMAPHORE_POST, 1, 0, 0, 0, 0, 0, 3, "T3", 0 },       /* line of 1: 5 */
@@ -240,18 +240,18 @@ static const struct row events[] = {
     { EVENT_POST, 0, 1, 0, 0, 0, 0, 0, "T0", 0 },
     { EVENT_PEND, 0, 1, 0, F, 0, 0, 1, "T0", 0 },           /* done at once */
     { TASK_CREATE, 5, 0, 0, 0, 0, 0, 1, "T1", 0 },
-    { TASKS_OFF, 0, 0, 0, 0, 0, 0, 1, "T1", 0 },
+    { SWITCHES_OFF, 2, 0, 0, 0, 0, 0, 2, "T1", 0 },
     { EVENT_PEND, 0, 1, 0, F, 9, 0, 0, "T1", 0 },
     { EVENT_PEND, 8, 1, 0, F, 3, 0, 4, "T1", 0 },           /* not 9 */
     { EVENT_PEND, 7, 1, 0, F, 11, 0, 4, "T1", 0 },
     { EVENT_PEND, 0, 1, 0, 0, 0, 1, 0, "T1", 0 },
     { EVENT_POST, 0, 1, 0, 0, 0, 0, 0, "T1", 0 },
     { EVENT_PEND, 0, 1, 0, F, 0, 0, 1, "T1", 0 },
-    { TASKS_RESTORE, 1, 0, 0, 0, 0, 0, 0, "T1", 0 },
-    { SWIS_OFF, 0, 0, 0, 0, 0, 0, 1, "T1", 0 },
+    { SWITCHES_RESTORE, 2, 2, 0, 0, 0, 0, 0, "T1", 0 },
+    { SWITCHES_OFF, 1, 0, 0, 0, 0, 0, 1, "T1", 0 },
     { EVENT_PEND, 0, 0, 1, 2, 9, 0, 0, "T1", 0 },
     { EVENT_PEND, 0, 0, 0, 2, 4, 0, 0, "T1", 0 },           /* 4 before 9 */
-    { SWIS_RESTORE, 1, 0, 0, 0, 0, 0, 0, "T1", 0 },
+    { SWITCHES_RESTORE, 1, 1, 0, 0, 0, 0, 0, "T1", 0 },
     { EVENT_PEND, 0, 3, 0, F, 0, 2, 0, "T0", 0 },           /* task 1 waits for 011 */
     { TASK_CREATE, 4, 0, 0, 0, 0, 0, 2, "T2", 0 },
     { EVENT_PEND, 0, 4, 4, F, 5, 0, 0, "T2", 0 },           /* a waiter there already */
@@ -261,9 +261,9 @@ static const struct row events[] = {
     { EVENT_DELETE, 0, 1, 0, 0, 4, 0, 0, "T2", 0 },         /* 4 before 5 */
     { EVENT_POST, 0, 5, 0, 0, 0, 0, 0, "T2", 0 },           /* 101 does not serve it */
     { EVENT_PEND, 0, 4, 0, 0, 5, 0, 0, "T2", 0 },           /* 5 although bits would match */
-    { SWIS_OFF, 0, 0, 0, 0, 0, 0, 1, "T2", 0 },
+    { SWITCHES_OFF, 1, 0, 0, 0, 0, 0, 1, "T2", 0 },
     { EVENT_PEND, 0, 8, 0, F, 5, 0, 0, "T2", 0 },           /* 5 before 9 */
-    { SWIS_RESTORE, 1, 0, 0, 0, 0, 0, 0, "T2", 0 },
+    { SWITCHES_RESTORE, 1, 1, 0, 0, 0, 0, 0, "T2", 0 },
     { EVENT_POST, 0, 2, 0, 0, 0, 0, 1, "T1", 0 },           /* 111: matched 011, 100 is left */
     { TASK_LAST_RESULT, 1, 0, 0, 0, 0, 0, 3, "T1", 0 },
     { EVENT_PEND, 0, 4, 0, F, 0, 0, 4, "T1", 0 },
@@ -363,9 +363,9 @@ static const struct row events[] = {
     { TASK_LAST_RESULT, 2, 0, 0, 0, 0, 0, 2, "T31", 0 },
     { TASK_LAST_RESULT, 1, 0, 0, 0, 0, 0, 3, "T31", 0 },
     { EVENT_PEND, 5, 5, 0, F, 0, 2, 0, "T3", 0 },           /* task 31 waits at event 5 for 101 */
-    { SWIS_OFF, 0, 0, 0, 0, 0, 0, 1, "T3", 0 },
+    { SWITCHES_OFF, 1, 0, 0, 0, 0, 0, 1, "T3", 0 },
     { EVENT_POST, 5, 7, 0, 0, 0, 0, 31, "T3", 0 },          /* held back */
-    { SWIS_RESTORE, 1, 0, 0, 0, 0, 0, 0, "T31", 0 },
+    { SWITCHES_RESTORE, 1, 1, 0, 0, 0, 0, 0, "T31", 0 },
     { TASK_LAST_RESULT, 31, 0, 0, 0, 0, 0, 5, "T31", 0 },
 };
 
@@ -452,7 +452,7 @@ static const struct row mailboxes[] = {
     { TASK_LAST_RESULT, 1, 0, 0, 0, 0, 0, 22, "T3", 0 },
     { MAILBOX_POST, 0, 33, 0, 0, 0, 0, 0, "T3", 0 },        /* to the back */
     { MAILBOX_PEND, 0, 0, 0, 0, 0, 0, 33, "T3", 0 },
-    { TASKS_OFF, 0, 0, 0, 0, 0, 0, 1, "T3", 0 },
+    { SWITCHES_OFF, 2, 0, 0, 0, 0, 0, 2, "T3", 0 },
     { MAILBOX_PEND, 0, F, 0, 0, 9, 0, 0, "T3", 0 },
     { MAILBOX_PEND, 8, F, 0, 0, 3, 0, 5, "T3", 0 },         /* not 9 */
     { MAILBOX_PEND, 7, F, 0, 0, 11, 0, 5, "T3", 0 },
@@ -461,13 +461,13 @@ static const struct row mailboxes[] = {
     { MAILBOX_POST, 2, 1, 3, 0, 0, 0, 0, "T3", 0 },
     { MAILBOX_POST, 2, 2, 3, 0, 9, 0, 0, "T3", 0 },         /* full: capacity 1 */
     { MAILBOX_POST, 2, 2, 0, 0, 0, 1, 0, "T3", 0 },
-    { TASKS_RESTORE, 1, 0, 0, 0, 0, 0, 0, "T3", 0 },
-    { SWIS_OFF, 0, 0, 0, 0, 0, 0, 1, "T3", 0 },
+    { SWITCHES_RESTORE, 2, 2, 0, 0, 0, 0, 0, "T3", 0 },
+    { SWITCHES_OFF, 1, 0, 0, 0, 0, 0, 1, "T3", 0 },
     { MAILBOX_PEND, 0, 3, 0, 0, 9, 0, 0, "T3", 0 },
     { MAILBOX_POST, 2, 2, F, 0, 9, 0, 0, "T3", 0 },
     { MAILBOX_POST, 8, 2, F, 0, 3, 0, 5, "T3", 0 },
     { MAILBOX_POST, 7, 2, F, 0, 11, 0, 5, "T3", 0 },
-    { SWIS_RESTORE, 1, 0, 0, 0, 0, 0, 0, "T3", 0 },
+    { SWITCHES_RESTORE, 1, 1, 0, 0, 0, 0, 0, "T3", 0 },
     { SWI_CREATE, 0, 0, 0, 0, 0, 0, 0, "T3", 0 },
     { SWI_POST, 0, 0, 0, 0, 0, 0, 0, "S0", 0 },
     { MAILBOX_PEND, 2, 1, 0, 0, 2, 0, 0, "S0", 0 },
@@ -565,9 +565,9 @@ static const struct row mailboxes[] = {
     { TASK_LAST_RESULT, 31, 0, 0, 0, 0, 0, 57, "T31", 0 },
     { TASK_LAST_RESULT, 3, 0, 0, 0, 0, 0, 0, "T31", 0 },
     { MAILBOX_PEND, 3, F, 0, 0, 0, 2, 0, "T3", 0 },         /* reader of 3: 31 */
-    { TASKS_OFF, 0, 0, 0, 0, 0, 0, 1, "T3", 0 },
+    { SWITCHES_OFF, 2, 0, 0, 0, 0, 0, 2, "T3", 0 },
     { MAILBOX_POST, 3, 60, F, 0, 0, 0, 31, "T3", 0 },       /* done at once, whatever the limit; held back */
-    { TASKS_RESTORE, 1, 0, 0, 0, 0, 0, 0, "T31", 0 },
+    { SWITCHES_RESTORE, 2, 2, 0, 0, 0, 0, 0, "T31", 0 },
     { TASK_LAST_RESULT, 31, 0, 0, 0, 0, 0, 60, "T31", 0 },
 };
 

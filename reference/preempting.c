@@ -44,7 +44,7 @@ struct call tower_step(struct maker *m)
     if (t->depth != 0)
         return chance(m, 40) && t->swis_in_use != 0 ? surely_post(m, member(m, t->swis_in_use)) : call_of(INTERRUPT_OUT, 0, 0, 0, 0);
     if (!t->swis_on && chance(m, 70))
-        return call_of(SWIS_RESTORE, 1, 0, 0, 0);
+        return call_of(SWITCHES_RESTORE, SWIS_SWITCH, SWIS_SWITCH, 0, 0);
     if (t->active_count == 0) {
         /* a Swi at each priority that has none, while there is room */
         uint32_t missing = 0, doubled = 0;
@@ -123,7 +123,9 @@ struct call swi_queue_step(struct maker *m)
         return remove_swi(m, member(m, others));
     if (t->swis_in_use != 0xFFFF && chance(m, 98))
         return create_swi(m, m->target);
-    return call_of(chance(m, 50) ? SWIS_OFF : INTERRUPT_IN, 0, 0, 0, 0);
+    if (chance(m, 50))
+        return call_of(INTERRUPT_IN, 0, 0, 0, 0);
+    return call_of(SWITCHES_OFF, chance(m, 70) ? SWIS_SWITCH : BOTH_SWITCHES, 0, 0, 0);
 }
 
 struct call triggers_step(struct maker *m)
@@ -135,7 +137,7 @@ struct call triggers_step(struct maker *m)
     if (in_swi(m) && chance(m, 40))
         return call_of(chance(m, 50) ? SWI_END : SWI_TAKEN_TRIGGER, 0, 0, 0, 0);
     if (chance(m, 10))
-        return likely(m, chance(m, 50) ? SWIS_OFF : SWIS_RESTORE);
+        return likely(m, chance(m, 50) ? SWITCHES_OFF : SWITCHES_RESTORE);
     if (chance(m, 6))
         return call_of(m->tables.depth == 0 ? INTERRUPT_IN : INTERRUPT_OUT, 0, 0, 0, 0);
     return likely(m, SWI_POST + below(m, 5));
@@ -196,45 +198,70 @@ struct call chime_step(struct maker *m)
     return call_of(INTERRUPT_IN, 0, 0, 0, 0);
 }
 
+/* Another task is to stand in front of the current one, which goes on running while a switch is off. */
+static struct call other_in_front(struct maker *m)
+{
+    uint32_t others = tasks_in_mode(m, READY) & ~bit(m->tables.current) & ~bit(0);
+
+    if (others == 0)
+        return call_of(TASK_CREATE, 15, 0, 0, 0);
+    if (chance(m, 50))
+        return call_of(TASK_SET_PRIORITY, m->tables.current, 1, 0, 0);
+    return call_of(TASK_SET_PRIORITY, member(m, others), 15, 0, 0);
+}
+
+/* A Swi or an interrupt, among the steps of switched_off_step. */
+static struct call switched_off_above(struct maker *m)
+{
+    if (chance(m, 12))
+        return likely(m, chance(m, 50) ? SWITCHES_OFF : SWITCHES_RESTORE);
+    if (m->tables.depth != 0)
+        return chance(m, 50) ? any(m) : call_of(INTERRUPT_OUT, 0, 0, 0, 0);
+    switch (below(m, 6)) {
+    case 0:
+        return call_of(SWITCHES_OFF, SWIS_SWITCH, 0, 0, 0);
+    case 1:
+        return likely(m, SWITCHES_RESTORE);
+    case 2:
+    case 3:
+        return call_of(SWI_END, 0, 0, 0, 0);
+    default:
+        return any(m);
+    }
+}
+
 struct call switched_off_step(struct maker *m)
 {
     const struct tables *t = &m->tables;
 
-    if (t->depth != 0)
-        return chance(m, 50) ? any(m) : call_of(INTERRUPT_OUT, 0, 0, 0, 0);
-    if (t->active_count != 0) {
-        switch (below(m, 6)) {
-        case 0:
-            return call_of(SWIS_OFF, 0, 0, 0, 0);
-        case 1:
-            return likely(m, SWIS_RESTORE);
-        case 2:
-        case 3:
-            return call_of(SWI_END, 0, 0, 0, 0);
-        default:
-            return any(m);
-        }
-    }
-    if (t->swis_on && t->tasks_on) {
+    if (!in_task(m))
+        return switched_off_above(m);
+    if (is_calm(m)) {
         if (t->current == 0 && chance(m, 60))
             return bring_task(m);
-        return call_of(chance(m, 50) ? SWIS_OFF : TASKS_OFF, 0, 0, 0, 0);
+        return call_of(SWITCHES_OFF, 1 + below(m, 3), 0, 0, 0);
     }
-    switch (below(m, 10)) {
+    if (switches_now_off(m) == BOTH_SWITCHES && front_task(m) != t->current && chance(m, 25))
+        return call_of(SWITCHES_RESTORE, BOTH_SWITCHES, BOTH_SWITCHES, 0, 0); /* a task switches, but a posted Swi begins before it */
+    switch (below(m, 12)) {
     case 0:
     case 1:
     case 2:
         return would_wait(m);
     case 3:
-        return likely(m, TASK_CREATE);
+        return chance(m, 50) ? likely(m, TASK_CREATE) : other_in_front(m);
     case 4:
         return likely(m, TASK_SET_PRIORITY);
     case 5:
         return t->swis_in_use != 0 ? surely_post(m, member(m, t->swis_in_use)) : likely(m, SWI_CREATE);
     case 6:
-        return likely(m, chance(m, 50) ? SWIS_RESTORE : TASKS_RESTORE);
+        return likely(m, SWITCHES_RESTORE);
     case 7:
-        return chance(m, 30) ? call_of(chance(m, 50) ? SWIS_OFF : TASKS_OFF, 0, 0, 0, 0) : serve_somebody(m);
+        return chance(m, 30) ? call_of(SWITCHES_OFF, 1 + below(m, 3), 0, 0, 0) : serve_somebody(m);
+    case 8:
+        return chance(m, 20) ? gone_call(m) : any(m);
+    case 9:
+        return chance(m, 50) ? turn_on(m) : any(m);
     default:
         return any(m);
     }

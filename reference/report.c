@@ -53,10 +53,62 @@ static void print_woke(FILE *file)
     }
 }
 
+static const uint8_t switch_calls[SWITCH_CALLS] = { [CALL_OFF] = SWITCHES_OFF, [CALL_RESTORE] = SWITCHES_RESTORE };
+
+/* What calls 77 and 78 met, two columns for each. */
+static void print_switched(FILE *file)
+{
+    fprintf(file, "\nhow often a call of the switches, and in how many of %lu logs\n", coverage.logs);
+    for (unsigned call = 0; call < SWITCH_CALLS; call++)
+        fprintf(file, "%10X%6s", switch_calls[call], "logs");
+    fputc('\n', file);
+    for (unsigned i = 0; i < SWITCHED; i++) {
+        for (unsigned call = 0; call < SWITCH_CALLS; call++)
+            fprintf(file, "%10lu%6lu", coverage.switched[i][call].times, coverage.switched[i][call].logs);
+        fprintf(file, "  %s\n", switched[i]);
+    }
+}
+
+enum { GONE = LAST_GONE - FIRST_GONE + 1 };
+
+static const char *const contexts[CONTEXTS] = { [FROM_TASK] = "task", [FROM_SWI] = "Swi", [FROM_INTERRUPT] = "interrupt" };
+
+/* The numbers that No. 10 took away, two columns for each context. */
+static void print_gone(FILE *file)
+{
+    fprintf(file, "\nhow often a number that No. 10 took away gave code 1, and in how many of %lu logs\n", coverage.logs);
+    for (unsigned context = 0; context < CONTEXTS; context++)
+        fprintf(file, "%10s%6s", contexts[context], "logs");
+    fputc('\n', file);
+    for (unsigned i = 0; i < GONE; i++) {
+        for (unsigned context = 0; context < CONTEXTS; context++)
+            fprintf(file, "%10lu%6lu", coverage.gone[i][context].times, coverage.gone[i][context].logs);
+        fprintf(file, "  %X\n", FIRST_GONE + i);
+    }
+}
+
+/* Which states of the switches were never reached; gives how many. */
+static unsigned print_never_switched(FILE *file)
+{
+    unsigned missing = 0;
+
+    for (unsigned i = 0; i < SWITCHED * SWITCH_CALLS; i++)
+        if (coverage.switched[i / SWITCH_CALLS][i % SWITCH_CALLS].times == 0) {
+            missing++;
+            fprintf(file, "never: call %X %s\n", switch_calls[i % SWITCH_CALLS], switched[i / SWITCH_CALLS]);
+        }
+    for (unsigned i = 0; i < GONE * CONTEXTS; i++)
+        if (coverage.gone[i / CONTEXTS][i % CONTEXTS].times == 0) {
+            missing++;
+            fprintf(file, "never: number %X, code 1, from: %s\n", FIRST_GONE + i / CONTEXTS, contexts[i % CONTEXTS]);
+        }
+    return missing;
+}
+
 /* Which of the deep states were never reached; gives how many. */
 static unsigned print_never(FILE *file)
 {
-    unsigned missing = 0;
+    unsigned missing = print_never_switched(file);
 
     for (unsigned i = 0; i < COUNTED * ORDERS; i++)
         if (coverage.counted[i / ORDERS][i % ORDERS] == 0) {
@@ -134,6 +186,8 @@ unsigned coverage_print(FILE *file)
         fprintf(file, "%10lu%6lu  %s\n", coverage.count[i].times, coverage.count[i].logs, happened[i]);
     print_counted(file);
     print_woke(file);
+    print_switched(file);
+    print_gone(file);
     fputc('\n', file);
     missing += print_never(file);
     for (unsigned i = 0; i < CALLS; i++)
@@ -143,6 +197,6 @@ unsigned coverage_print(FILE *file)
     if (stray != 0)
         fprintf(file, "%lu answers with a code that the call cannot give\n", stray);
     fprintf(file, "%u pairs of call and code and %u deep states, %u of them never reached\n", pairs,
-            (unsigned)HAPPENED + COUNTED * ORDERS + WOKES * POST_PLACES, missing);
+            (unsigned)HAPPENED + COUNTED * ORDERS + WOKES * POST_PLACES + SWITCHED * SWITCH_CALLS + GONE * CONTEXTS, missing);
     return missing + (stray != 0);
 }

@@ -56,11 +56,11 @@ static const struct step arrival[] = {
     { { SEMAPHORE_POST, { 2 } }, { 0, 0, 0 }, { 65534, 5, 1, 65538 }, 0 },         /* nobody waits */
     { { INTERRUPT_OUT, { 0 } }, { 0, 0, 0 }, { 65534, 5, 1, 65538 }, 0 },          /* task 1 runs */
     { { SEMAPHORE_RESET, { 2, 65536 } }, { 4, 0, 0 }, { 65534, 5, 1, 65538 }, 0 },
-    { { TASKS_OFF, { 0 } }, { 0, 0, 1 }, { 65534, 5, 1, 65538 }, 0 },
+    { { SWITCHES_OFF, { TASKS_SWITCH } }, { 0, 0, 2 }, { 65534, 5, 1, 65538 }, 0 },
     { { SEMAPHORE_POST, { 2 } }, { 0, 0, 0 }, { 65534, 6, 2, 65538 }, 0 },
     { { SEMAPHORE_PEND, { 2, F } }, { 0, 0, 0 }, { 65534, 6, 0, 65540 }, 2 },
     { { SEMAPHORE_PEND, { 2, F } }, { 9, 0, 0 }, { 65534, 6, 0, 65540 }, 0 },      /* a wait would begin */
-    { { TASKS_RESTORE, { 1 } }, { 0, 0, 0 }, { 65534, 6, 0, 65540 }, 0 },
+    { { SWITCHES_RESTORE, { TASKS_SWITCH, 2 } }, { 0, 0, 0 }, { 65534, 6, 0, 65540 }, 0 },
     { { SEMAPHORE_POST, { 2 } }, { 0, 0, 0 }, { 65534, 7, 1, 65540 }, 0 },
     { { SEMAPHORE_RESET, { 2, 7 } }, { 0, 0, 0 }, { 7, 0, 7, 0 }, 0 },             /* a new start */
     { { SEMAPHORE_PEND, { 2, F } }, { 0, 0, 0 }, { 7, 0, 6, 1 }, 0 },

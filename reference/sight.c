@@ -19,7 +19,17 @@ int in_swi(const struct maker *m)
 
 int is_calm(const struct maker *m)
 {
-    return in_task(m) && m->tables.swis_on && m->tables.tasks_on;
+    return in_task(m) && switches_now_off(m) == 0;
+}
+
+uint32_t switches_now_off(const struct maker *m)
+{
+    return (m->tables.swis_on ? 0 : (uint32_t)SWIS_SWITCH) | (m->tables.tasks_on ? 0 : (uint32_t)TASKS_SWITCH);
+}
+
+uint32_t front_task(const struct maker *m)
+{
+    return m->tables.link[HEAD_OF_READY + 31u - (uint32_t)__builtin_clz(m->tables.ready_levels)].next;
 }
 
 uint32_t line_length(const struct maker *m, uint32_t head)

@@ -14,6 +14,12 @@ int in_swi(const struct maker *m);
 /* A task runs and both switches are on. */
 int is_calm(const struct maker *m);
 
+/* The switches that are off, as call 77 names them. */
+uint32_t switches_now_off(const struct maker *m);
+
+/* The front of the highest ready queue: the current task, if nothing holds it back. */
+uint32_t front_task(const struct maker *m);
+
 /* A queue or line, by its head. */
 uint32_t line_length(const struct maker *m, uint32_t head);
 

@@ -86,6 +86,24 @@ enum happened {
     SWI_WHILE_TASKS_OFF,
     TASK_AFTER_RESTORE,
     TASK_AFTER_SWIS_RESTORE,
+    TASK_AFTER_BOTH_RESTORE,
+    SWI_AFTER_BOTH_RESTORE,
+    SWI_BEFORE_TASK,
+    ANSWERED_NONE_ON,
+    ANSWERED_SWIS_ON,
+    ANSWERED_TASKS_ON,
+    ANSWERED_BOTH_ON,
+    SWIS_OFF_ALREADY,
+    TASKS_OFF_ALREADY,
+    OTHER_SWITCH_LEFT_ON,
+    KEY_NONE,
+    KEY_SWIS_OF_BOTH,
+    KEY_TASKS_OF_BOTH,
+    KEY_ON_ALREADY,
+    KEY_LEFT_ONE_ON,
+    KEY_TASKS_NOT_NAMED,
+    KEY_SWIS_NOT_NAMED,
+    KEY_NO_SWITCH,
     CURRENT_NOT_IN_FRONT,
     BOTH_OFF,
     FIVE_BEFORE_NINE,
@@ -149,6 +167,33 @@ enum woke {
 
 extern const char *const woke[WOKES]; /* in words */
 
+/* What calls 77 and 78 met. */
+enum switched {
+    SWITCHED_BY_TASK,
+    SWITCHED_BY_SWI,
+    SWITCHED_SWIS,
+    SWITCHED_TASKS,
+    SWITCHED_BOTH,
+    INTERRUPT_NAMED_ONE,
+    INTERRUPT_NAMED_BADLY,
+    SWI_NAMED_TASKS,
+    SWI_NAMED_BOTH,
+    SWI_NAMED_NONE,
+    SWI_NAMED_MORE,
+    SWI_NAMED_BADLY,
+    SWI_BAD_ARGUMENT,
+    TASK_NAMED_NONE,
+    TASK_NAMED_MORE,
+    TASK_UNUSED_ARGUMENT,
+    SWITCHED
+};
+
+extern const char *const switched[SWITCHED]; /* in words */
+
+enum switch_call { CALL_OFF, CALL_RESTORE, SWITCH_CALLS }; /* 77 and 78 */
+
+enum context { FROM_TASK, FROM_SWI, FROM_INTERRUPT, CONTEXTS };
+
 enum place { SEMAPHORE_PLACE, EVENT_PLACE, MAILBOX_PLACE, POST_PLACES }; /* of a post */
 
 struct tally {
@@ -165,6 +210,8 @@ struct counts {
     uint32_t most[MOSTS];
     struct tally count[HAPPENED];
     struct tally woke[WOKES][POST_PLACES];
+    struct tally switched[SWITCHED][SWITCH_CALLS];
+    struct tally gone[LAST_GONE - FIRST_GONE + 1][CONTEXTS]; /* numbers that No. 10 took away, refused with 1 */
     unsigned long counted[COUNTED][ORDERS];
     uint64_t most_posts[ORDERS];       /* since a count was set */
     uint64_t most_taken[ORDERS];

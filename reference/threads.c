@@ -68,18 +68,18 @@ static const struct row tasks[] = {
     { TASK_SET_PRIORITY, 3, 5, 0, 0, 5, 0, 0, "T1", 0 },    /* terminated, the same priority too */
     { TASK_SET_PRIORITY, 3, 0, 0, 0, 4, 0, 0, "T1", 0 },
     { TASK_LAST_RESULT, 3, 0, 0, 0, 0, 0, 0, "T1", 0 },     /* in use until it is deleted */
-    { TASKS_OFF, 0, 0, 0, 0, 0, 0, 1, "T1", 0 },
+    { SWITCHES_OFF, 2, 0, 0, 0, 0, 0, 2, "T1", 0 },
     { TASK_YIELD, 0, 0, 0, 0, 9, 0, 0, "T1", 0 },
     { TASK_END, 0, 0, 0, 0, 9, 0, 0, "T1", 0 },
     { TASK_SLEEP, 1, 0, 0, 0, 9, 0, 0, "T1", 0 },
     { TASK_SLEEP, 0, 0, 0, 0, 0, 0, 0, "T1", 0 },
     { TASK_SLEEP, F, 0, 0, 0, 4, 0, 0, "T1", 0 },           /* 4 before 9 */
-    { TASKS_RESTORE, 1, 0, 0, 0, 0, 0, 0, "T1", 0 },
-    { SWIS_OFF, 0, 0, 0, 0, 0, 0, 1, "T1", 0 },
+    { SWITCHES_RESTORE, 2, 2, 0, 0, 0, 0, 0, "T1", 0 },
+    { SWITCHES_OFF, 1, 0, 0, 0, 0, 0, 1, "T1", 0 },
     { TASK_YIELD, 0, 0, 0, 0, 9, 0, 0, "T1", 0 },
     { TASK_END, 0, 0, 0, 0, 9, 0, 0, "T1", 0 },
     { TASK_SLEEP, 1, 0, 0, 0, 9, 0, 0, "T1", 0 },
-    { SWIS_RESTORE, 1, 0, 0, 0, 0, 0, 0, "T1", 0 },
+    { SWITCHES_RESTORE, 1, 1, 0, 0, 0, 0, 0, "T1", 0 },
     { INTERRUPT_IN, 0, 0, 0, 0, 0, 0, 0, "I", 0 },
     { TASK_CREATE, 5, 0, 0, 0, 2, 0, 0, "I", 0 },
     { TASK_CREATE, 0, 0, 0, 0, 2, 0, 0, "I", 0 },           /* 2 before 4 */
@@ -145,11 +145,11 @@ static const struct row tasks[] = {
     { TASK_SLEEP, F, 0, 0, 0, 4, 0, 0, "T0", 0 },           /* 4 before 5 */
     { TASK_SLEEP, 0, 0, 0, 0, 0, 0, 0, "T0", 0 },
     { TASK_YIELD, 0, 0, 0, 0, 0, 0, 0, "T0", 0 },
-    { TASKS_OFF, 0, 0, 0, 0, 0, 0, 1, "T0", 0 },
+    { SWITCHES_OFF, 2, 0, 0, 0, 0, 0, 2, "T0", 0 },
     { TASK_YIELD, 0, 0, 0, 0, 9, 0, 0, "T0", 0 },
     { TASK_END, 0, 0, 0, 0, 5, 0, 0, "T0", 0 },             /* 5 before 9 */
     { TASK_SLEEP, 1, 0, 0, 0, 5, 0, 0, "T0", 0 },
-    { TASKS_RESTORE, 1, 0, 0, 0, 0, 0, 0, "T0", 0 },
+    { SWITCHES_RESTORE, 2, 2, 0, 0, 0, 0, 0, "T0", 0 },
     { TASK_CREATE, F, 0, 0, 0, 0, 0, 5, "T0", RISING + 27 }, /* 5 to 31; 0 to 4 are in use, terminated but for 0 */
     { TASK_CREATE, F, 0, 0, 0, 6, 0, 0, "T0", 0 },
     { TASK_CREATE, 16, 0, 0, 0, 4, 0, 0, "T0", 0 },         /* 4 before 6 */
@@ -234,11 +234,11 @@ static const struct row swis[] = {
     { SWI_SET_BITS, 2, 6, 0, 0, 0, 0, 0, "S2", 0 },         /* 1 to 7, posted while active */
     { SWI_END, 0, 0, 0, 0, 0, 0, 0, "S2", 0 },              /* ends, and starts again above Swi 0 */
     { SWI_TAKEN_TRIGGER, 0, 0, 0, 0, 0, 0, 7, "S2", 0 },
-    { SWIS_OFF, 0, 0, 0, 0, 0, 0, 1, "S2", 0 },
+    { SWITCHES_OFF, 1, 0, 0, 0, 0, 0, 1, "S2", 0 },
     { SWI_END, 0, 0, 0, 0, 9, 0, 0, "S2", 0 },
     { SWI_END, 1, 0, 0, 0, 4, 0, 0, "S2", 0 },              /* 4 before 9 */
     { SWI_TAKEN_TRIGGER, 0, 0, 0, 0, 0, 0, 7, "S2", 0 },
-    { SWIS_RESTORE, 1, 0, 0, 0, 0, 0, 0, "S2", 0 },
+    { SWITCHES_RESTORE, 1, 1, 0, 0, 0, 0, 0, "S2", 0 },
     { SWI_END, 0, 0, 0, 0, 0, 0, 0, "S0", 0 },              /* those at 5 are not above the active Swi 0 */
     { SWI_TAKEN_TRIGGER, 0, 0, 0, 0, 0, 0, 0, "S0", 0 },    /* as at its start */
     { SWI_END, 0, 0, 0, 0, 0, 0, 0, "S0", 0 },              /* the first at 5 is Swi 0 again */
@@ -272,14 +272,14 @@ static const struct row swis[] = {
     { SWI_DELETE, 3, 1, 0, 0, 11, 0, 2, "T0", 0 },
     { SWI_DELETE, 15, 0, 0, 0, 11, 0, 2, "T0", 0 },
     { SWI_DELETE, 0, 1, 0, 0, 4, 0, 0, "T0", 0 },
-    { SWIS_OFF, 0, 0, 0, 0, 0, 0, 1, "T0", 0 },
+    { SWITCHES_OFF, 1, 0, 0, 0, 0, 0, 1, "T0", 0 },
     { SWI_POST, 16, 0, 0, 0, 3, 0, 2, "T0", 0 },
     { SWI_POST, 15, 0, 0, 0, 11, 0, 2, "T0", 0 },
     { SWI_POST, 0, 0, 0, 0, 0, 0, 0, "T0", 0 },             /* waits for the switch */
     { SWI_DELETE, 0, 1, 0, 0, 4, 0, 0, "T0", 0 },           /* 4 before 5 */
     { SWI_DELETE, 0, 0, 0, 0, 5, 0, 0, "T0", 0 },           /* posted */
-    { SWIS_RESTORE, 0, 0, 0, 0, 0, 0, 0, "T0", 0 },         /* no change */
-    { SWIS_RESTORE, 1, 0, 0, 0, 0, 0, 0, "S0", 0 },
+    { SWITCHES_RESTORE, 1, 0, 0, 0, 0, 0, 0, "T0", 0 },     /* no change */
+    { SWITCHES_RESTORE, 1, 1, 0, 0, 0, 0, 0, "S0", 0 },
     { SWI_END, 0, 0, 0, 0, 0, 0, 0, "T0", 0 },
     { CLOCK_CREATE, 0, 1, 0, 0, 0, 0, 0, "T0", 0 },
     { SWI_DELETE, 0, 0, 0, 0, 5, 0, 0, "T0", 0 },           /* named by a clock, stopped though it is */

@@ -14,12 +14,12 @@ function verb(   words) { words = callWords[call]; sub(/[ ,].*/, "", words); ret
 
 # ---- what is noted at each record
 
-# Refused calls by code, call and object (numbers outside their table together, an object apart from one that had its number before); calls not met, as
-# code 0, by call and object. The first of each is kept whole.
+# Refused calls by code, call and object or switches (numbers outside their table together, an object apart from one that had its number before); calls
+# not met, as code 0, by call and object. The first of each is kept whole.
 function noteAnswer(   key, gone) {
     if (code == 0 && !isNotMet()) return
     gone = code == 11 && ((kindNamed, numberNamed) in goneAt) ? goneAt[kindNamed, numberNamed] : ""
-    key = code SUBSEP call SUBSEP (numberNamed + 0 < tableSize[kindNamed] + 0 ? numberNamed : "") SUBSEP gone
+    key = code SUBSEP call SUBSEP onWhat() SUBSEP gone
     if (!(key in misses)) {
         missKeys[++missMany] = key
         missCode[key] = code; missName[key] = shortName(); missKind[key] = kindNamed; missNumber[key] = numberNamed
@@ -28,11 +28,18 @@ function noteAnswer(   key, gone) {
         missGone[key] = gone
         missFree[key] = code == 8 ? 2048 - units * 8 : 0
         missAsked[key] = given[1]
+        missSuch[key] = onWhat() == "" && (kindNamed != "" || (call in callSwitches))
+        if (call in oldWas) missOld[key] = 1
         if (code == 9) offKey = key
     }
     misses[key]++; missLast[key] = record; missesOf[code]++
     if (code == 11) noteUnused(kindNamed, numberNamed, gone)
     if (code == 0 && kindNamed == "mailbox" && verb() == "post") noteDrop(key)
+}
+# The number of the object that the call is on, or its switches; nothing where there is none such.
+function onWhat() {
+    if (call in callSwitches) return given[1] > 0 && given[1] < 4 ? given[1] : ""
+    return numberNamed + 0 < tableSize[kindNamed] + 0 ? numberNamed : ""
 }
 # A call named an object not in use: all such calls since its deletion, or before it was made, together, and each call and who made it.
 function noteUnused(kindOf, n, deleted,   key, by) {
@@ -177,14 +184,14 @@ function notePosts(   i, key) {
         if (post[i + 2] == 1 && ++swiLost[key] == 1) swiLostFirst[key] = record
     }
 }
-function noteSwitches(   name) {
+function noteSwitches() {
     noteSwitch("Swis", swisOn); noteSwitch("tasks", tasksOn)
     if (offKey != "" && swisOn && tasksOn) { missRestored[offKey] = record; offKey = "" }
-    if (code != 0) return
-    name = callWords[call]
-    if (sub(/ off$/, "", name)) offs[name]++
-    else if (sub(/^restore /, "", name)) { sub(/,.*/, "", name); restores[name]++ }
+    if (code != 0 || !(call in callSwitches)) return
+    if (hasSwis(given[1])) noteTurn("Swis")
+    if (hasTasks(given[1])) noteTurn("tasks")
 }
+function noteTurn(name) { if (verb() == "restore") restores[name]++; else offs[name]++ }
 function noteSwitch(name, on) {
     if (!on && !(name in offSince)) { offSince[name] = record; offTick[name] = ticks; offBy[name] = caller }
     if (on && (name in offSince)) {
@@ -231,7 +238,7 @@ function circleInWords(t,   u, h, text, n) {
     return ""
 }
 
-# ---- findings. A finding has a rank (3 nothing goes on past it, 2 strong, 1 worth a look, 0 not told on top) and the record where it began:
+# ---- findings. A finding has a rank (3 nothing goes on or is sure past it, 2 strong, 1 worth a look, 0 not told on top) and the record where it began:
 # of one rank the earliest is told first.
 
 function finding(rank, since, text, more) {
@@ -351,12 +358,12 @@ function findMisses(   i, key, c, n, text) {
         text = missName[key] ", by " threadName(missBy[key]) " at record " missFirst[key] ": refused with code " c ": " missWhy[key]
         if (misses[key] > 1) text = text " (" missTimes(key) ", last at record " missLast[key] ")"
         if (c == 3) noteOutside(key, text)
+        else if (key in missOld) noteOld(key, text)
         else if (c != 11) finding(c > 5 && c < 10 ? 2 : 1, missFirst[key], text, c == 8 ? roomInWords(key) : restoredInWords(key))
     }
 }
 function restoredInWords(key) { return key in missRestored ? "both switches were on again at record " missRestored[key] : "" }
-function isOutside(key) { return missKind[key] != "" && missNumber[key] + 0 >= tableSize[missKind[key]] + 0 }
-function missTimes(key) { return times(misses[key]) (misses[key] > 1 && isOutside(key) ? " with such numbers" : "") }
+function missTimes(key) { return times(misses[key]) (misses[key] > 1 && missSuch[key] ? " with such numbers" : "") }
 # Messages were dropped at a full mailbox: strong, where its reader was kept from reading at a quarter of them.
 function findDrops(key, n,   kept, more) {
     kept = dropsMost[key] * 4 >= misses[key]
@@ -375,6 +382,16 @@ function findOutside() {
     finding(2, missFirst[outsideKey], outsideText,
         "no create gave that number: it came from outside, such as a packet, or from memory that was spoilt" \
         (outsideOthers == "" ? "" : "; likewise " outsideOthers) (outsideMany > 4 ? " and " plural(outsideMany - 4, "other") : ""))
+}
+# So are the numbers of older firmware: that unit did what the replay refuses.
+function noteOld(key, text) {
+    if (oldKey == "") { oldKey = key; oldText = text }
+    else oldOthers = listing(oldOthers, missName[key] " (" times(misses[key]) ")")
+}
+function findOld() {
+    if (oldKey == "") return
+    finding(3, missFirst[oldKey], oldText,
+        "a unit with older firmware knew that number: from there on the replay may differ from what it did" (oldOthers == "" ? "" : "; likewise " oldOthers))
 }
 # An object not in use is one finding: it was deleted, too early where calls named it that were more than calls to delete it; or it was never
 # made. One that was made later is not told.
@@ -420,17 +437,24 @@ function oldBlocks(   o, old) { old = 0; for (o in liveAt) if (record - liveAt[o
 function findHeap() {
     if (!(8 in missesOf) && units > 128 && oldBlocks() > 2) finding(1, record, "the heap fills: " heapInWords() " taken at the end", oldBlocksInWords())
 }
-function offSpan(name) { return name " are off " span(offSince[name], offTick[name]) ", by " threadName(offBy[name]) }
-function findSwitches(   i, name) {
-    for (i = 1; i <= 2; i++) {
-        name = i == 1 ? "Swis" : "tasks"
-        if (name in offSince) {
-            if (isLong(offSince[name])) finding(3, offSince[name], offSpan(name) ", and were not restored", "")
-        }
-        else if (offs[name] > restores[name] + 0 && !(9 in missesOf))
-            finding(1, offFrom[name], name " were switched off " times(offs[name]) " and restored " times(restores[name] + 0),
-                "they were off longest from record " offFrom[name] " to " offTo[name] " (" threadName(offLongBy[name]) ")")
+function offSpan(name, told) { return told " are off " span(offSince[name], offTick[name]) ", by " threadName(offBy[name]) }
+# Did the same calls turn both switches?
+function isTogether() {
+    if (("Swis" in offSince) != ("tasks" in offSince)) return 0
+    if ("Swis" in offSince) return offSince["Swis"] == offSince["tasks"]
+    return offs["Swis"] == offs["tasks"] && restores["Swis"] == restores["tasks"] && offFrom["Swis"] == offFrom["tasks"] && offTo["Swis"] == offTo["tasks"]
+}
+function findSwitches() {
+    if (isTogether()) findSwitch("Swis", "Swis and tasks")
+    else { findSwitch("Swis", "Swis"); findSwitch("tasks", "tasks") }
+}
+function findSwitch(name, told) {
+    if (name in offSince) {
+        if (isLong(offSince[name])) finding(3, offSince[name], offSpan(name, told) ", and were not restored", "")
     }
+    else if (offs[name] > restores[name] + 0 && !(9 in missesOf))
+        finding(1, offFrom[name], told " were switched off " times(offs[name]) " and restored " times(restores[name] + 0),
+            "they were off longest from record " offFrom[name] " to " offTo[name] " (" threadName(offLongBy[name]) ")")
 }
 
 # ---- telling
@@ -438,7 +462,7 @@ function findSwitches(   i, name) {
 function section(name) { print ""; print name }
 function isBefore(i, j) { return findingRank[i] != findingRank[j] ? findingRank[i] > findingRank[j] : findingSince[i] < findingSince[j] }
 function tellFindings(   i, best, told) {
-    findCircles(); findWaits(); findStarved(); findMisses(); findOutside(); findUnused(); findSwitches(); findHeap()
+    findCircles(); findWaits(); findStarved(); findMisses(); findOutside(); findOld(); findUnused(); findSwitches(); findHeap()
     for (told = 0; told < 6; told++) {
         best = 0
         for (i = 1; i <= findings; i++) if (findingRank[i] > 0 && (!best || isBefore(i, best))) best = i
@@ -514,8 +538,11 @@ function tellRest(   i, key, p, told) {
         if (told <= 8) print "  Swi " p[2] " by " p[1] ", " swiLost[key] " of " plural(swiPosts[key], "post") ", first at record " swiLostFirst[key]
     }
     if (told > 8) print "  and " told - 8 " more"
-    if ("Swis" in offSince) section(offSpan("Swis"))
-    if ("tasks" in offSince) section("T" substr(offSpan("tasks"), 2))
+    if (("Swis" in offSince) && isTogether()) section(offSpan("Swis", "Swis and tasks"))
+    else {
+        if ("Swis" in offSince) section(offSpan("Swis", "Swis"))
+        if ("tasks" in offSince) section(offSpan("tasks", "Tasks"))
+    }
     if (depth > 0) section("The log ends in an interrupt, at depth " depth)
 }
 

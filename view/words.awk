@@ -11,6 +11,7 @@ function readNames(file,   line, kind, key, p, got) {
         key = p[1]
         if (kind == "table") { tableKind[key] = p[2]; tableSize[p[2]] = p[3]; tableName[key] = p[4]; tableLetter[p[2]] = p[5] }
         else if (kind == "call") readCall(key, p[2], p[3])
+        else if (kind == "old") { oldWas[key] = p[2]; oldNow[key] = p[3] }
         else if (kind == "may") mayMake[key] = p[2]
         else if (kind == "got") gotWords[key, p[2], p[3]] = p[4]
         else if (kind == "code") codeName[key] = p[2]
@@ -23,7 +24,7 @@ function readNames(file,   line, kind, key, p, got) {
     close(file)
     freshTables()
 }
-# A call's words; how many arguments it has; and the kind of the object that it names, and as which argument.
+# A call's words; how many arguments it has; the kind of the object that it names, and as which argument; and whether it names switches, which its first argument does.
 function readCall(key, who, words,   rest, at, place, n) {
     callWho[key] = who
     callWords[key] = words
@@ -34,6 +35,7 @@ function readCall(key, who, words,   rest, at, place, n) {
         place = substr(rest, at + 3, index(rest, "}") - at - 3)
         if (n + 0 > callArguments[key]) callArguments[key] = n + 0
         if (place in tableSize) { callKind[key] = place; callPlace[key] = n }
+        if (place == "w") callSwitches[key] = 1
         rest = substr(rest, index(rest, "}") + 1)
     }
 }
@@ -178,6 +180,7 @@ function inForm(form, n) {
     if (form == "t") return plural(n, "tick")
     if (form == "b") return plural(n, "byte")
     if (form == "k") return n in kindName ? kindName[n] : "kind " n
+    if (form == "w") return n == 1 ? "Swis" : n == 2 ? "tasks" : n == 3 ? "Swis and tasks" : "switches " n
     return form " " n
 }
 # Words with their places filled in.
@@ -213,8 +216,11 @@ function placeInWords(place) {
     if (place == "until") return untilInWords(substr(caller, 2))
     if (place == "depth") return depth
     if (place == "tick") return tickNow
-    if (place == "Swis") return swisOn ? "on" : "off"
-    if (place == "tasks") return tasksOn ? "on" : "off"
+    if (place == "were") return switchesInWords("were", value, " already")
+    if (place == "are") return switchesInWords("are", swisOn + 2 * tasksOn, "")
+    if (place == "stray") return strayInWords()
+    if (place == "was") return oldWas[call]
+    if (place == "now") return oldNow[call]
     if (place == "swis") return "Swis are off" sinceInWords(swisSince, swisBy)
     return offInWords()
 }
@@ -230,7 +236,23 @@ function untilInWords(t) {
 function sinceInWords(since, by) { return " since record " since " (" threadName(by) ")" }
 function offInWords() {
     if (swisOn) return "tasks are off" sinceInWords(tasksSince, tasksBy)
+    if (!tasksOn && swisSince == tasksSince) return "Swis and tasks are off" sinceInWords(swisSince, swisBy)
     return "Swis are off" sinceInWords(swisSince, swisBy) (tasksOn ? "" : ", tasks" sinceInWords(tasksSince, tasksBy))
+}
+# Does a word of bits have Swis' bit (1), or that of tasks (2)?
+function hasSwis(bits) { return bits % 4 % 2 == 1 }
+function hasTasks(bits) { return bits % 4 > 1 }
+# The switches that the call names and whose bits are there are on, the others off: 'they were on', 'Swis were on, tasks off already'.
+function switchesInWords(were, bits, already,   swis, tasks) {
+    swis = hasSwis(bits); tasks = hasTasks(bits)
+    if (given[1] == 3 && swis != tasks) return swis ? "Swis " were " on, tasks off" already : "tasks " were " on, Swis off" already
+    return "they " were ((given[1] == 2 ? tasks : swis) ? " on" : " off" already)
+}
+# The key's bits that the call does not name: those of a switch by its name, the rest as they are.
+function strayInWords(   text, rest) {
+    text = hasSwis(given[2]) && !hasSwis(given[1]) ? "Swis" : hasTasks(given[2]) && !hasTasks(given[1]) ? "tasks" : ""
+    rest = given[2] - given[2] % 4
+    return text (text != "" && rest > 0 ? " and " : "") (rest > 0 ? hexWord(rest) : "")
 }
 function unusedArgument(   i) {
     for (i = callArguments[call] + 1; i <= 4; i++) if (given[i] != 0) return i
@@ -302,6 +324,9 @@ function holds(test) {
     if (test == "") return 1
     if (test == "unused") return unusedArgument() > 0
     if (test == "kind") return given[1] > 3
+    if (test == "which") return given[1] < 1 || given[1] > 3
+    if (test == "Swi") return substr(caller, 1, 1) == "S"
+    if (test == "old") return call in oldWas
     if (test == "no block") return !(given[1] in blockUnits)
     if (test == "task 0") return numberNamed == 0
     if (test == "terminated") return mode[numberNamed] == 7

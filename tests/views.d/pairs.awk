@@ -1,5 +1,5 @@
-# Reads the .words files. Tells each pair of call and code of reference/calls.c that has no line there, and each `call`, `got` and `why` of view/names that no line shows.
-# A code is a hexadecimal digit there, so b is 11.
+# Reads the .words files. Tells each pair of call and code of reference/calls.c that has no line there, and each `old`, `got` and `why` of view/names that no line shows.
+# A code is a hexadecimal digit there, so b is 11; an old number has code 1.
 function pattern(words,   text, c) {
     text = ""
     while (words != "") {
@@ -17,8 +17,9 @@ BEGIN {
         for (i = 1; i <= length(codes); i++) { pair[number " " (index("0123456789ab", substr(codes, i, 1)) - 1)] = 1; pairs++ }
     }
     pair["ff 1"] = 1; pairs++
-    while ((getline line < names) > 0) if (line ~ /^(got|why) /) {
+    while ((getline line < names) > 0) if (line ~ /^(old|got|why) /) {
         split(substr(line, 5), p, "|")
+        if (line ~ /^old /) { pair[p[1] " 1"] = 1; pairs++; continue }
         lines++
         key[lines] = line; lineCall[lines] = p[1]; lineCode[lines] = substr(line, 1, 3) == "got" ? "-" p[2] : p[2]; linePattern[lines] = pattern(p[4]) "($|;)"
     }

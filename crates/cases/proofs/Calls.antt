@@ -5,7 +5,7 @@ use Rattle.rules.specs.Tables.{forever, minusOne}
 use Rattle.rules.specs.Fresh.{fresh}
 use Rattle.rules.proofs.Runs.{Line, _runs_, AllRun, _⇒_, asked, said, saw, T, S, I, createTask, deleteTask, setPriority, yield, end, sleep}
 use Rattle.rules.proofs.Runs.{lastResult, createSwi, deleteSwi, postSwi, endSwi, postedOf, createSemaphore, pend, createMailbox}
-use Rattle.rules.proofs.Runs.{deleteMailbox, postMailbox, pendMailbox, createClock, startClock, stopClock, ticksOf, swisOff, restoreSwis}
+use Rattle.rules.proofs.Runs.{deleteMailbox, postMailbox, pendMailbox, createClock, startClock, stopClock, ticksOf, turnOff, restore, swisOff, restoreSwis}
 use Rattle.rules.proofs.Runs.{post, deleteSemaphore, createEvent, deleteEvent, pendEvent, postEvent, deleteClock, tasksOff, restoreTasks}
 use Rattle.rules.proofs.Runs.{interruptIn, interruptOut, tick}
 use Rattle.rules.proofs.Faster.{faster, quickly, fresh-sound}
@@ -101,9 +101,9 @@ woken =
     ∷ interruptOut ⇒ said 0 0 0 (T 3)
     ∷ pend 0 forever ⇒ said 0 2 0 (T 2)
     ∷ pend 0 forever ⇒ said 0 2 0 (T 1)
-    ∷ tasksOff ⇒ said 0 0 1 (T 1)
+    ∷ tasksOff ⇒ said 0 0 2 (T 1)
     ∷ post 0 ⇒ said 0 0 3 (T 1)
-    ∷ restoreTasks 1 ⇒ said 0 0 0 (T 3)
+    ∷ restoreTasks 2 ⇒ said 0 0 0 (T 3)
     ∷ createSwi 3 0 ⇒ said 0 0 0 (T 3)
     ∷ postSwi 0 ⇒ said 0 0 0 (S 0)
     ∷ post 0 ⇒ said 0 0 2 (S 0)
@@ -134,13 +134,14 @@ clocks =
     ∷ interruptOut ⇒ said 0 0 0 (S 0)
     ∷ []
 
--- "off answers 1 if they were on, else 0; restore takes key 1 (on) or 0 (no change)"; Swis and tasks are held back until then
+-- No. 10: 77 "answers the named ones' old settings in the same bits; 78 .. turns on those of the named switches whose bit in the key is set"; Swis and
+-- tasks are held back until then
 abbrev pub switches : List Line
 switches =
     createSwi 3 0 ⇒ said 0 0 0 (T 0)
     ∷ swisOff ⇒ said 0 0 1 (T 0)
     ∷ swisOff ⇒ said 0 0 0 (T 0)
-    ∷ tasksOff ⇒ said 0 0 1 (T 0)
+    ∷ tasksOff ⇒ said 0 0 2 (T 0)
     ∷ postSwi 0 ⇒ said 0 0 0 (T 0)
     ∷ createTask 5 ⇒ said 0 0 1 (T 0)
     ∷ yield ⇒ said 9 0 0 (T 0)
@@ -148,7 +149,125 @@ switches =
     ∷ restoreSwis 2 ⇒ said 4 0 0 (T 0)
     ∷ restoreSwis 1 ⇒ said 0 0 0 (S 0)
     ∷ endSwi ⇒ said 0 0 0 (T 0)
-    ∷ restoreTasks 1 ⇒ said 0 0 0 (T 1)
+    ∷ restoreTasks 2 ⇒ said 0 0 0 (T 1)
+    ∷ []
+
+-- "or both (3)": 77 answers the one that was on; a key of 0 turns nothing on, and nothing off; with Swis alone off a yield is 9; of both turned on at once
+-- the Swi comes first: task 1 is not current yet, for it can be made inactive
+abbrev pub both : List Line
+both =
+    createSwi 3 0 ⇒ said 0 0 0 (T 0)
+    ∷ tasksOff ⇒ said 0 0 2 (T 0)
+    ∷ turnOff 3 ⇒ said 0 0 1 (T 0)
+    ∷ turnOff 3 ⇒ said 0 0 0 (T 0)
+    ∷ createTask 5 ⇒ said 0 0 1 (T 0)
+    ∷ postSwi 0 ⇒ said 0 0 0 (T 0)
+    ∷ restore 3 0 ⇒ said 0 0 0 (T 0)
+    ∷ restore 3 2 ⇒ said 0 0 0 (T 0)
+    ∷ yield ⇒ said 9 0 0 (T 0)
+    ∷ turnOff 1 ⇒ said 0 0 0 (T 0)
+    ∷ turnOff 3 ⇒ said 0 0 2 (T 0)
+    ∷ restore 3 3 ⇒ said 0 0 0 (S 0)
+    ∷ setPriority 1 minusOne ⇒ said 0 0 5 (S 0)
+    ∷ setPriority 1 5 ⇒ said 0 0 minusOne (S 0)
+    ∷ restore 1 0 ⇒ said 0 0 0 (S 0)
+    ∷ endSwi ⇒ said 0 0 0 (T 1)
+    ∷ restore 3 0 ⇒ said 0 0 0 (T 1)
+    ∷ turnOff 3 ⇒ said 0 0 3 (T 1)
+    ∷ restore 3 1 ⇒ said 0 0 0 (T 1)
+    ∷ yield ⇒ said 9 0 0 (T 1)
+    ∷ turnOff 3 ⇒ said 0 0 1 (T 1)
+    ∷ restore 3 3 ⇒ said 0 0 0 (T 1)
+    ∷ yield ⇒ said 0 0 0 (T 1)
+    ∷ []
+
+-- "2 for a Swi naming anything but 1, and 4 for 0, for values above 3, or for key bits not named; for a Swi, code 2 comes first": both calls by a task,
+-- a Swi and an interrupt; "70 to 73 become unknown numbers"
+abbrev pub which : List Line
+which =
+    createSwi 3 0 ⇒ said 0 0 0 (T 0)
+    ∷ turnOff 0 ⇒ said 4 0 0 (T 0)
+    ∷ turnOff 4 ⇒ said 4 0 0 (T 0)
+    ∷ turnOff 8 ⇒ said 4 0 0 (T 0)
+    ∷ turnOff 257 ⇒ said 4 0 0 (T 0)
+    ∷ turnOff 2147483649 ⇒ said 4 0 0 (T 0)
+    ∷ turnOff 4294967295 ⇒ said 4 0 0 (T 0)
+    ∷ asked 0x77 1 1 0 0 ⇒ said 4 0 0 (T 0)
+    ∷ asked 0x77 2 0 1 0 ⇒ said 4 0 0 (T 0)
+    ∷ asked 0x77 3 0 0 1 ⇒ said 4 0 0 (T 0)
+    ∷ restore 0 0 ⇒ said 4 0 0 (T 0)
+    ∷ restore 4 4 ⇒ said 4 0 0 (T 0)
+    ∷ restore 4294967295 1 ⇒ said 4 0 0 (T 0)
+    ∷ restore 1 2 ⇒ said 4 0 0 (T 0)
+    ∷ restore 1 3 ⇒ said 4 0 0 (T 0)
+    ∷ restore 2 1 ⇒ said 4 0 0 (T 0)
+    ∷ restore 3 4 ⇒ said 4 0 0 (T 0)
+    ∷ restore 3 8 ⇒ said 4 0 0 (T 0)
+    ∷ restore 3 256 ⇒ said 4 0 0 (T 0)
+    ∷ restore 3 2147483648 ⇒ said 4 0 0 (T 0)
+    ∷ restore 3 4294967295 ⇒ said 4 0 0 (T 0)
+    ∷ asked 0x78 3 3 1 0 ⇒ said 4 0 0 (T 0)
+    ∷ asked 0x78 3 3 0 1 ⇒ said 4 0 0 (T 0)
+    ∷ asked 0x70 0 0 0 0 ⇒ said 1 0 0 (T 0)
+    ∷ asked 0x71 1 0 0 0 ⇒ said 1 0 0 (T 0)
+    ∷ asked 0x72 0 0 0 0 ⇒ said 1 0 0 (T 0)
+    ∷ asked 0x73 1 0 0 0 ⇒ said 1 0 0 (T 0)
+    ∷ asked 0x79 1 0 0 0 ⇒ said 1 0 0 (T 0)
+    ∷ turnOff 3 ⇒ said 0 0 3 (T 0)
+    ∷ restore 3 3 ⇒ said 0 0 0 (T 0)
+    ∷ restore 3 3 ⇒ said 0 0 0 (T 0)
+    ∷ postSwi 0 ⇒ said 0 0 0 (S 0)
+    ∷ turnOff 0 ⇒ said 2 0 0 (S 0)
+    ∷ turnOff 2 ⇒ said 2 0 0 (S 0)
+    ∷ turnOff 3 ⇒ said 2 0 0 (S 0)
+    ∷ turnOff 4 ⇒ said 2 0 0 (S 0)
+    ∷ turnOff 5 ⇒ said 2 0 0 (S 0)
+    ∷ turnOff 4294967295 ⇒ said 2 0 0 (S 0)
+    ∷ asked 0x77 2 1 0 0 ⇒ said 2 0 0 (S 0)
+    ∷ asked 0x77 1 1 0 0 ⇒ said 4 0 0 (S 0)
+    ∷ asked 0x77 1 0 1 0 ⇒ said 4 0 0 (S 0)
+    ∷ asked 0x77 1 0 0 1 ⇒ said 4 0 0 (S 0)
+    ∷ turnOff 1 ⇒ said 0 0 1 (S 0)
+    ∷ turnOff 1 ⇒ said 0 0 0 (S 0)
+    ∷ endSwi ⇒ said 9 0 0 (S 0)
+    ∷ restore 0 0 ⇒ said 2 0 0 (S 0)
+    ∷ restore 2 2 ⇒ said 2 0 0 (S 0)
+    ∷ restore 3 1 ⇒ said 2 0 0 (S 0)
+    ∷ restore 4 1 ⇒ said 2 0 0 (S 0)
+    ∷ restore 2 4 ⇒ said 2 0 0 (S 0)
+    ∷ asked 0x78 2 2 1 0 ⇒ said 2 0 0 (S 0)
+    ∷ restore 1 2 ⇒ said 4 0 0 (S 0)
+    ∷ restore 1 4 ⇒ said 4 0 0 (S 0)
+    ∷ asked 0x78 1 1 1 0 ⇒ said 4 0 0 (S 0)
+    ∷ asked 0x78 1 1 0 1 ⇒ said 4 0 0 (S 0)
+    ∷ restore 1 0 ⇒ said 0 0 0 (S 0)
+    ∷ endSwi ⇒ said 9 0 0 (S 0)
+    ∷ restore 1 1 ⇒ said 0 0 0 (S 0)
+    ∷ asked 0x70 0 0 0 0 ⇒ said 1 0 0 (S 0)
+    ∷ asked 0x71 1 0 0 0 ⇒ said 1 0 0 (S 0)
+    ∷ asked 0x72 0 0 0 0 ⇒ said 1 0 0 (S 0)
+    ∷ asked 0x73 1 0 0 0 ⇒ said 1 0 0 (S 0)
+    ∷ interruptIn ⇒ said 0 0 0 I
+    ∷ turnOff 0 ⇒ said 2 0 0 I
+    ∷ turnOff 1 ⇒ said 2 0 0 I
+    ∷ turnOff 2 ⇒ said 2 0 0 I
+    ∷ turnOff 3 ⇒ said 2 0 0 I
+    ∷ turnOff 4 ⇒ said 2 0 0 I
+    ∷ asked 0x77 1 1 0 0 ⇒ said 2 0 0 I
+    ∷ restore 0 0 ⇒ said 2 0 0 I
+    ∷ restore 1 1 ⇒ said 2 0 0 I
+    ∷ restore 1 2 ⇒ said 2 0 0 I
+    ∷ restore 2 2 ⇒ said 2 0 0 I
+    ∷ restore 3 3 ⇒ said 2 0 0 I
+    ∷ restore 4 4 ⇒ said 2 0 0 I
+    ∷ asked 0x78 1 1 1 0 ⇒ said 2 0 0 I
+    ∷ asked 0x70 0 0 0 0 ⇒ said 1 0 0 I
+    ∷ asked 0x71 1 0 0 0 ⇒ said 1 0 0 I
+    ∷ asked 0x72 0 0 0 0 ⇒ said 1 0 0 I
+    ∷ asked 0x73 1 0 0 0 ⇒ said 1 0 0 I
+    ∷ interruptOut ⇒ said 0 0 0 (S 0)
+    ∷ endSwi ⇒ said 0 0 0 (T 0)
+    ∷ turnOff 3 ⇒ said 0 0 3 (T 0)
     ∷ []
 
 -- "74 interrupt in, 7 at depth 8; 75 out"
@@ -224,13 +343,13 @@ order =
     ∷ asked 0x23 7 1 0 0 ⇒ said 11 0 3 (T 0)
     ∷ asked 0x23 1 1 0 0 ⇒ said 4 0 0 (T 0)
     ∷ setPriority 0 16 ⇒ said 4 0 0 (T 0)
-    ∷ tasksOff ⇒ said 0 0 1 (T 0)
+    ∷ tasksOff ⇒ said 0 0 2 (T 0)
     ∷ pend 16 1 ⇒ said 3 0 3 (T 0)
     ∷ pend 7 1 ⇒ said 11 0 3 (T 0)
     ∷ pend 0 1 ⇒ said 5 0 0 (T 0)
     ∷ yield ⇒ said 9 0 0 (T 0)
     ∷ interruptIn ⇒ said 0 0 0 I
-    ∷ asked 0x77 1 0 0 0 ⇒ said 1 0 0 I
+    ∷ asked 0x79 1 0 0 0 ⇒ said 1 0 0 I
     ∷ asked 0x80 0 0 0 0 ⇒ said 1 0 0 I
     ∷ asked 0x07 99 0 0 0 ⇒ said 1 0 0 I
     ∷ deleteSemaphore 16 ⇒ said 2 0 0 I
@@ -251,6 +370,8 @@ pub record Calls : Type 0 where
   pub of-numbers : fresh runs numbers
   pub of-order : fresh runs order
   pub of-woken : fresh runs woken
+  pub of-both : fresh runs both
+  pub of-which : fresh runs which
 
 abbrev all : List (List Line)
 all =
@@ -263,6 +384,8 @@ all =
     ∷ numbers
     ∷ order
     ∷ woken
+    ∷ both
+    ∷ which
     ∷ []
 
 all-run : AllRun fresh all
@@ -281,4 +404,6 @@ calls =
       of-numbers = all-run .1 .1 .1 .1 .1 .1 .0;
       of-order = all-run .1 .1 .1 .1 .1 .1 .1 .0;
       of-woken = all-run .1 .1 .1 .1 .1 .1 .1 .1 .0;
+      of-both = all-run .1 .1 .1 .1 .1 .1 .1 .1 .1 .0;
+      of-which = all-run .1 .1 .1 .1 .1 .1 .1 .1 .1 .1 .0;
     }

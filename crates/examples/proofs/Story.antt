@@ -35,16 +35,16 @@ beginning = pend 0 forever ⇒ said 0 2 0 (T 0) ∷ []
 -- refused calls with seven codes; two ticks, with which task 1's limit runs out; and a post, which readies task 2
 abbrev pub flood : List Line
 flood =
-    asked 0x77 0 0 0 0 ⇒ said 1 0 0 (T 0)
+    asked 0x79 0 0 0 0 ⇒ said 1 0 0 (T 0)
     ∷ tick ⇒ said 2 0 0 (T 0)
     ∷ post 7 ⇒ said 11 0 3 (T 0)
     ∷ asked 0x23 0 1 0 0 ⇒ said 4 0 0 (T 0)
     ∷ deleteSemaphore 0 ⇒ said 5 0 0 (T 0)
     ∷ setPriority 3 minusOne ⇒ said 5 0 0 (T 0)
     ∷ post 1 ⇒ said 7 0 0 (T 0)
-    ∷ tasksOff ⇒ said 0 0 1 (T 0)
+    ∷ tasksOff ⇒ said 0 0 2 (T 0)
     ∷ yield ⇒ said 9 0 0 (T 0)
-    ∷ restoreTasks 1 ⇒ said 0 0 0 (T 0)
+    ∷ restoreTasks 2 ⇒ said 0 0 0 (T 0)
     ∷ interruptIn ⇒ said 0 0 0 I
     ∷ tick ⇒ said 0 0 0 I
     ∷ tick ⇒ said 0 0 0 I

@@ -49,7 +49,7 @@ not-sound = refl
 
 -- an unknown number, of which two rows hold
 abbrev strange : Asked
-strange = asked 0x77 0 0 0 0
+strange = asked 0x79 0 0 0 0
 
 refused : made stray strange ≡ stepOf stray (answer 10 0 0) (Task 0)
 unfolding call
@@ -92,7 +92,7 @@ in-words number a h = record { first = h; second = omega arith; third = omega ar
 
 -- ---- on sound tables each other code may come, as 9: tasks are off, and task 0 yields
 abbrev switchedOff : List Line
-switchedOff = tasksOff ⇒ said 0 0 1 (T 0) ∷ []
+switchedOff = tasksOff ⇒ said 0 0 2 (T 0) ∷ []
 
 abbrev yields : List Line
 yields = yield ⇒ said 9 0 0 (T 0) ∷ []
@@ -167,5 +167,5 @@ tablesFirst t (e ∷ es) = tablesFirst t es
 pub not-on-the-first-tables : ((t : Tables) → Sound t → (es : List Entered) → Sequence t es → tablesFirst t es ≡ after t (Entries.calls es)) → ⊥
 unfolding tablesFirst Entries.calls fresh off
 not-on-the-first-tables every =
-    let same = every fresh fresh-is-sound (entered (asked 0x72 0 0 0 0) ∷ []) (one-call 0x72 0 (omega arith)) ∙ to-off .now in
+    let same = every fresh fresh-is-sound (entered (asked 0x77 2 0 0 0) ∷ []) (one-call 0x77 2 (omega arith)) ∙ to-off .now in
     omega (arith, ap (λ (t : Tables). getD (t .state) TASKS 0) same)

@@ -1,20 +1,21 @@
--- Calls 70 to 76 keep what dispatch starts from.
+-- Calls 74 to 78 keep what dispatch starts from.
 use Prim.Native.Nat.{ℕ, _+_, _-_, _<_, _%_}
-use mathlib.Core.Path.{_≡_, refl, sym}
+use mathlib.Core.Path.{_≡_, refl, sym, _∙_}
 use mathlib.Core.Logic.{_≢_, _⊎_, inl, inr, ⊎-elim}
 use mathlib.Core.List.{List}
 use native.Mathlib.Omega.{arith}
 use borrow.Author.Tests.{ltb-true}
+use lib.Bits.{bitAnd}
 use lib.Dec.{eqb, ltb}
 use lib.ListN.{length, length-set}
 use lib.Seq.{getD-set-same, getD-set-other}
 use Rattle.fold.proofs.Laws.{same?}
-use Rattle.rules.specs.Answer.{Cases, After, called, accepted, done, notT, notTS}
+use Rattle.rules.specs.Answer.{Cases, After, called, accepted, done}
 use Rattle.rules.specs.Tables.{Typed, wordEnd, tables, state, withState, DEPTH, SWIS, TASKS, TICK, CURRENT}
 use Rattle.rules.specs.Dispatch.{context}
 use Rattle.rules.specs.Sound.{Sound}
 use Rattle.rules.specs.Step.{withTicked}
-use Rattle.rules.specs.Switches.{offCases, offEffect, restoreCases, restoreEffect, inCases, inEffect, interruptCases, outEffect}
+use Rattle.rules.specs.Switches.{swisBit, tasksBit, has, on, off, turned, offCases, offEffect, restoreCases, restoreEffect, inCases, inEffect, interruptCases, outEffect}
 use Rattle.rules.specs.Tick.{Ticked, tickedOf, clocksTicked, ticked, onState, switchCall}
 use Rattle.rules.specs.declared.Tables.{Tables}
 use Rattle.laws.proofs.Calls.{chosen}
@@ -55,33 +56,51 @@ module _ (st : List ℕ) (all : length st ≡ 5) (f v : ℕ) (front : f < 4) whe
         current = rw current-stays (r .current);
       }
 
-module _ (t : Tables) (typed : Typed t) (s : Sound t) where
-  word-settles : (f v : ℕ) → f < 4 → (f ≡ DEPTH → v < 9) → (f ≡ SWIS → v < 2) → (f ≡ TASKS → v < 2)
-      → Settling (withStated t (withState (t .state) f v))
-  word-settles f v front depth swis tasks =
+-- a state with its words in range and the current task of the one before
+record Fits (before st : List ℕ) : Type 0 where
+  all : length st ≡ 5
+  ranges : Ranges st
+  same : state st CURRENT ≡ state before CURRENT
+
+module _ (before st : List ℕ) (h : Fits before st) (f v : ℕ) where
+  word-fits : f < 4 → (f ≡ DEPTH → v < 9) → (f ≡ SWIS → v < 2) → (f ≡ TASKS → v < 2) → Fits before (withState st f v)
+  word-fits front depth swis tasks =
       record {
-        almost = state-almost t (sound-almost t typed s) (withState (t .state) f v) (length-set (t .state) f v);
-        ranges = word-ranges (t .state) (typed .state) f v front (sound-ranges t s) depth swis tasks;
-        current = inl (rw (current-stays (t .state) (typed .state) f v front) (still-ready t s));
+        all = length-set st f v ∙ h .all;
+        ranges = word-ranges st (h .all) f v front (h .ranges) depth swis tasks;
+        same = current-stays st (h .all) f v front ∙ h .same;
       }
 
   -- a switch, off or on
-  switch-settles : (f v : ℕ) → (f ≡ SWIS) ⊎ (f ≡ TASKS) → v < 2 → Settling (withStated t (withState (t .state) f v))
-  switch-settles f v which small =
-      word-settles f v
-      (⊎-elim (λ (e : f ≡ 1). omega arith) (λ (e : f ≡ 2). omega arith) which)
-      (λ _. omega arith)
-      (λ _. small)
-      (λ _. small)
+  switch-fits : (f ≡ SWIS) ⊎ (f ≡ TASKS) → v < 2 → Fits before (withState st f v)
+  switch-fits which small =
+      word-fits (⊎-elim (λ (e : f ≡ 1). omega arith) (λ (e : f ≡ 2). omega arith) which) (λ _. omega arith) (λ _. small) (λ _. small)
 
-  off-settles : (f : ℕ) → (f ≡ SWIS) ⊎ (f ≡ TASKS) → Settling (withStated t (offEffect (t .state) f .next))
+-- the switches that these bits name, one after the other
+turned-fits : (bits v : ℕ) → v < 2 → (st : List ℕ) → Fits st st → Fits st (turned bits v st)
+turned-fits bits v small st h =
+    let swis = chosen (Fits st) (has bits swisBit) (withState st SWIS v) st (λ _. switch-fits st st h SWIS v (inl refl) small) (λ _. h) in
+    chosen (Fits st) (has bits tasksBit) _ _ (λ _. switch-fits st _ swis TASKS v (inr refl) small) (λ _. swis)
+
+module _ (t : Tables) (typed : Typed t) (s : Sound t) where
+  unchanged : Fits (t .state) (t .state)
+  unchanged = record { all = typed .state; ranges = sound-ranges t s; same = refl }
+
+  fits-settles : {st : List ℕ} → Fits (t .state) st → Settling (withStated t st)
+  fits-settles {st} h =
+      record {
+        almost = state-almost t (sound-almost t typed s) st (h .all ∙ sym (typed .state));
+        ranges = h .ranges;
+        current = inl (rw (h .same) (still-ready t s));
+      }
+
+  off-settles : (which : ℕ) → Settling (withStated t (offEffect (t .state) which .next))
   unfolding offEffect
-  off-settles f which = switch-settles f 0 which (omega arith)
+  off-settles which = fits-settles (turned-fits which off (omega arith) (t .state) unchanged)
 
-  restore-settles : (f a : ℕ) → (f ≡ SWIS) ⊎ (f ≡ TASKS) → Settling (withStated t (restoreEffect (t .state) f a .next))
+  restore-settles : (which key : ℕ) → Settling (withStated t (restoreEffect (t .state) which key .next))
   unfolding restoreEffect
-  restore-settles f a which =
-      chosen (λ (st : List ℕ). Settling (withStated t st)) (eqb a 1) _ _ (λ _. switch-settles f 1 which (omega arith)) (λ _. sound-settles t typed s)
+  restore-settles which key = fits-settles (turned-fits (bitAnd which key) on (omega arith) (t .state) unchanged)
 
   -- the depth, one up or one down
   in-settles : Settling (withStated t (inEffect (t .state) .next))
@@ -90,14 +109,14 @@ module _ (t : Tables) (typed : Typed t) (s : Sound t) where
       chosen (λ (st : List ℕ). Settling (withStated t st)) (ltb (state (t .state) DEPTH) 8) _ _
       (λ e.
       let h = ltb-true (state (t .state) DEPTH) 8 e in
-      word-settles DEPTH (state (t .state) DEPTH + 1) (omega arith) (λ _. omega arith) (λ q. absurd (omega arith)) (λ q. absurd (omega arith)))
+      fits-settles (word-fits _ _ unchanged DEPTH _ (omega arith) (λ _. omega arith) (λ q. absurd (omega arith)) (λ q. absurd (omega arith))))
       (λ _. sound-settles t typed s)
 
   out-settles : Settling (withStated t (outEffect (t .state) .next))
   unfolding outEffect
   out-settles =
       let h = sound-ranges t s .depth in
-      word-settles DEPTH (state (t .state) DEPTH - 1) (omega arith) (λ _. omega arith) (λ q. absurd (omega arith)) (λ q. absurd (omega arith))
+      fits-settles (word-fits _ _ unchanged DEPTH _ (omega arith) (λ _. omega arith) (λ q. absurd (omega arith)) (λ q. absurd (omega arith)))
 
   -- the tick: the count, the clocks, then the tasks
   tick-settles : Settling (withTicked t (ticked (tickedOf (t .tasks) (t .lines) (t .swis) (t .clocks) (t .state))))
@@ -106,12 +125,11 @@ module _ (t : Tables) (typed : Typed t) (s : Sound t) where
       let u = withClocked t (clocksTicked (t .clocks) (t .swis) (t .lines)) in
       let (a, r) = tasks-tick u (state (t .state) CURRENT) (clocks-tick t (sound-almost t typed s)) (still-ready t s) in
       let v = (state (t .state) TICK + 1) % wordEnd in
+      let h = word-fits _ _ unchanged TICK v (omega arith) (λ e. absurd (omega arith)) (λ e. absurd (omega arith)) (λ e. absurd (omega arith)) in
       record {
         almost = state-almost _ a (withState (t .state) TICK v) (length-set (t .state) TICK v);
-        ranges =
-            word-ranges (t .state) (typed .state) TICK v (omega arith) (sound-ranges t s)
-            (λ e. absurd (omega arith)) (λ e. absurd (omega arith)) (λ e. absurd (omega arith));
-        current = inl (rw (current-stays (t .state) (typed .state) TICK v (omega arith)) r);
+        ranges = h .ranges;
+        current = inl (rw (h .same) r);
       }
 
   abbrev all : Ticked
@@ -130,10 +148,8 @@ unfolding switchCall
 switches-keeps t typed s number a b c d w =
     let x = context (t .lines) (t .state) in
     let k = state-kept t typed s in
-    chosen-kept (withTicked t) (eqb number 0x70) (k (offCases (notTS x) a b c d) _ (off-settles t typed s SWIS (inl refl)))
-    (chosen-kept (withTicked t) (eqb number 0x71) (k (restoreCases (notTS x) a b c d) _ (restore-settles t typed s SWIS a (inl refl)))
-    (chosen-kept (withTicked t) (eqb number 0x72) (k (offCases (notT x) a b c d) _ (off-settles t typed s TASKS (inr refl)))
-    (chosen-kept (withTicked t) (eqb number 0x73) (k (restoreCases (notT x) a b c d) _ (restore-settles t typed s TASKS a (inr refl)))
-    (chosen-kept (withTicked t) (eqb number 0x74) (k (inCases (t .state) a b c d) _ (in-settles t typed s))
+    chosen-kept (withTicked t) (eqb number 0x74) (k (inCases (t .state) a b c d) _ (in-settles t typed s))
     (chosen-kept (withTicked t) (eqb number 0x75) (k (interruptCases x a b c d) _ (out-settles t typed s))
-    (chosen-kept (withTicked t) (eqb number 0x76) (tick-kept t typed s (interruptCases x a b c d)) (unknown-kept (withTicked t) _))))))) .keeps
+    (chosen-kept (withTicked t) (eqb number 0x76) (tick-kept t typed s (interruptCases x a b c d))
+    (chosen-kept (withTicked t) (eqb number 0x77) (k (offCases x a b c d) _ (off-settles t typed s a))
+    (chosen-kept (withTicked t) (eqb number 0x78) (k (restoreCases x a b c d) _ (restore-settles t typed s a b)) (unknown-kept (withTicked t) _))))) .keeps

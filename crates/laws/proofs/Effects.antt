@@ -145,13 +145,11 @@ module _ (x number a b c d : ℕ) where
   switch-code : (t : Ticked) → Accepts (Tick.switchCall t x number a b c d)
   unfolding Tick.switchCall Switches.offEffect Switches.restoreEffect Switches.inEffect Switches.outEffect
   switch-code t =
-      numbered (eqb number 0x70) (one _ _ _ _)
-      (numbered (eqb number 0x71) (one _ _ _ _)
-      (numbered (eqb number 0x72) (one _ _ _ _)
-      (numbered (eqb number 0x73) (one _ _ _ _)
-      (numbered (eqb number 0x74) (one _ _ _ _)
+      numbered (eqb number 0x74) (one _ _ _ _)
       (numbered (eqb number 0x75) (one _ _ _ _)
-      (numbered (eqb number 0x76) (one _ _ _ _) (one _ _ _ _)))))))
+      (numbered (eqb number 0x76) (one _ _ _ _)
+      (numbered (eqb number 0x77) (one _ _ _ _)
+      (numbered (eqb number 0x78) (one _ _ _ _) (one _ _ _ _)))))
 
   accepts : (t : Tables) → Accepts (callOf t x number a b c d)
   unfolding callOf

@@ -84,7 +84,7 @@ agrees t a b c d =
     & rows & rows & rows & rows
     & rows & rows & rows & rows
     & rows & rows
-    & rows & rows & rows & rows & rows & rows & rows
+    & rows & rows & rows & rows & rows
     & tt
 
 -- ---- codes 3 and 11: the case of 3, since a number outside its table reads as not in use
@@ -127,5 +127,5 @@ object-agrees t a b c d =
     & none & onMailbox & onMailbox & onMailbox
     & onSwi & onClock & onClock & onClock
     & none & none
-    & none & none & none & none & none & none & none
+    & none & none & none & none & none
     & tt

@@ -63,7 +63,7 @@ module _ (n : ℕ) (out : count n known ≡ 0) where
 
   no-switch : (t : Ticked) (x a b c d : ℕ) → switchCall t x n a b c d .cases ≡ onlyOne
   unfolding count switchCall
-  no-switch t x a b c d = rw (isnt 0x70 refl, isnt 0x71 refl, isnt 0x72 refl, isnt 0x73 refl, isnt 0x74 refl, isnt 0x75 refl, isnt 0x76 refl)
+  no-switch t x a b c d = rw (isnt 0x74 refl, isnt 0x75 refl, isnt 0x76 refl, isnt 0x77 refl, isnt 0x78 refl)
 
   pub unknown-cases : (t : Tables) (x a b c d : ℕ) → callOf t x n a b c d .cases ≡ onlyOne
   unfolding callOf

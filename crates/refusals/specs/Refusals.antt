@@ -18,6 +18,7 @@ use Rattle.rules.specs.Events.{freeEvent, matched}
 use Rattle.rules.specs.Mailboxes.{freeMailbox, isFull}
 use Rattle.rules.specs.Clocks.{freeClock}
 use Rattle.rules.specs.Heap.{isBlock, lowestRun, unitsOf}
+use Rattle.rules.specs.Switches.{badKey}
 use Rattle.rules.specs.Tables.{reading}
 use Rattle.rules.specs.Dispatch.{context}
 use Rattle.rules.specs.Sound.{sound}
@@ -57,21 +58,24 @@ known =
     ∷ 0x40 ∷ 0x41 ∷ 0x42 ∷ 0x43
     ∷ 0x50 ∷ 0x51 ∷ 0x52 ∷ 0x53
     ∷ 0x60 ∷ 0x61
-    ∷ 0x70 ∷ 0x71 ∷ 0x72 ∷ 0x73 ∷ 0x74 ∷ 0x75 ∷ 0x76
+    ∷ 0x74 ∷ 0x75 ∷ 0x76 ∷ 0x77 ∷ 0x78
     ∷ []
 
 unfoldable pub unknownNumber : Asked → Bool
 unknownNumber q = not (among known q)
 
 -- ---- row 3, code 2: "wrong context, or a limit other than 0 outside a task"
--- the calls that T alone may make; T and S; S alone; I alone; all others anyone
+-- the calls that T alone may make; T and S; T and S, a Swi not with every argument; S alone; I alone; all others anyone
 abbrev pub byT : List ℕ
 byT =
-    0x00 ∷ 0x01 ∷ 0x03 ∷ 0x04 ∷ 0x05 ∷ 0x10 ∷ 0x11 ∷ 0x20 ∷ 0x21 ∷ 0x24 ∷ 0x30 ∷ 0x31 ∷ 0x40 ∷ 0x41 ∷ 0x50 ∷ 0x51 ∷ 0x60 ∷ 0x61
-    ∷ 0x72 ∷ 0x73 ∷ []
+    0x00 ∷ 0x01 ∷ 0x03 ∷ 0x04 ∷ 0x05 ∷ 0x10 ∷ 0x11 ∷ 0x20 ∷ 0x21 ∷ 0x24 ∷ 0x30 ∷ 0x31 ∷ 0x40 ∷ 0x41 ∷ 0x50 ∷ 0x51 ∷ 0x60 ∷ 0x61 ∷ []
 
 abbrev pub byTS : List ℕ
-byTS = 0x02 ∷ 0x70 ∷ 0x71 ∷ []
+byTS = 0x02 ∷ []
+
+-- T and S, but No. 10: "2 for a Swi naming anything but 1"
+abbrev pub byTSNaming : List ℕ
+byTSNaming = 0x77 ∷ 0x78 ∷ []
 
 abbrev pub byS : List ℕ
 byS = 0x17 ∷ 0x18 ∷ []
@@ -93,9 +97,10 @@ wrongContext o q =
     let x = o .caller in
     if (among byT q) (not (eqb x T))
     (if (among byTS q) (eqb x I)
+    (if (among byTSNaming q) (eqb x I || (eqb x S && not (eqb (q .a) 1)))
     (if (among byS q) (not (eqb x S))
     (if (among byI q) (not (eqb x I))
-    (if (among limited q) (not (eqb x T) && not (eqb (limitOf q) 0)) false))))
+    (if (among limited q) (not (eqb x T) && not (eqb (limitOf q) 0)) false)))))
 
 -- ---- row 4, codes 3 and 11: document 01's "an object number out of range or not in use", which request No. 2 splits
 -- "A call on an object takes its number first."; call 50 takes a Swi's
@@ -157,7 +162,7 @@ valueOf q k = if (eqb k 3 || eqb k 11) (objectTable q) 0
 -- ---- row 5, code 4: "a bad argument, or an unused one not 0"
 -- priorities of 00 and 02; 05 "n = 4,294,967,295 is 4"; 10 "priority 0 to 15"; 20 "kinds 0 .. 3", "count to 65,535 or 1"; 24 "count as in 20";
 -- 32 "both masks 0 is 4"; 40 capacity 1 to 8; 50 "first ticks from 1"; 60 "bytes 1 to 2,048"; 61 "a live block's start, and bytes that round up
--- to its size"; 71, 73 "key 1 (on) or 0 (no change)"
+-- to its size"; No. 10: 77, 78 "4 for 0, for values above 3, or for key bits not named"
 unfoldable pub badValue : Tables → Asked → Bool
 badValue t q =
     if (among (0x00 ∷ []) q) (not (isPriority levels (q .a)))
@@ -171,14 +176,15 @@ badValue t q =
     (if (among (0x50 ∷ []) q) (eqb (q .b) 0)
     (if (among (0x60 ∷ []) q) (eqb (q .a) 0 || not (leb (q .a) 2048))
     (if (among (0x61 ∷ []) q) (not (isBlock (t .heap) (q .a) (q .b)))
-    (if (among (0x71 ∷ 0x73 ∷ []) q) (not (ltb (q .a) 2)) false)))))))))))
+    (if (among (0x77 ∷ []) q) (eqb (q .a) 0 || ltb 3 (q .a))
+    (if (among (0x78 ∷ []) q) (eqb (q .a) 0 || ltb 3 (q .a) || badKey (q .a) (q .b)) false))))))))))))
 
 -- how many arguments a call names
 abbrev pub namesNone : List ℕ
-namesNone = 0x03 ∷ 0x04 ∷ 0x17 ∷ 0x18 ∷ 0x30 ∷ 0x70 ∷ 0x72 ∷ 0x74 ∷ 0x75 ∷ 0x76 ∷ []
+namesNone = 0x03 ∷ 0x04 ∷ 0x17 ∷ 0x18 ∷ 0x30 ∷ 0x74 ∷ 0x75 ∷ 0x76 ∷ []
 
 abbrev pub namesTwo : List ℕ
-namesTwo = 0x02 ∷ 0x10 ∷ 0x15 ∷ 0x16 ∷ 0x20 ∷ 0x22 ∷ 0x24 ∷ 0x33 ∷ 0x43 ∷ 0x61 ∷ []
+namesTwo = 0x02 ∷ 0x10 ∷ 0x15 ∷ 0x16 ∷ 0x20 ∷ 0x22 ∷ 0x24 ∷ 0x33 ∷ 0x43 ∷ 0x61 ∷ 0x78 ∷ []
 
 abbrev pub namesThree : List ℕ
 namesThree = 0x42 ∷ 0x50 ∷ []

@@ -5,3 +5,4 @@ pub mod Faster
 pub mod Standing
 pub mod Units
 pub mod Sentences
+pub mod Keys

@@ -195,17 +195,24 @@ abbrev pub giveBack : ℕ → ℕ → Asked
 giveBack offset bytes = asked 0x61 offset bytes 0 0
 
 -- ---- switches
+-- the switches named by their bits: Swis 1, tasks 2
+abbrev pub turnOff : ℕ → Asked
+turnOff which = asked 0x77 which 0 0 0
+
+abbrev pub restore : ℕ → ℕ → Asked
+restore which key = asked 0x78 which key 0 0
+
 abbrev pub swisOff : Asked
-swisOff = asked 0x70 0 0 0 0
+swisOff = turnOff 1
 
 abbrev pub restoreSwis : ℕ → Asked
-restoreSwis key = asked 0x71 key 0 0 0
+restoreSwis key = restore 1 key
 
 abbrev pub tasksOff : Asked
-tasksOff = asked 0x72 0 0 0 0
+tasksOff = turnOff 2
 
 abbrev pub restoreTasks : ℕ → Asked
-restoreTasks key = asked 0x73 key 0 0 0
+restoreTasks key = restore 2 key
 
 abbrev pub interruptIn : Asked
 interruptIn = asked 0x74 0 0 0 0

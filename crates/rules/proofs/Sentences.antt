@@ -2,10 +2,10 @@
 use Prim.Native.Nat.{ℕ}
 use mathlib.Core.Path.{_≡_, refl}
 use mathlib.Core.Bool.{true, false}
-use mathlib.Core.List.{List, [], _∷_, _++_}
+use mathlib.Core.List.{List, [], _∷_, _++_, map}
 use Rattle.fold.specs.Lists.{zeros}
 use Rattle.fold.specs.Rule.{holds}
-use Rattle.rules.specs.Answer.{After, answer, accepted, refused, called, answered, named, codeOf, given, onObject, never, done}
+use Rattle.rules.specs.Answer.{After, answer, accepted, refused, called, answered, named, codeOf, given, onObject, never, done, T, S, I}
 use Rattle.rules.specs.Tables.{task, forever, ready, sleeping, atSemaphore, atEvent, reading, writing}
 use Rattle.rules.specs.Lines.{line, joined, queued, semaphoreLine, mailboxLine, eventLine, postedLine, activeLine, readyLine}
 use Rattle.rules.specs.Waits.{ticksFor, served}
@@ -14,7 +14,8 @@ use Rattle.rules.specs.Swis.{posts, endEffect}
 use Rattle.rules.specs.Semaphores.{placeIn, postEffect}
 use Rattle.rules.specs.Events.{freeEvent, matched, postCases, postEffect as postEvent}
 use Rattle.rules.specs.Mailboxes.{postEffect as postMailbox, pendEffect as pendMailbox}
-use Rattle.rules.specs.Tick.{Ticked, taskTick, tickedOf, ticked}
+use Rattle.rules.specs.Switches.{offCases, offEffect, restoreCases, restoreEffect}
+use Rattle.rules.specs.Tick.{Ticked, taskTick, tickedOf, ticked, switchCall}
 use Rattle.rules.specs.Dispatch.{started}
 use Rattle.rules.specs.Sound.{otherRule}
 use Rattle.rules.specs.Step.{settled, finished}
@@ -65,6 +66,21 @@ bits n = 1 ∷ n ∷ zeros 14
 -- depth 0, both switches on, and this current task
 abbrev pub currently : ℕ → List ℕ
 currently i = 0 ∷ 1 ∷ 1 ∷ 0 ∷ i ∷ []
+
+-- these switches, at depth 0
+abbrev pub switched : ℕ → ℕ → List ℕ
+switched swis tasks = 0 ∷ swis ∷ tasks ∷ 0 ∷ 0 ∷ []
+
+-- the codes of 77 by such a caller for each `which` from 0 to 4, and of 78 for each key from 0 to 4
+abbrev pub offCodes : ℕ → List ℕ
+offCodes x = map (λ which. codeOf (offCases x which 0 0 0)) (0 ∷ 1 ∷ 2 ∷ 3 ∷ 4 ∷ [])
+
+abbrev pub restoreCodes : ℕ → ℕ → List ℕ
+restoreCodes x which = map (λ key. codeOf (restoreCases x which key 0 0)) (0 ∷ 1 ∷ 2 ∷ 3 ∷ 4 ∷ [])
+
+-- the codes of the numbers that the switches had before No. 10
+abbrev pub oldCodes : List ℕ
+oldCodes = map (λ number. codeOf (switchCall (tickedOf [] [] [] [] (switched 1 1)) T number 0 0 0 0 .cases)) (0x70 ∷ 0x71 ∷ 0x72 ∷ 0x73 ∷ [])
 
 -- a clock comes to 0 and posts Swi 3, and task 1's sleep ends, at priority 0. Nobody can tell the order on sound tables, since Swis and tasks stand
 -- in lines of their own; the Swi's priority is 17, and that line is the ready queue of 0
@@ -134,6 +150,33 @@ pub record Sentences : Type 0 where
   pub is-ready : line (taskTick (queued (waiters 5 1) waiting) 1 .lines) (readyLine 5) ≡ 1 ∷ []
   -- "Then running clocks ..": they come before the tasks
   pub clocks-first : line (ticked together .lines) (readyLine 0) ≡ 3 ∷ 1 ∷ []
+  -- No. 10: "77 (which; T S) turns off Swis (1), tasks (2) or both (3) and answers the named ones' old settings in the same bits"
+  pub swis-off : offEffect (switched 1 1) 1 ≡ accepted done 1 (switched 0 1)
+  pub tasks-off : offEffect (switched 1 1) 2 ≡ accepted done 2 (switched 1 0)
+  pub both-off : offEffect (switched 1 1) 3 ≡ accepted done 3 (switched 0 0)
+  pub tasks-off-already : offEffect (switched 1 0) 3 ≡ accepted done 1 (switched 0 0)
+  pub swis-off-already : offEffect (switched 0 1) 3 ≡ accepted done 2 (switched 0 0)
+  -- "78 (which, key; T S) turns on those of the named switches whose bit in the key is set and changes no other"
+  pub swis-on : restoreEffect (switched 0 0) 3 1 ≡ accepted done 0 (switched 1 0)
+  pub tasks-on : restoreEffect (switched 0 0) 3 2 ≡ accepted done 0 (switched 0 1)
+  pub both-on : restoreEffect (switched 0 0) 3 3 ≡ accepted done 0 (switched 1 1)
+  pub not-in-key : restoreEffect (switched 1 1) 3 0 ≡ accepted done 0 (switched 1 1)
+  pub no-other : restoreEffect (switched 0 1) 1 1 ≡ accepted done 0 (switched 1 1)
+  -- the same of a key bit that is not named, which is refused
+  pub not-named : restoreEffect (switched 0 0) 1 3 ≡ accepted done 0 (switched 1 0)
+  -- "70 to 73 become unknown numbers"
+  pub unknown-now : _≡_ {A = List ℕ} oldCodes (1 ∷ 1 ∷ 1 ∷ 1 ∷ [])
+  -- "2 for a Swi naming anything but 1, and 4 for 0, for values above 3, or for key bits not named; for a Swi, code 2 comes first"
+  pub off-by-T : _≡_ {A = List ℕ} (offCodes T) (4 ∷ 0 ∷ 0 ∷ 0 ∷ 4 ∷ [])
+  pub off-by-S : _≡_ {A = List ℕ} (offCodes S) (2 ∷ 0 ∷ 2 ∷ 2 ∷ 2 ∷ [])
+  pub off-by-I : _≡_ {A = List ℕ} (offCodes I) (2 ∷ 2 ∷ 2 ∷ 2 ∷ 2 ∷ [])
+  pub restore-swis-by-T : _≡_ {A = List ℕ} (restoreCodes T 1) (0 ∷ 0 ∷ 4 ∷ 4 ∷ 4 ∷ [])
+  pub restore-tasks-by-T : _≡_ {A = List ℕ} (restoreCodes T 2) (0 ∷ 4 ∷ 0 ∷ 4 ∷ 4 ∷ [])
+  pub restore-both-by-T : _≡_ {A = List ℕ} (restoreCodes T 3) (0 ∷ 0 ∷ 0 ∷ 0 ∷ 4 ∷ [])
+  pub restore-four-by-T : _≡_ {A = List ℕ} (restoreCodes T 4) (4 ∷ 4 ∷ 4 ∷ 4 ∷ 4 ∷ [])
+  pub restore-swis-by-S : _≡_ {A = List ℕ} (restoreCodes S 1) (0 ∷ 0 ∷ 4 ∷ 4 ∷ 4 ∷ [])
+  pub restore-both-by-S : _≡_ {A = List ℕ} (restoreCodes S 3) (2 ∷ 2 ∷ 2 ∷ 2 ∷ 2 ∷ [])
+  pub restore-swis-by-I : _≡_ {A = List ℕ} (restoreCodes I 1) (2 ∷ 2 ∷ 2 ∷ 2 ∷ 2 ∷ [])
   -- "fields without meaning at the time (.., the taken trigger of a Swi not active)" are 0: a Swi that ends has none
   pub ends : endEffect (posts (taking 2) (linesWith (activeLine has (0 ∷ []) ∷ []))) .next .swis ≡ taking 0
   -- "fields without meaning at the time (.., an ended wait's data, ..)" are 0: a ready task has no ticks left
@@ -178,6 +221,28 @@ sentences =
       leaves = refl;
       is-ready = refl;
       clocks-first = refl;
+      swis-off = refl;
+      tasks-off = refl;
+      both-off = refl;
+      tasks-off-already = refl;
+      swis-off-already = refl;
+      swis-on = refl;
+      tasks-on = refl;
+      both-on = refl;
+      not-in-key = refl;
+      no-other = refl;
+      not-named = refl;
+      unknown-now = refl;
+      off-by-T = refl;
+      off-by-S = refl;
+      off-by-I = refl;
+      restore-swis-by-T = refl;
+      restore-tasks-by-T = refl;
+      restore-both-by-T = refl;
+      restore-four-by-T = refl;
+      restore-swis-by-S = refl;
+      restore-both-by-S = refl;
+      restore-swis-by-I = refl;
       ends = refl;
       ended-wait = refl;
       no-wait = refl;

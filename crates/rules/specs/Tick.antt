@@ -4,8 +4,8 @@ use mathlib.Core.Bool.{Bool, true, false, cond as if}
 use mathlib.Core.List.{List}
 use lib.Dec.{eqb}
 use Rattle.fold.specs.Find.{rising}
-use Rattle.rules.specs.Answer.{Call, called, After, after, accepted, unknown, done, notT, notTS}
-use Rattle.rules.specs.Tables.{taskCount, clockCount, wordEnd, task, withTask, clock, withClock, state, withState, sleeping, SWIS, TASKS, TICK}
+use Rattle.rules.specs.Answer.{Call, called, After, after, accepted, unknown, done}
+use Rattle.rules.specs.Tables.{taskCount, clockCount, wordEnd, task, withTask, clock, withClock, state, withState, sleeping, TICK}
 use Rattle.rules.specs.Lines.{Queued, queued}
 use Rattle.rules.specs.Waits.{woken}
 use Rattle.rules.specs.Swis.{Posts, posts, posted}
@@ -93,16 +93,15 @@ ticked t =
     tickedOf (q .tasks) (q .lines) (x .swis) (x .clocks) (countedUp (t .state))
 
 -- ---- the calls by number
--- the calls 70 to 75 change the state alone
+-- the calls 74, 75, 77 and 78 change the state alone
 abbrev pub onState : Ticked → After (List ℕ) → After Ticked
 onState t r = after (r .answer) (tickedOf (t .tasks) (t .lines) (t .swis) (t .clocks) (r .next))
 
+-- No. 10: "70 to 73 become unknown numbers."
 unfoldable pub switchCall : Ticked → ℕ → ℕ → ℕ → ℕ → ℕ → ℕ → Call Ticked
 switchCall t x number a b c d =
-    if (eqb number 0x70) (called (offCases (notTS x) a b c d) (onState t (offEffect (t .state) SWIS)))
-    (if (eqb number 0x71) (called (restoreCases (notTS x) a b c d) (onState t (restoreEffect (t .state) SWIS a)))
-    (if (eqb number 0x72) (called (offCases (notT x) a b c d) (onState t (offEffect (t .state) TASKS)))
-    (if (eqb number 0x73) (called (restoreCases (notT x) a b c d) (onState t (restoreEffect (t .state) TASKS a)))
-    (if (eqb number 0x74) (called (inCases (t .state) a b c d) (onState t (inEffect (t .state))))
+    if (eqb number 0x74) (called (inCases (t .state) a b c d) (onState t (inEffect (t .state))))
     (if (eqb number 0x75) (called (interruptCases x a b c d) (onState t (outEffect (t .state))))
-    (if (eqb number 0x76) (called (interruptCases x a b c d) (accepted done 0 (ticked t))) (unknown t)))))))
+    (if (eqb number 0x76) (called (interruptCases x a b c d) (accepted done 0 (ticked t)))
+    (if (eqb number 0x77) (called (offCases x a b c d) (onState t (offEffect (t .state) a)))
+    (if (eqb number 0x78) (called (restoreCases x a b c d) (onState t (restoreEffect (t .state) a b))) (unknown t)))))

@@ -12,7 +12,7 @@ use Rattle.rules.specs.declared.Task.{Task}
 unfoldable pub outside : ℕ → ℕ → Bool
 outside x limit = not (eqb x T) && not (eqb limit 0)
 
--- "while either switch is off"
+-- "while either switch is off"; No. 10: "Code 9 and demand 3 read as before."
 unfoldable pub switchOff : List ℕ → Bool
 switchOff st = eqb (state st SWIS) 0 || eqb (state st TASKS) 0
 

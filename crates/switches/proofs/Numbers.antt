@@ -1,4 +1,4 @@
--- The calls 70 to 76 by number.
+-- The calls 74 to 78 by number.
 use Prim.Native.Nat.{ℕ}
 use mathlib.Core.Path.{_≡_, ap, _∙_}
 use mathlib.Core.Logic.{_≢_}
@@ -10,18 +10,17 @@ use Rattle.laws.proofs.Calls.{mapped, mapped-guarded}
 use Rattle.rules.specs.declared.Answer.{Answer}
 
 -- ---- a call on the state, as a call on all that a tick may change
-pub on-state : (ts ls ws cs st : List ℕ) (k : Cases) (e : After (List ℕ)) {r : Answer} {st′ : List ℕ} → after r st′ ≡ answered st (called k e)
-    → after r (tickedOf ts ls ws cs st′) ≡ answered (tickedOf ts ls ws cs st) (called k (onState (tickedOf ts ls ws cs st) e))
-on-state ts ls ws cs st k e q =
-    ap (mapped (λ (s : List ℕ). tickedOf ts ls ws cs s)) q ∙ mapped-guarded (λ (s : List ℕ). tickedOf ts ls ws cs s) (codeOf k) st e
+pub on-state : (t : Ticked) (k : Cases) (e : After (List ℕ)) {r : Answer} {st : List ℕ} → after r st ≡ answered (t .state) (called k e)
+    → after r (tickedOf (t .tasks) (t .lines) (t .swis) (t .clocks) st) ≡ answered t (called k (onState t e))
+on-state t k e q =
+    let with : List ℕ → Ticked = λ st. tickedOf (t .tasks) (t .lines) (t .swis) (t .clocks) st in
+    ap (mapped with) q ∙ mapped-guarded with (codeOf k) (t .state) e
 
 -- an accepted tick
 pub tick-done : (t : Ticked) {u : Ticked} {r : Answer} → r ≡ answer 0 0 0 → u ≡ ticked t → after r u ≡ accepted done 0 (ticked t)
 tick-done t {u} q e = ap (λ (x : Answer). after x u) q ∙ ap (after (answer 0 0 0)) e
 
--- no number from 70 to 76
-pub no-switch : (t : Ticked) (x n a b c d : ℕ) → n ≢ 0x70 → n ≢ 0x71 → n ≢ 0x72 → n ≢ 0x73 → n ≢ 0x74 → n ≢ 0x75 → n ≢ 0x76
-    → switchCall t x n a b c d ≡ unknown t
+-- no number from 74 to 78
+pub no-switch : (t : Ticked) (x n a b c d : ℕ) → n ≢ 0x74 → n ≢ 0x75 → n ≢ 0x76 → n ≢ 0x77 → n ≢ 0x78 → switchCall t x n a b c d ≡ unknown t
 unfolding switchCall
-no-switch t x n a b c d p q r s u v w =
-    rw (ne-eqb n 0x70 p, ne-eqb n 0x71 q, ne-eqb n 0x72 r, ne-eqb n 0x73 s, ne-eqb n 0x74 u, ne-eqb n 0x75 v, ne-eqb n 0x76 w)
+no-switch t x n a b c d p q r s u = rw (ne-eqb n 0x74 p, ne-eqb n 0x75 q, ne-eqb n 0x76 r, ne-eqb n 0x77 s, ne-eqb n 0x78 u)

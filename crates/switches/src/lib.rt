@@ -1,4 +1,4 @@
-// The switches, the interrupt and the tick: calls 70 to 76.
+// The switches, the interrupt and the tick: calls 74 to 78.
 use rules::Answer;
 use rules::Clocks;
 use rules::Lines;
@@ -35,7 +35,7 @@ pub fn tick_call(
     rows::answers::accepted(0, 0)
 }
 
-// Calls 70 to 76 by number.
+// Calls 74 to 78 by number.
 pub fn switch_call(
     tasks: &mut Tasks,
     lines: &mut Lines,
@@ -52,13 +52,11 @@ pub fn switch_call(
     ensures { λ r. ⌜ after r (tickedOf (now (tasks .exit)) (now (lines .exit)) (now (swis .exit)) (now (clocks .exit)) (now (state .exit))) ≡ answered (tickedOf (now (tasks .entry)) (now (lines .entry)) (now (swis .entry)) (now (clocks .entry)) (now (state .entry))) (switchCall (tickedOf (now (tasks .entry)) (now (lines .entry)) (now (swis .entry)) (now (clocks .entry)) (now (state .entry))) x number a b c d) ⌝ }
 {
     match number {
-        0x70 => state::swis_off(state, x, a, b, c, d),
-        0x71 => state::swis_restore(state, x, a, b, c, d),
-        0x72 => state::tasks_off(state, x, a, b, c, d),
-        0x73 => state::tasks_restore(state, x, a, b, c, d),
         0x74 => state::interrupt_in(state, a, b, c, d),
         0x75 => state::interrupt_out(state, x, a, b, c, d),
         0x76 => tick_call(tasks, lines, swis, clocks, state, x, a, b, c, d),
+        0x77 => state::off(state, x, a, b, c, d),
+        0x78 => state::restore(state, x, a, b, c, d),
         _ => rows::answers::refused(1),
     }
 }

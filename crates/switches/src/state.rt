@@ -1,102 +1,123 @@
-// Calls 70 to 75: they change the state alone.
+// Calls 74, 75, 77 and 78: they change the state alone.
 use rules::Answer;
 use rules::State;
+use words::SWIS;
+use words::TASKS;
 ghost use mathlib.Core.Path.{_≡_};
-ghost use Rattle.rules.specs.Answer.{after, answered, called, codeOf, notT, notTS};
-ghost use Rattle.rules.specs.Tables.{SWIS, TASKS};
-ghost use Rattle.rules.specs.Switches.{wasOn, offCases, offEffect, restoreCases, restoreEffect, inCases, inEffect, interruptCases, outEffect};
+ghost use Rattle.rules.specs.Answer.{after, answered, called, codeOf};
+ghost use Rattle.rules.specs.Switches.{has, setting, settings, turned, mayNotName, badWhich, badKey};
+ghost use Rattle.rules.specs.Switches.{offCases, offEffect, restoreCases, restoreEffect, inCases, inEffect, interruptCases, outEffect};
 
-// ---- 70 and 72: a switch off
+// ---- the bits by which 77 and 78 name the switches
 
-pub fn off_code(wrong: bool, a: u32, b: u32, c: u32, d: u32) -> u32
-    ensures { λ r. ⌜ r ≡ codeOf (offCases wrong a b c d) ⌝ }
+const SWIS_BIT: u32 = 1;
+
+const TASKS_BIT: u32 = 2;
+
+const BOTH_BITS: u32 = 3;
+
+const ON: u32 = 1;
+
+const OFF: u32 = 0;
+
+// The settings of both switches, the bit of each that is on.
+pub fn settings(state: &State) -> u32
+    ensures { λ r. ⌜ r ≡ settings (now (state .entry)) ⌝ }
 {
-    if wrong {
-        return 2;
-    }
-    if rows::answers::unused(a, b, c, d) {
-        return 4;
-    }
-    0
+    setting(state[SWIS], SWIS_BIT) | setting(state[TASKS], TASKS_BIT)
 }
 
-// 1 if the switch was on, else 0.
-pub fn was_on(word: u32) -> u32
-    ensures { λ r. ⌜ r ≡ wasOn word ⌝ }
+fn setting(switch: u32, bit: u32) -> u32
+    ensures { λ r. ⌜ r ≡ setting switch bit ⌝ }
 {
-    if word == 0 {
+    if switch == OFF {
         return 0;
     }
-    1
+    bit
 }
 
-// 70 Swis off.
-pub fn swis_off(state: &mut State, x: u32, a: u32, b: u32, c: u32, d: u32) -> Answer
-    ensures { λ r. ⌜ after r (now (state .exit)) ≡ answered (now (state .entry)) (called (offCases (notTS x) a b c d) (offEffect (now (state .entry)) SWIS)) ⌝ }
+// The switches that these bits name are v now, the others as they were.
+pub fn turn(state: &mut State, bits: u32, v: u32)
+    ensures { λ _. ⌜ now (state .exit) ≡ turned bits v (now (state .entry)) ⌝ }
 {
-    let code = off_code(x == 2, a, b, c, d);
-    if code != 0 {
-        return rows::answers::refused(code);
+    if (bits & SWIS_BIT) != 0 {
+        state[SWIS] = v;
     }
-    let on = was_on(state[1]);
-    state[1] = 0;
-    rows::answers::accepted(0, on)
-}
-
-// 72 tasks off.
-pub fn tasks_off(state: &mut State, x: u32, a: u32, b: u32, c: u32, d: u32) -> Answer
-    ensures { λ r. ⌜ after r (now (state .exit)) ≡ answered (now (state .entry)) (called (offCases (notT x) a b c d) (offEffect (now (state .entry)) TASKS)) ⌝ }
-{
-    let code = off_code(x != 0, a, b, c, d);
-    if code != 0 {
-        return rows::answers::refused(code);
+    if (bits & TASKS_BIT) != 0 {
+        state[TASKS] = v;
     }
-    let on = was_on(state[2]);
-    state[2] = 0;
-    rows::answers::accepted(0, on)
 }
 
-// ---- 71 and 73: a switch restored
-
-pub fn restore_code(wrong: bool, a: u32, b: u32, c: u32, d: u32) -> u32
-    ensures { λ r. ⌜ r ≡ codeOf (restoreCases wrong a b c d) ⌝ }
+// An interrupt may name none, and a Swi nothing but 1.
+pub fn may_not_name(x: u32, which: u32) -> bool
+    ensures { λ r. ⌜ r ≡ mayNotName x which ⌝ }
 {
-    if wrong {
+    (x == 2) | ((x == 1) & (which != SWIS_BIT))
+}
+
+pub fn bad_which(which: u32) -> bool
+    ensures { λ r. ⌜ r ≡ badWhich which ⌝ }
+{
+    (which == 0) | (BOTH_BITS < which)
+}
+
+// The key has a bit that is not named.
+pub fn bad_key(which: u32, key: u32) -> bool
+    ensures { λ r. ⌜ r ≡ badKey which key ⌝ }
+{
+    (which & key) != key
+}
+
+// ---- 77: switches off
+
+pub fn off_code(x: u32, which: u32, b: u32, c: u32, d: u32) -> u32
+    ensures { λ r. ⌜ r ≡ codeOf (offCases x which b c d) ⌝ }
+{
+    if may_not_name(x, which) {
         return 2;
     }
-    if !(a < 2) | rows::answers::unused(0, b, c, d) {
+    if bad_which(which) | rows::answers::unused(0, b, c, d) {
         return 4;
     }
     0
 }
 
-// 71 Swis restored.
-pub fn swis_restore(state: &mut State, x: u32, a: u32, b: u32, c: u32, d: u32) -> Answer
-    ensures { λ r. ⌜ after r (now (state .exit)) ≡ answered (now (state .entry)) (called (restoreCases (notTS x) a b c d) (restoreEffect (now (state .entry)) SWIS a)) ⌝ }
+// 77 off: the named ones' old settings.
+pub fn off(state: &mut State, x: u32, which: u32, b: u32, c: u32, d: u32) -> Answer
+    ensures { λ r. ⌜ after r (now (state .exit)) ≡ answered (now (state .entry)) (called (offCases x which b c d) (offEffect (now (state .entry)) which)) ⌝ }
 {
-    let code = restore_code(x == 2, a, b, c, d);
+    let code = off_code(x, which, b, c, d);
     if code != 0 {
         return rows::answers::refused(code);
     }
-    if a == 1 {
-        state[1] = 1;
-        return rows::answers::accepted(0, 0);
-    }
-    rows::answers::accepted(0, 0)
+    let old = settings(state) & which;
+    turn(state, which, OFF);
+    rows::answers::accepted(0, old)
 }
 
-// 73 tasks restored.
-pub fn tasks_restore(state: &mut State, x: u32, a: u32, b: u32, c: u32, d: u32) -> Answer
-    ensures { λ r. ⌜ after r (now (state .exit)) ≡ answered (now (state .entry)) (called (restoreCases (notT x) a b c d) (restoreEffect (now (state .entry)) TASKS a)) ⌝ }
+// ---- 78: switches on
+
+pub fn restore_code(x: u32, which: u32, key: u32, c: u32, d: u32) -> u32
+    ensures { λ r. ⌜ r ≡ codeOf (restoreCases x which key c d) ⌝ }
 {
-    let code = restore_code(x != 0, a, b, c, d);
+    if may_not_name(x, which) {
+        return 2;
+    }
+    if bad_which(which) | bad_key(which, key) | rows::answers::unused(0, 0, c, d) {
+        return 4;
+    }
+    0
+}
+
+// 78 restore: those of the named ones whose bit is in the key.
+pub fn restore(state: &mut State, x: u32, which: u32, key: u32, c: u32, d: u32) -> Answer
+    ensures { λ r. ⌜ after r (now (state .exit)) ≡ answered (now (state .entry)) (called (restoreCases x which key c d) (restoreEffect (now (state .entry)) which key)) ⌝ }
+{
+    let code = restore_code(x, which, key, c, d);
     if code != 0 {
         return rows::answers::refused(code);
     }
-    if a == 1 {
-        state[2] = 1;
-        return rows::answers::accepted(0, 0);
-    }
+    turn(state, which & key, ON);
     rows::answers::accepted(0, 0)
 }
 

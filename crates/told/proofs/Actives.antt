@@ -132,7 +132,7 @@ module _ (t : Tables) (typed : Typed t) (s : Sound t) where
             let some = context-S (t .lines) (t .state) (eqb-true _ _ (not-false _ (ok .at2))) in
             record { many = rw e (one-fewer some) }
 
-    -- ---- the calls 70 to 76
+    -- ---- the calls 74 to 78
     clocks-same : line (Tick.clocksTicked (t .clocks) (t .swis) (t .lines) .lines) activeLine ≡ line (t .lines) activeLine
     unfolding Tick.clockTick
     clocks-same =
@@ -168,13 +168,11 @@ module _ (t : Tables) (typed : Typed t) (s : Sound t) where
         (Tick.switchCall (Tick.tickedOf (t .tasks) (t .lines) (t .swis) (t .clocks) (t .state)) who number a b c d)
     unfolding Tick.switchCall
     switches-active =
-        numbered (eqb number 0x70) (λ e. alone 0x70 e (λ z. omega arith) refl)
-        (numbered (eqb number 0x71) (λ e. alone 0x71 e (λ z. omega arith) refl)
-        (numbered (eqb number 0x72) (λ e. alone 0x72 e (λ z. omega arith) refl)
-        (numbered (eqb number 0x73) (λ e. alone 0x73 e (λ z. omega arith) refl)
-        (numbered (eqb number 0x74) (λ e. alone 0x74 e (λ z. omega arith) refl)
+        numbered (eqb number 0x74) (λ e. alone 0x74 e (λ z. omega arith) refl)
         (numbered (eqb number 0x75) (λ e. alone 0x75 e (λ z. omega arith) refl)
-        (numbered (eqb number 0x76) (λ e. alone 0x76 e (λ z. omega arith) ticked-same) (nothing _)))))))
+        (numbered (eqb number 0x76) (λ e. alone 0x76 e (λ z. omega arith) ticked-same)
+        (numbered (eqb number 0x77) (λ e. alone 0x77 e (λ z. omega arith) refl)
+        (numbered (eqb number 0x78) (λ e. alone 0x78 e (λ z. omega arith) refl) (nothing _)))))
 
     -- ---- the calls of a kind whose range has no 17 leave the active ones alone
     within : (from : ℕ) → inRange number from ≡ true → (from ≤ number) × (number < from + 16)

@@ -1,4 +1,4 @@
--- Calls 70 to 76 leave a task that has not its last tick its row and its place.
+-- Calls 74 to 78 leave a task that has not its last tick its row and its place.
 use Prim.Native.Nat.{ℕ, zero, suc, _≤_}
 use mathlib.Core.Path.{_≡_, refl, sym, ap, _∙_}
 use mathlib.Core.Logic.{_≢_}
@@ -93,10 +93,8 @@ module _ (t : Tables) (typed : Typed t) (s : Sound t) (q : Asked) (i : ℕ) (u :
   pub switches-leave : Leaves t i put (switchCall tt (context (t .lines) (t .state)) (q .number) (q .a) (q .b) (q .c) (q .d))
   unfolding switchCall
   switches-leave =
-      by-number t i put (q .number) 0x70 _ _ (λ _ _. stay t i)
-      (by-number t i put (q .number) 0x71 _ _ (λ _ _. stay t i)
-      (by-number t i put (q .number) 0x72 _ _ (λ _ _. stay t i)
-      (by-number t i put (q .number) 0x73 _ _ (λ _ _. stay t i)
-      (by-number t i put (q .number) 0x74 _ _ (λ _ _. stay t i)
+      by-number t i put (q .number) 0x74 _ _ (λ _ _. stay t i)
       (by-number t i put (q .number) 0x75 _ _ (λ _ _. stay t i)
-      (by-number t i put (q .number) 0x76 _ _ (λ _ _. tick-leaves) (unknown-leaves t i put tt)))))))
+      (by-number t i put (q .number) 0x76 _ _ (λ _ _. tick-leaves)
+      (by-number t i put (q .number) 0x77 _ _ (λ _ _. stay t i)
+      (by-number t i put (q .number) 0x78 _ _ (λ _ _. stay t i) (unknown-leaves t i put tt)))))

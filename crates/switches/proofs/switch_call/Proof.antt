@@ -1,14 +1,63 @@
-use Rattle.switches.proofs.Numbers.{on-state, no-switch}
+-- `switch_call` meets its contract: each number's call by what that call promises, and no other number is known.
+use borrow.Author.Needs.{needs}
 use Rattle.laws.proofs.Calls.{unknown-is}
-use Rattle.rules.specs.Answer.{notT, notTS}
 use Rattle.rules.specs.Switches.{offCases, offEffect, restoreCases, restoreEffect, inCases, inEffect, interruptCases, outEffect}
 use Rattle.rules.specs.Tick.{tickedOf, switchCall}
-use borrow.Author.Needs.{needs}
+use Rattle.switches.proofs.Numbers.{on-state, no-switch}
 use Rattle.switches.proofs.switch_call.Statement.{statement}
 use Rattle.switches.proofs.switch_call.Tie as tie
 
-pub switch-call-spec : {M : Type 1} → statement M
+returns : tie.Need-returns
 unfolding switchCall
+returns c =
+    let at-match = c .before .before in
+    let a = at-match .before .args in
+    let t = tickedOf (a .tasks .now) (a .lines .now) (a .swis .now) (a .clocks .now) (a .state .now) in
+    rw (at-match .match .keys1)
+    (on-state t (inCases (a .state .now) (a .a) (a .b) (a .c) (a .d)) (inEffect (a .state .now)) (c .interrupt-in .ensures))
+
+returns-2 : tie.Need-returns-2
+unfolding switchCall
+returns-2 c =
+    let at-match = c .before .before in
+    let a = at-match .before .args in
+    let t = tickedOf (a .tasks .now) (a .lines .now) (a .swis .now) (a .clocks .now) (a .state .now) in
+    rw (at-match .match .keys2)
+    (on-state t (interruptCases (a .x) (a .a) (a .b) (a .c) (a .d)) (outEffect (a .state .now)) (c .interrupt-out .ensures))
+
+returns-3 : tie.Need-returns-3
+unfolding switchCall
+returns-3 c = let at-match = c .before .before .before .before .before .before in rw (at-match .match .keys3) (c .tick-call .ensures)
+
+returns-4 : tie.Need-returns-4
+unfolding switchCall
+returns-4 c =
+    let at-match = c .before .before in
+    let a = at-match .before .args in
+    let t = tickedOf (a .tasks .now) (a .lines .now) (a .swis .now) (a .clocks .now) (a .state .now) in
+    rw (at-match .match .keys4)
+    (on-state t (offCases (a .x) (a .a) (a .b) (a .c) (a .d)) (offEffect (a .state .now) (a .a)) (c .off .ensures))
+
+returns-5 : tie.Need-returns-5
+unfolding switchCall
+returns-5 c =
+    let at-match = c .before .before in
+    let a = at-match .before .args in
+    let t = tickedOf (a .tasks .now) (a .lines .now) (a .swis .now) (a .clocks .now) (a .state .now) in
+    rw (at-match .match .keys5)
+    (on-state t (restoreCases (a .x) (a .a) (a .b) (a .c) (a .d)) (restoreEffect (a .state .now) (a .a) (a .b)) (c .restore .ensures))
+
+returns-6 : tie.Need-returns-6
+returns-6 c =
+    let at-match = c .before in
+    let a = at-match .before .args in
+    let t = tickedOf (a .tasks .now) (a .lines .now) (a .swis .now) (a .clocks .now) (a .state .now) in
+    let (((((_, no-74), no-75), no-76), no-77), no-78) = at-match .match .rest in
+    unknown-is t (switchCall t (a .x) (a .number) (a .a) (a .b) (a .c) (a .d))
+    (no-switch t (a .x) (a .number) (a .a) (a .b) (a .c) (a .d) no-74 no-75 no-76 no-77 no-78)
+    (c .refused .ensures)
+
+pub switch-call-spec : {M : Type 1} → statement M
 switch-call-spec =
     tie.close
     (tie.spec
@@ -18,13 +67,9 @@ switch-call-spec =
     (λ c κs. search needs)
     (λ c κs. search needs)
     (λ c κs. search needs)
-    (λ c κs. search needs)
-    (λ c κs. search needs)
-    (λ c. let b = c .before .before .before in rw (c .before .before .match .keys1) (on-state (b .args .tasks .now) (b .args .lines .now) (b .args .swis .now) (b .args .clocks .now) (b .args .state .now) (offCases (notTS (b .args .x)) (b .args .a) (b .args .b) (b .args .c) (b .args .d)) (offEffect (b .args .state .now) 1) (c .swis-off .ensures)))
-    (λ c. let b = c .before .before .before in rw (c .before .before .match .keys2) (on-state (b .args .tasks .now) (b .args .lines .now) (b .args .swis .now) (b .args .clocks .now) (b .args .state .now) (restoreCases (notTS (b .args .x)) (b .args .a) (b .args .b) (b .args .c) (b .args .d)) (restoreEffect (b .args .state .now) 1 (b .args .a)) (c .swis-restore .ensures)))
-    (λ c. let b = c .before .before .before in rw (c .before .before .match .keys3) (on-state (b .args .tasks .now) (b .args .lines .now) (b .args .swis .now) (b .args .clocks .now) (b .args .state .now) (offCases (notT (b .args .x)) (b .args .a) (b .args .b) (b .args .c) (b .args .d)) (offEffect (b .args .state .now) 2) (c .tasks-off .ensures)))
-    (λ c. let b = c .before .before .before in rw (c .before .before .match .keys4) (on-state (b .args .tasks .now) (b .args .lines .now) (b .args .swis .now) (b .args .clocks .now) (b .args .state .now) (restoreCases (notT (b .args .x)) (b .args .a) (b .args .b) (b .args .c) (b .args .d)) (restoreEffect (b .args .state .now) 2 (b .args .a)) (c .tasks-restore .ensures)))
-    (λ c. let b = c .before .before .before in rw (c .before .before .match .keys5) (on-state (b .args .tasks .now) (b .args .lines .now) (b .args .swis .now) (b .args .clocks .now) (b .args .state .now) (inCases (b .args .state .now) (b .args .a) (b .args .b) (b .args .c) (b .args .d)) (inEffect (b .args .state .now)) (c .interrupt-in .ensures)))
-    (λ c. let b = c .before .before .before in rw (c .before .before .match .keys6) (on-state (b .args .tasks .now) (b .args .lines .now) (b .args .swis .now) (b .args .clocks .now) (b .args .state .now) (interruptCases (b .args .x) (b .args .a) (b .args .b) (b .args .c) (b .args .d)) (outEffect (b .args .state .now)) (c .interrupt-out .ensures)))
-    (λ c. rw (c .before .before .before .before .before .before .match .keys7) (c .tick-call .ensures))
-    (λ c. let b = c .before .before in let n = c .before .match .rest in let t = tickedOf (b .args .tasks .now) (b .args .lines .now) (b .args .swis .now) (b .args .clocks .now) (b .args .state .now) in unknown-is t (switchCall t (b .args .x) (b .args .number) (b .args .a) (b .args .b) (b .args .c) (b .args .d)) (no-switch t (b .args .x) (b .args .number) (b .args .a) (b .args .b) (b .args .c) (b .args .d) (n .0 .0 .0 .0 .0 .0 .1) (n .0 .0 .0 .0 .0 .1) (n .0 .0 .0 .0 .1) (n .0 .0 .0 .1) (n .0 .0 .1) (n .0 .1) (n .1)) (c .refused .ensures)))
+    returns
+    returns-2
+    returns-3
+    returns-4
+    returns-5
+    returns-6)

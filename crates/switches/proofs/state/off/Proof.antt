@@ -1,0 +1,40 @@
+-- `off` meets its contract: a code refuses; else the old settings are read before the named switches turn.
+use borrow.Author.Needs.{needs}
+use Rattle.laws.proofs.Calls.{refusal, effected}
+use Rattle.rules.specs.Answer.{codeOf}
+use Rattle.rules.specs.Switches.{offCases, offEffect}
+use Rattle.switches.proofs.Steps.{off-is}
+use Rattle.switches.proofs.state.off.Statement.{statement}
+use Rattle.switches.proofs.state.off.Tie as tie
+
+returns : tie.Need-returns
+returns c =
+    let at-if1 = c .before in
+    let at-code = at-if1 .before in
+    let a = at-code .before .args in
+    let st = a .state .now in
+    refusal st (offEffect st (a .which)) (codeOf (offCases (a .x) (a .which) (a .b) (a .c) (a .d))) (at-code .off-code .ensures) (at-if1 .if1 .taken)
+    (c .refused .ensures)
+
+returns-2 : tie.Need-returns-2
+returns-2 c =
+    let at-turn = c .before in
+    let at-settings = at-turn .before .before in
+    let at-if1 = at-settings .before .before in
+    let at-code = at-if1 .before in
+    let a = at-code .before .args in
+    let st = a .state .now in
+    let done = off-is st (a .which) (at-settings .settings .ensures) (at-turn .turn .ensures) (c .accepted .ensures) in
+    effected st (offEffect st (a .which)) (codeOf (offCases (a .x) (a .which) (a .b) (a .c) (a .d))) (at-code .off-code .ensures) (at-if1 .if1 .left) done
+
+pub off-spec : {M : Type 1} → statement M
+off-spec =
+    tie.close
+    (tie.spec
+    (λ c κs. search needs)
+    (λ c κs. search needs)
+    returns
+    (λ c κs. search needs)
+    (λ c κs. search needs)
+    (λ c κs. search needs)
+    returns-2)
