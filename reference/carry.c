@@ -113,7 +113,7 @@ int main(int argc, char **argv)
         return 2;
     printf("%zu records, %zu of them of the switches\n", carried.records, carried.switches);
     if (carried.unknown != 0)
-        printf("%zu had the number 77 or 78, unknown before No. 10, and have 79 now: was it a log from before No. 10?\n", carried.unknown);
+        printf("calls with the number 77 or 78, unknown in older firmware, that are 79 now: %zu. Was it a log of older firmware?\n", carried.unknown);
     if (whole != length)
         printf("damaged at byte %zu: copied as it is from there\n", whole);
     return fflush(stdout) == 0 ? 0 : 2;

@@ -238,8 +238,8 @@ function circleInWords(t,   u, h, text, n) {
     return ""
 }
 
-# ---- findings. A finding has a rank (3 nothing goes on or is sure past it, 2 strong, 1 worth a look, 0 not told on top) and the record where it began:
-# of one rank the earliest is told first.
+# ---- findings. A finding has a rank (4 the replay itself is not sure past it, 3 nothing goes on or is sure past it, 2 strong, 1 worth a look, 0 not told
+# on top) and the record where it began: of one rank the earliest is told first.
 
 function finding(rank, since, text, more) {
     findings++
@@ -383,14 +383,14 @@ function findOutside() {
         "no create gave that number: it came from outside, such as a packet, or from memory that was spoilt" \
         (outsideOthers == "" ? "" : "; likewise " outsideOthers) (outsideMany > 4 ? " and " plural(outsideMany - 4, "other") : ""))
 }
-# So are the numbers of older firmware: that unit did what the replay refuses.
+# The numbers of older firmware are one finding too, told before all others: that unit did what the replay refuses.
 function noteOld(key, text) {
     if (oldKey == "") { oldKey = key; oldText = text }
     else oldOthers = listing(oldOthers, missName[key] " (" times(misses[key]) ")")
 }
 function findOld() {
     if (oldKey == "") return
-    finding(3, missFirst[oldKey], oldText,
+    finding(4, missFirst[oldKey], oldText,
         "a unit with older firmware knew that number: from there on the replay may differ from what it did" (oldOthers == "" ? "" : "; likewise " oldOthers))
 }
 # An object not in use is one finding: it was deleted, too early where calls named it that were more than calls to delete it; or it was never

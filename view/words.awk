@@ -240,7 +240,7 @@ function offInWords() {
     return "Swis are off" sinceInWords(swisSince, swisBy) (tasksOn ? "" : ", tasks" sinceInWords(tasksSince, tasksBy))
 }
 # Does a word of bits have Swis' bit (1), or that of tasks (2)?
-function hasSwis(bits) { return bits % 4 % 2 == 1 }
+function hasSwis(bits) { return bits % 2 == 1 }
 function hasTasks(bits) { return bits % 4 > 1 }
 # The switches that the call names and whose bits are there are on, the others off: 'they were on', 'Swis were on, tasks off already'.
 function switchesInWords(were, bits, already,   swis, tasks) {

@@ -167,6 +167,8 @@ pub record Sentences : Type 0 where
   -- "70 to 73 become unknown numbers"
   pub unknown-now : _≡_ {A = List ℕ} oldCodes (1 ∷ 1 ∷ 1 ∷ 1 ∷ [])
   -- "2 for a Swi naming anything but 1, and 4 for 0, for values above 3, or for key bits not named; for a Swi, code 2 comes first"
+  pub which-too-great : _≡_ {A = List ℕ} (map (λ which. codeOf (offCases T which 0 0 0)) (8 ∷ 257 ∷ 2147483649 ∷ [])) (4 ∷ 4 ∷ 4 ∷ [])
+  pub key-too-great : _≡_ {A = List ℕ} (map (λ key. codeOf (restoreCases T 3 key 0 0)) (8 ∷ 256 ∷ 2147483648 ∷ [])) (4 ∷ 4 ∷ 4 ∷ [])
   pub off-by-T : _≡_ {A = List ℕ} (offCodes T) (4 ∷ 0 ∷ 0 ∷ 0 ∷ 4 ∷ [])
   pub off-by-S : _≡_ {A = List ℕ} (offCodes S) (2 ∷ 0 ∷ 2 ∷ 2 ∷ 2 ∷ [])
   pub off-by-I : _≡_ {A = List ℕ} (offCodes I) (2 ∷ 2 ∷ 2 ∷ 2 ∷ 2 ∷ [])
@@ -233,6 +235,8 @@ sentences =
       no-other = refl;
       not-named = refl;
       unknown-now = refl;
+      which-too-great = refl;
+      key-too-great = refl;
       off-by-T = refl;
       off-by-S = refl;
       off-by-I = refl;

@@ -5,7 +5,7 @@ use words::SWIS;
 use words::TASKS;
 ghost use mathlib.Core.Path.{_≡_};
 ghost use Rattle.rules.specs.Answer.{after, answered, called, codeOf};
-ghost use Rattle.rules.specs.Switches.{has, setting, settings, turned, mayNotName, badWhich, badKey};
+ghost use Rattle.rules.specs.Switches.{setting, settings, turned, mayNotName, badWhich, badKey};
 ghost use Rattle.rules.specs.Switches.{offCases, offEffect, restoreCases, restoreEffect, inCases, inEffect, interruptCases, outEffect};
 
 // ---- the bits by which 77 and 78 name the switches
@@ -16,6 +16,7 @@ const TASKS_BIT: u32 = 2;
 
 const BOTH_BITS: u32 = 3;
 
+// A switch is on or off.
 const ON: u32 = 1;
 
 const OFF: u32 = 0;
@@ -55,6 +56,7 @@ pub fn may_not_name(x: u32, which: u32) -> bool
     (x == 2) | ((x == 1) & (which != SWIS_BIT))
 }
 
+// 0, or above 3.
 pub fn bad_which(which: u32) -> bool
     ensures { λ r. ⌜ r ≡ badWhich which ⌝ }
 {

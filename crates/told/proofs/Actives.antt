@@ -1,25 +1,24 @@
 -- The active Swis between a call's effect and dispatch: as many as before, and one fewer after call 17.
-use Prim.Native.Nat.{ℕ, suc, _+_, _-_, _≤_, _<_}
+use Prim.Native.Nat.{ℕ, _+_, _-_, _≤_, _<_}
 use mathlib.Core.Path.{_≡_, refl, sym, ap, _∙_}
-use mathlib.Core.Logic.{_≢_, ⊎-elim}
-use mathlib.Core.Bool.{Bool, true, false, _&&_, cond as if, and-eq-true-iff}
+use mathlib.Core.Logic.{_≢_}
+use mathlib.Core.Bool.{Bool, true, _&&_, cond as if, and-eq-true-iff}
 use mathlib.Core.List.{List}
 use native.Mathlib.Omega.{arith}
-use borrow.Author.Tests.{eq-eqb, ne-eqb, eqb-true, ltb-true, leb-true, not-false}
+use borrow.Author.Tests.{ne-eqb, eqb-true, ltb-true, leb-true, not-false}
 use lib.Dec.{eqb, ltb, leb}
-use lib.ListN.{length, take}
+use lib.ListN.{length}
 use lib.Seq.{length-take-le}
-use Rattle.fold.specs.Lists.{bit, without}
+use Rattle.fold.specs.Lists.{bit}
 use Rattle.fold.specs.Rule.{Means}
-use Rattle.rules.specs.Tables.{Typed, swiCount, taskCount, clockCount, swi, withSwi, task, clock, state, current, PRIORITY, TRIGGER, POSTED, DEPTH, CURRENT}
-use Rattle.rules.specs.Lines.{line, anyone, left, Queued, queued, atBack, postedLine, activeLine}
+use Rattle.rules.specs.Tables.{Typed, swiCount, taskCount, clockCount, swi, task, clock, state, PRIORITY, TRIGGER, POSTED, CURRENT}
+use Rattle.rules.specs.Lines.{line, left, Queued, queued, atBack, postedLine, activeLine}
 use Rattle.rules.specs.Answer.{Cases, After, Call, called, codeOf, unknown}
 use Rattle.rules.specs.Dispatch.{context}
-use Rattle.rules.specs.Sound.{Sound, tasksRule, swisRule, activeRule}
+use Rattle.rules.specs.Sound.{Sound, tasksRule}
 use Rattle.rules.specs.Step.{inRange, over, callOf, withQueued, withPosts, withSemaphores, withEvents, withMailboxes, withClocks, withHeap, withTicked}
 use Rattle.rules.specs.Swis.{Posts, posts, posted, triggered, top}
 use Rattle.rules.specs.Swis as Swis
-use Rattle.rules.specs.Switches as Switches
 use Rattle.rules.specs.Tick as Tick
 use Rattle.rules.specs.Tick.{Clocked}
 use Rattle.rules.specs.Waits.{served}

@@ -27,7 +27,9 @@ returns-2 c =
 
 returns-3 : tie.Need-returns-3
 unfolding switchCall
-returns-3 c = let at-match = c .before .before .before .before .before .before in rw (at-match .match .keys3) (c .tick-call .ensures)
+returns-3 c =
+    -- past the five tables that are lent on
+    let at-match = c .before .before .before .before .before .before in rw (at-match .match .keys3) (c .tick-call .ensures)
 
 returns-4 : tie.Need-returns-4
 unfolding switchCall
