@@ -1,22 +1,31 @@
 -- What the calls 74, 75, 77 and 78 leave of the state.
-use Prim.Native.Nat.{ℕ, _+_, _-_, _≤_, _<_}
-use mathlib.Core.Path.{_≡_}
+use Prim.Native.Nat.{ℕ, _+_, _-_, _*_, _/_, _%_, _≤_, _<_}
+use mathlib.Core.Path.{_≡_, ap, sym, _∙_}
 use mathlib.Core.List.{List}
-use mathlib.Core.Bool.{cond as if}
-use lib.Bits.{bitAnd}
-use borrow.Author.Tests.{eq-eqb, ne-eqb, lt-ltb, le-ltb}
+use mathlib.Core.Bool.{not}
+use lib.Bits.{bitAnd, and-mask, and-high}
+use lib.Dec.{eqb}
+use native.Mathlib.Omega.{arith}
+use borrow.Author.Tests.{lt-ltb, le-ltb}
 use Rattle.rules.specs.Answer.{after, answer}
 use Rattle.rules.specs.Tables.{state, withState}
-use Rattle.rules.specs.Switches.{has, on, off, settings, turned, offEffect, restoreEffect, inEffect, outEffect}
+use Rattle.rules.specs.Switches.{swisBit, tasksBit, bothBits, has, on, off, settings, turned, offEffect, restoreEffect, inEffect, outEffect}
 use Rattle.rules.specs.declared.Answer.{Answer}
 
--- one switch: it is turned where the bits have its bit, and stays where they have not
-module _ (bits bit f v : ℕ) (st : List ℕ) {now : List ℕ} where
-  pub turns : (bitAnd bits bit ≡ 0 → ⊥) → now ≡ withState st f v → now ≡ if (has bits bit) (withState st f v) st
-  turns d e = rw (ne-eqb _ 0 d) e
+-- which switches bits name hangs on the two last binary digits alone
+module _ (bits : ℕ) {n : ℕ} (e : bitAnd bits bothBits ≡ n) where
+  digits : n ≡ bits % 4
+  digits = sym e ∙ and-mask bits 2
 
-  pub stays : bitAnd bits bit ≡ 0 → now ≡ st → now ≡ if (has bits bit) (withState st f v) st
-  stays z e = rw (eq-eqb _ 0 z) e
+  pub swis-named : has bits swisBit ≡ has n swisBit
+  swis-named =
+      let last : bits % 2 ≡ n % 2 = omega (arith, digits) in
+      ap (λ (k : ℕ). not (eqb k 0)) (and-mask bits 1 ∙ last ∙ sym (and-mask n 1))
+
+  pub tasks-named : has bits tasksBit ≡ has n tasksBit
+  tasks-named =
+      let before-last : (bits / 2 % 2) * 2 ≡ (n / 2 % 2) * 2 = omega (arith, digits) in
+      ap (λ (k : ℕ). not (eqb k 0)) (and-high bits 1 1 ∙ before-last ∙ sym (and-high n 1 1))
 
 module _ (st : List ℕ) {r : Answer} where
   pub off-is : (which : ℕ) {now : List ℕ} {old : ℕ} → old ≡ settings st → now ≡ turned which off st → r ≡ answer 0 0 (bitAnd old which)

@@ -41,11 +41,18 @@ fn setting(switch: u32, bit: u32) -> u32
 pub fn turn(state: &mut State, bits: u32, v: u32)
     ensures { λ _. ⌜ now (state .exit) ≡ turned bits v (now (state .entry)) ⌝ }
 {
-    if (bits & SWIS_BIT) != 0 {
-        state[SWIS] = v;
-    }
-    if (bits & TASKS_BIT) != 0 {
-        state[TASKS] = v;
+    match bits & BOTH_BITS {
+        SWIS_BIT => {
+            state[SWIS] = v;
+        }
+        TASKS_BIT => {
+            state[TASKS] = v;
+        }
+        BOTH_BITS => {
+            state[SWIS] = v;
+            state[TASKS] = v;
+        }
+        _ => {}
     }
 }
 

@@ -1,37 +1,39 @@
--- `turn` meets its contract: each of its two tests is the definition's, whichever way the first went.
-use mathlib.Core.Path.{_≡_, refl}
-use mathlib.Core.Bool.{cond as if}
-use mathlib.Core.Logic.{⊎-elim}
+-- `turn` meets its contract: of each of the four that the two last bits can be, the definition's two tests are computed.
+use native.Mathlib.Omega.{arith}
+use mathlib.Core.Path.{_≡_}
+use lib.Bits.{bitAnd, and-le-r}
 use borrow.Author.Needs.{needs}
-use Rattle.rules.specs.Tables.{withState, SWIS, TASKS}
-use Rattle.rules.specs.Switches.{swisBit, tasksBit, has}
-use Rattle.switches.proofs.Steps.{turns, stays}
+use Rattle.rules.specs.Switches.{bothBits}
+use Rattle.switches.proofs.Steps.{swis-named, tasks-named}
 use Rattle.switches.proofs.state.turn.Statement.{statement}
 use Rattle.switches.proofs.state.turn.Tie as tie
-use Rattle.switches.proofs.state.turn.Reads as reads
-use Rattle.switches.proofs.state.turn.Lts as lts
-
--- the state after the first test
-swis-turned : (at-if1 : lts.Joined1 reads.Pre reads.Post)
-    → at-if1 .if1 .state ≡ (let a = at-if1 .before .args in if (has (a .bits) swisBit) (withState (a .state .now) SWIS (a .v)) (a .state .now))
-swis-turned at-if1 =
-    let a = at-if1 .before .args in
-    ⊎-elim
-    (λ w. turns (a .bits) swisBit SWIS (a .v) (a .state .now) (w .0 .taken) (w .1))
-    (λ w. stays (a .bits) swisBit SWIS (a .v) (a .state .now) (w .0 .left) (w .1))
-    (at-if1 .if1 .came)
 
 returns : tie.Need-returns
-returns c =
-    let at-if1 = c .before in
-    let a = at-if1 .before .args in
-    rw (← (swis-turned at-if1)) (turns (a .bits) tasksBit TASKS (a .v) (at-if1 .if1 .state) (c .if2 .taken) refl)
+returns c = let bits = c .before .args .bits in rw (swis-named bits (c .match .keys1), tasks-named bits (c .match .keys1))
 
 returns-2 : tie.Need-returns-2
-returns-2 c =
-    let at-if1 = c .before in
-    let a = at-if1 .before .args in
-    rw (← (swis-turned at-if1)) (stays (a .bits) tasksBit TASKS (a .v) (at-if1 .if1 .state) (c .if2 .left) refl)
+returns-2 c = let bits = c .before .args .bits in rw (swis-named bits (c .match .keys2), tasks-named bits (c .match .keys2))
+
+returns-3 : tie.Need-returns-3
+returns-3 c = let bits = c .before .args .bits in rw (swis-named bits (c .match .keys3), tasks-named bits (c .match .keys3))
+
+returns-4 : tie.Need-returns-4
+returns-4 c =
+    let bits = c .before .args .bits in
+    let most = and-le-r bits bothBits in
+    let (((_, no-1), no-2), no-3) = c .match .rest in
+    let none : bitAnd bits bothBits ≡ 0 = omega arith in
+    rw (swis-named bits none, tasks-named bits none)
 
 pub turn-spec : {M : Type 1} → statement M
-turn-spec = tie.close (tie.spec (λ c. search needs) (λ c. search needs) returns returns-2)
+turn-spec =
+    tie.close
+    (tie.spec
+    (λ c. search needs)
+    (λ c. search needs)
+    (λ c. search needs)
+    (λ c. search needs)
+    returns
+    returns-2
+    returns-3
+    returns-4)
