@@ -1,9 +1,11 @@
 -- 01, 'The calls': a run for each kind of object in which cases a to l show little, and the order of the checks.
+use Prim.Native.Nat.{ℕ}
 use mathlib.Core.Path.{refl}
-use mathlib.Core.List.{List, [], _∷_}
+use mathlib.Core.List.{List, [], _∷_, _++_, map}
 use Rattle.rules.specs.Tables.{forever, minusOne}
 use Rattle.rules.specs.Fresh.{fresh}
-use Rattle.rules.proofs.Runs.{Line, _runs_, AllRun, _⇒_, asked, said, saw, T, S, I, createTask, deleteTask, setPriority, yield, end, sleep}
+use Rattle.rules.specs.declared.Thread.{Thread}
+use Rattle.rules.proofs.Runs.{Asked, Line, _runs_, AllRun, _⇒_, asked, said, saw, T, S, I, createTask, deleteTask, setPriority, yield, end, sleep}
 use Rattle.rules.proofs.Runs.{lastResult, createSwi, deleteSwi, postSwi, endSwi, postedOf, createSemaphore, pend, createMailbox}
 use Rattle.rules.proofs.Runs.{deleteMailbox, postMailbox, pendMailbox, createClock, startClock, stopClock, ticksOf, turnOff, restore, swisOff, restoreSwis}
 use Rattle.rules.proofs.Runs.{post, deleteSemaphore, createEvent, deleteEvent, pendEvent, postEvent, deleteClock, tasksOff, restoreTasks}
@@ -181,94 +183,38 @@ both =
     ∷ yield ⇒ said 0 0 0 (T 1)
     ∷ []
 
+-- these calls, each refused with this code while this thread runs
+abbrev pub refused : ℕ → Thread → List Asked → List Line
+refused code who qs = map (λ q. q ⇒ said code 0 0 who) qs
+
+-- the numbers that the switches had before No. 10
+abbrev pub oldNumbers : List Asked
+oldNumbers = asked 0x70 0 0 0 0 ∷ asked 0x71 1 0 0 0 ∷ asked 0x72 0 0 0 0 ∷ asked 0x73 1 0 0 0 ∷ []
+
 -- "2 for a Swi naming anything but 1, and 4 for 0, for values above 3, or for key bits not named; for a Swi, code 2 comes first": both calls by a task,
 -- a Swi and an interrupt; "70 to 73 become unknown numbers"
 abbrev pub which : List Line
 which =
-    createSwi 3 0 ⇒ said 0 0 0 (T 0)
-    ∷ turnOff 0 ⇒ said 4 0 0 (T 0)
-    ∷ turnOff 4 ⇒ said 4 0 0 (T 0)
-    ∷ turnOff 8 ⇒ said 4 0 0 (T 0)
-    ∷ turnOff 257 ⇒ said 4 0 0 (T 0)
-    ∷ turnOff 2147483649 ⇒ said 4 0 0 (T 0)
-    ∷ turnOff 4294967295 ⇒ said 4 0 0 (T 0)
-    ∷ asked 0x77 1 1 0 0 ⇒ said 4 0 0 (T 0)
-    ∷ asked 0x77 2 0 1 0 ⇒ said 4 0 0 (T 0)
-    ∷ asked 0x77 3 0 0 1 ⇒ said 4 0 0 (T 0)
-    ∷ restore 0 0 ⇒ said 4 0 0 (T 0)
-    ∷ restore 4 4 ⇒ said 4 0 0 (T 0)
-    ∷ restore 4294967295 1 ⇒ said 4 0 0 (T 0)
-    ∷ restore 1 2 ⇒ said 4 0 0 (T 0)
-    ∷ restore 1 3 ⇒ said 4 0 0 (T 0)
-    ∷ restore 2 1 ⇒ said 4 0 0 (T 0)
-    ∷ restore 3 4 ⇒ said 4 0 0 (T 0)
-    ∷ restore 3 8 ⇒ said 4 0 0 (T 0)
-    ∷ restore 3 256 ⇒ said 4 0 0 (T 0)
-    ∷ restore 3 2147483648 ⇒ said 4 0 0 (T 0)
-    ∷ restore 3 4294967295 ⇒ said 4 0 0 (T 0)
-    ∷ asked 0x78 3 3 1 0 ⇒ said 4 0 0 (T 0)
-    ∷ asked 0x78 3 3 0 1 ⇒ said 4 0 0 (T 0)
-    ∷ asked 0x70 0 0 0 0 ⇒ said 1 0 0 (T 0)
-    ∷ asked 0x71 1 0 0 0 ⇒ said 1 0 0 (T 0)
-    ∷ asked 0x72 0 0 0 0 ⇒ said 1 0 0 (T 0)
-    ∷ asked 0x73 1 0 0 0 ⇒ said 1 0 0 (T 0)
-    ∷ asked 0x79 1 0 0 0 ⇒ said 1 0 0 (T 0)
-    ∷ turnOff 3 ⇒ said 0 0 3 (T 0)
-    ∷ restore 3 3 ⇒ said 0 0 0 (T 0)
-    ∷ restore 3 3 ⇒ said 0 0 0 (T 0)
-    ∷ postSwi 0 ⇒ said 0 0 0 (S 0)
-    ∷ turnOff 0 ⇒ said 2 0 0 (S 0)
-    ∷ turnOff 2 ⇒ said 2 0 0 (S 0)
-    ∷ turnOff 3 ⇒ said 2 0 0 (S 0)
-    ∷ turnOff 4 ⇒ said 2 0 0 (S 0)
-    ∷ turnOff 5 ⇒ said 2 0 0 (S 0)
-    ∷ turnOff 4294967295 ⇒ said 2 0 0 (S 0)
-    ∷ asked 0x77 2 1 0 0 ⇒ said 2 0 0 (S 0)
-    ∷ asked 0x77 1 1 0 0 ⇒ said 4 0 0 (S 0)
-    ∷ asked 0x77 1 0 1 0 ⇒ said 4 0 0 (S 0)
-    ∷ asked 0x77 1 0 0 1 ⇒ said 4 0 0 (S 0)
-    ∷ turnOff 1 ⇒ said 0 0 1 (S 0)
-    ∷ turnOff 1 ⇒ said 0 0 0 (S 0)
-    ∷ endSwi ⇒ said 9 0 0 (S 0)
-    ∷ restore 0 0 ⇒ said 2 0 0 (S 0)
-    ∷ restore 2 2 ⇒ said 2 0 0 (S 0)
-    ∷ restore 3 1 ⇒ said 2 0 0 (S 0)
-    ∷ restore 4 1 ⇒ said 2 0 0 (S 0)
-    ∷ restore 2 4 ⇒ said 2 0 0 (S 0)
-    ∷ asked 0x78 2 2 1 0 ⇒ said 2 0 0 (S 0)
-    ∷ restore 1 2 ⇒ said 4 0 0 (S 0)
-    ∷ restore 1 4 ⇒ said 4 0 0 (S 0)
-    ∷ asked 0x78 1 1 1 0 ⇒ said 4 0 0 (S 0)
-    ∷ asked 0x78 1 1 0 1 ⇒ said 4 0 0 (S 0)
-    ∷ restore 1 0 ⇒ said 0 0 0 (S 0)
-    ∷ endSwi ⇒ said 9 0 0 (S 0)
-    ∷ restore 1 1 ⇒ said 0 0 0 (S 0)
-    ∷ asked 0x70 0 0 0 0 ⇒ said 1 0 0 (S 0)
-    ∷ asked 0x71 1 0 0 0 ⇒ said 1 0 0 (S 0)
-    ∷ asked 0x72 0 0 0 0 ⇒ said 1 0 0 (S 0)
-    ∷ asked 0x73 1 0 0 0 ⇒ said 1 0 0 (S 0)
-    ∷ interruptIn ⇒ said 0 0 0 I
-    ∷ turnOff 0 ⇒ said 2 0 0 I
-    ∷ turnOff 1 ⇒ said 2 0 0 I
-    ∷ turnOff 2 ⇒ said 2 0 0 I
-    ∷ turnOff 3 ⇒ said 2 0 0 I
-    ∷ turnOff 4 ⇒ said 2 0 0 I
-    ∷ asked 0x77 1 1 0 0 ⇒ said 2 0 0 I
-    ∷ restore 0 0 ⇒ said 2 0 0 I
-    ∷ restore 1 1 ⇒ said 2 0 0 I
-    ∷ restore 1 2 ⇒ said 2 0 0 I
-    ∷ restore 2 2 ⇒ said 2 0 0 I
-    ∷ restore 3 3 ⇒ said 2 0 0 I
-    ∷ restore 4 4 ⇒ said 2 0 0 I
-    ∷ asked 0x78 1 1 1 0 ⇒ said 2 0 0 I
-    ∷ asked 0x70 0 0 0 0 ⇒ said 1 0 0 I
-    ∷ asked 0x71 1 0 0 0 ⇒ said 1 0 0 I
-    ∷ asked 0x72 0 0 0 0 ⇒ said 1 0 0 I
-    ∷ asked 0x73 1 0 0 0 ⇒ said 1 0 0 I
-    ∷ interruptOut ⇒ said 0 0 0 (S 0)
-    ∷ endSwi ⇒ said 0 0 0 (T 0)
-    ∷ turnOff 3 ⇒ said 0 0 3 (T 0)
-    ∷ []
+    (createSwi 3 0 ⇒ said 0 0 0 (T 0) ∷ [])
+    ++ refused 4 (T 0) (turnOff 0 ∷ turnOff 4 ∷ turnOff 8 ∷ turnOff 257 ∷ turnOff 2147483649 ∷ turnOff 4294967295 ∷ [])
+    ++ refused 4 (T 0) (asked 0x77 1 1 0 0 ∷ asked 0x77 2 0 1 0 ∷ asked 0x77 3 0 0 1 ∷ [])
+    ++ refused 4 (T 0) (restore 0 0 ∷ restore 4 4 ∷ restore 4294967295 1 ∷ [])
+    ++ refused 4 (T 0) (restore 1 2 ∷ restore 1 3 ∷ restore 2 1 ∷ restore 3 4 ∷ restore 3 8 ∷ restore 3 256 ∷ restore 3 2147483648 ∷ restore 3 4294967295 ∷ [])
+    ++ refused 4 (T 0) (asked 0x78 3 3 1 0 ∷ asked 0x78 3 3 0 1 ∷ [])
+    ++ refused 1 (T 0) (asked 0x79 1 0 0 0 ∷ oldNumbers)
+    ++ (turnOff 3 ⇒ said 0 0 3 (T 0) ∷ restore 3 3 ⇒ said 0 0 0 (T 0) ∷ restore 3 3 ⇒ said 0 0 0 (T 0) ∷ postSwi 0 ⇒ said 0 0 0 (S 0) ∷ [])
+    ++ refused 2 (S 0) (turnOff 0 ∷ turnOff 2 ∷ turnOff 3 ∷ turnOff 4 ∷ turnOff 5 ∷ turnOff 4294967295 ∷ asked 0x77 2 1 0 0 ∷ [])
+    ++ refused 4 (S 0) (asked 0x77 1 1 0 0 ∷ asked 0x77 1 0 1 0 ∷ asked 0x77 1 0 0 1 ∷ [])
+    ++ (turnOff 1 ⇒ said 0 0 1 (S 0) ∷ turnOff 1 ⇒ said 0 0 0 (S 0) ∷ endSwi ⇒ said 9 0 0 (S 0) ∷ [])
+    ++ refused 2 (S 0) (restore 0 0 ∷ restore 2 2 ∷ restore 3 1 ∷ restore 4 1 ∷ restore 2 4 ∷ asked 0x78 2 2 1 0 ∷ [])
+    ++ refused 4 (S 0) (restore 1 2 ∷ restore 1 4 ∷ asked 0x78 1 1 1 0 ∷ asked 0x78 1 1 0 1 ∷ [])
+    ++ (restore 1 0 ⇒ said 0 0 0 (S 0) ∷ endSwi ⇒ said 9 0 0 (S 0) ∷ restore 1 1 ⇒ said 0 0 0 (S 0) ∷ [])
+    ++ refused 1 (S 0) oldNumbers
+    ++ (interruptIn ⇒ said 0 0 0 I ∷ [])
+    ++ refused 2 I (turnOff 0 ∷ turnOff 1 ∷ turnOff 2 ∷ turnOff 3 ∷ turnOff 4 ∷ asked 0x77 1 1 0 0 ∷ [])
+    ++ refused 2 I (restore 0 0 ∷ restore 1 1 ∷ restore 1 2 ∷ restore 2 2 ∷ restore 3 3 ∷ restore 4 4 ∷ asked 0x78 1 1 1 0 ∷ [])
+    ++ refused 1 I oldNumbers
+    ++ (interruptOut ⇒ said 0 0 0 (S 0) ∷ endSwi ⇒ said 0 0 0 (T 0) ∷ turnOff 3 ⇒ said 0 0 3 (T 0) ∷ [])
 
 -- "74 interrupt in, 7 at depth 8; 75 out"
 abbrev pub interrupts : List Line

@@ -160,6 +160,10 @@ unfoldable pub valueOf : Asked → ℕ → ℕ
 valueOf q k = if (eqb k 3 || eqb k 11) (objectTable q) 0
 
 -- ---- row 5, code 4: "a bad argument, or an unused one not 0"
+-- No. 10: "4 for 0, for values above 3"
+abbrev pub badSwitches : ℕ → Bool
+badSwitches which = eqb which 0 || ltb 3 which
+
 -- priorities of 00 and 02; 05 "n = 4,294,967,295 is 4"; 10 "priority 0 to 15"; 20 "kinds 0 .. 3", "count to 65,535 or 1"; 24 "count as in 20";
 -- 32 "both masks 0 is 4"; 40 capacity 1 to 8; 50 "first ticks from 1"; 60 "bytes 1 to 2,048"; 61 "a live block's start, and bytes that round up
 -- to its size"; No. 10: 77, 78 "4 for 0, for values above 3, or for key bits not named"
@@ -176,8 +180,8 @@ badValue t q =
     (if (among (0x50 ∷ []) q) (eqb (q .b) 0)
     (if (among (0x60 ∷ []) q) (eqb (q .a) 0 || not (leb (q .a) 2048))
     (if (among (0x61 ∷ []) q) (not (isBlock (t .heap) (q .a) (q .b)))
-    (if (among (0x77 ∷ []) q) (eqb (q .a) 0 || ltb 3 (q .a))
-    (if (among (0x78 ∷ []) q) (eqb (q .a) 0 || ltb 3 (q .a) || badKey (q .a) (q .b)) false))))))))))))
+    (if (among (0x77 ∷ []) q) (badSwitches (q .a))
+    (if (among (0x78 ∷ []) q) (badSwitches (q .a) || badKey (q .a) (q .b)) false))))))))))))
 
 -- how many arguments a call names
 abbrev pub namesNone : List ℕ
