@@ -4,12 +4,23 @@ use rules::Lines;
 use rules::State;
 use rules::Swis;
 ghost use mathlib.Core.Path.{_≡_};
-ghost use Prim.Native.Nat.{ℕ, _+_, _-_, _≤_};
-ghost use Rattle.fold.specs.Find.{highestBelow};
+ghost use mathlib.Core.Bool.{not};
+ghost use Prim.Native.Nat.{ℕ, _-_, _^_, _≤_, min};
+ghost use Rattle.fold.specs.Lists.{bit};
+ghost use Rattle.fold.specs.Find.{wordBelow};
 ghost use Rattle.rules.specs.Tables.{levels};
-ghost use Rattle.rules.specs.Lines.{anyone};
+ghost use Rattle.rules.specs.Lines.{anyone, readyLine};
 ghost use Rattle.rules.specs.Dispatch.{highestPosted, activeLevel, swiDue};
 ghost use Rattle.rules.specs.Dispatch.{highestReady, front, taskDue};
+
+// How many priorities tasks have, 0 among them.
+const LEVELS: usize = 16;
+
+// The line that is the ready queue of priority 0; that of priority p stands p lines behind it.
+const READY: usize = 49;
+
+// The bits of a word.
+const WORD: usize = 32;
 
 // Someone stands in line j.
 pub fn anyone(lines: &Lines, j: usize) -> bool
@@ -18,35 +29,62 @@ pub fn anyone(lines: &Lines, j: usize) -> bool
     0 < rows::lines::len(lines, j)
 }
 
-// Of the sixteen lines from `base` on, one more than the place of the last that is not empty;
-// 0 where all are.
-fn highest(lines: &Lines, base: u8) -> usize
-    ensures { λ r. ⌜ (r ≡ highestBelow 16 (λ p. anyone (now (lines .entry)) (base + p)))
-        × (r ≤ 16) ⌝ }
-{
-    let from = fold::wide(base);
-    let mut p = 16;
-    while 0 < p {
-        if anyone(lines, from + (p - 1)) {
-            return p;
-        }
-        p -= 1;
-    }
-    0
-}
-
 // One more than the highest priority at which a Swi is posted; 0 where none is.
 pub fn highest_posted(lines: &Lines) -> usize
     ensures { λ r. ⌜ (r ≡ highestPosted (now (lines .entry))) × (r ≤ 16) ⌝ }
 {
-    highest(lines, 32)
+    let mut level = 16;
+    while 0 < level {
+        if anyone(lines, 32 + (level - 1)) {
+            return level;
+        }
+        level -= 1;
+    }
+    0
 }
 
-// One more than the highest priority at which a task is ready; 0 where none is.
+// 1 where nobody stands in line j, else 0.
+fn empty(lines: &Lines, j: usize) -> u32
+    ensures { λ r. ⌜ (r ≡ bit (not (anyone (now (lines .entry)) j))) × (r ≤ 1) ⌝ }
+{
+    if anyone(lines, j) {
+        return 0;
+    }
+    1
+}
+
+// A word with its n lowest bits set, all of them from 32 on.
+fn ones(n: usize) -> u32
+    ensures { λ r. ⌜ r ≡ 2 ^ min n 32 - 1 ⌝ }
+{
+    if n < WORD {
+        return (1 << n) - 1;
+    }
+    u32::MAX
+}
+
+// No. 6: 'a word with one bit for each non-empty queue', of the first n ready queues: bit p for
+// priority p. There is room for 32; queues past them are left out. No branch is in it: the word
+// of the empty queues is made from the highest down, and the others are what it leaves of all
+// bits. That compiles to less than a bit put in for each queue that is not empty.
+fn ready_queues(lines: &Lines, n: usize) -> u32
+    ensures { λ r. ⌜ r ≡ wordBelow (min n 32) (λ p. anyone (now (lines .entry)) (readyLine p)) ⌝ }
+{
+    let mut empties = 0;
+    let mut p = rows::lines::least(n, WORD);
+    while 0 < p {
+        p -= 1;
+        empties = empties * 2 + empty(lines, READY + p);
+    }
+    ones(n) - empties
+}
+
+// One more than the highest priority at which a task is ready; 0 where none is. No. 6: 'find the
+// top one by the count of leading zeros'.
 pub fn highest_ready(lines: &Lines) -> usize
     ensures { λ r. ⌜ (r ≡ highestReady levels (now (lines .entry))) × (r ≤ 16) ⌝ }
 {
-    highest(lines, 49)
+    WORD - u32::leading_zeros(ready_queues(lines, LEVELS)) as usize
 }
 
 // One more than the top active Swi's priority; 0 where none is active.
@@ -90,5 +128,9 @@ pub fn task_due(lines: &Lines, state: &State) -> bool
 pub fn front(lines: &Lines) -> u8
     ensures { λ r. ⌜ r ≡ front levels (now (lines .entry)) ⌝ }
 {
-    rows::lines::first(lines, 49 + fold::one_less(highest_ready(lines)))
+    let level = highest_ready(lines);
+    if level == 0 {
+        return 0;
+    }
+    rows::lines::first(lines, READY + (level - 1))
 }

@@ -1,6 +1,7 @@
--- Tests over the numbers below a bound: all of them, the least that passes, the greatest that passes.
-use Prim.Native.Nat.{ℕ, zero, suc, _+_}
+-- Tests over the numbers below a bound: all of them, the least that passes, the greatest that passes, one bit for each that passes.
+use Prim.Native.Nat.{ℕ, zero, suc, _+_, _*_, _^_}
 use mathlib.Core.Bool.{Bool, true, _&&_, cond as if}
+use Rattle.fold.specs.Lists.{bit}
 
 -- f holds of each number below n
 unfoldable pub allBelow : ℕ → (ℕ → Bool) → Bool
@@ -20,6 +21,11 @@ firstBelow n f = firstFrom 0 n f
 unfoldable pub highestBelow : ℕ → (ℕ → Bool) → ℕ
 highestBelow zero f = 0
 highestBelow (suc n) f = let lower = highestBelow n f in if (f n) (suc n) lower
+
+-- a word with one bit for each number below n that has f: bit p is set where f holds of p
+unfoldable pub wordBelow : ℕ → (ℕ → Bool) → ℕ
+wordBelow zero f = 0
+wordBelow (suc n) f = bit (f n) * 2 ^ n + wordBelow n f
 
 -- x after a step for each number below n, in rising order
 unfoldable pub rising : {A : Type 0} → ℕ → (A → ℕ → A) → A → A

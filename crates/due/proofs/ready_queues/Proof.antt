@@ -1,0 +1,53 @@
+-- `ready_queues` meets its contract: the loop makes the word of the empty queues from the top, and what it leaves of all bits is the word of the others
+use Prim.Native.Nat.{ℕ, _+_, _*_, _≤_, _<_, min}
+use mathlib.Core.Path.{_≡_}
+use mathlib.Core.Bool.{Bool, not}
+use native.Mathlib.Omega.{arith}
+use lib.Pow.{le-ones}
+use Rattle.fold.proofs.Leading.{Made, made-none, made-more, made-all, made-room, word-under, word-others}
+use Rattle.rules.specs.Lines.{anyone, readyLine}
+use borrow.Author.Needs.{needs}
+use Rattle.due.proofs.ready_queues.Statement.{statement}
+use Rattle.due.proofs.ready_queues.Tie as tie
+
+abbrev Inv-loop : tie.InvT-loop
+Inv-loop lines n empties₀ p₀ empties p = Made (min n 32) (λ q. not (anyone lines (readyLine q))) p empties
+
+abbrev μ-loop : tie.MeasureT-loop
+μ-loop lines n empties₀ p₀ empties p = p
+
+least-most : (n : ℕ) → min n 32 ≤ 32
+least-most n = omega arith
+
+-- there is room for the next bit
+room : (n : ℕ) (f : ℕ → Bool) {p w : ℕ} → 0 < p → Made (min n 32) f p w → w * 2 + 1 < 4294967296
+room n f = made-room 31 (min n 32) f (least-most n)
+
+pub ready-queues-spec : {M : Type 1} → statement M
+ready-queues-spec =
+    tie.close
+    (tie.spec
+    Inv-loop
+    μ-loop
+    (λ c κs. search needs)
+    (λ c. rw (c .least .ensures) (made-none _ _))
+    (λ c. search needs)
+    (λ c. omega (arith, room _ _ (omega (arith, c .loop-test .taken)) (c .before .loop .inv)))
+    (λ c. let start = c .before .before .before in omega (arith, c .before .loop .inv .inside, least-most (start .args .n)))
+    (λ c κs. search needs)
+    (λ c.
+    let some = c .before .loop-test .taken in
+    let made = c .before .before .loop .inv in
+    omega (arith, room _ _ (omega (arith, some)) made, c .empty .ensures .1))
+    (λ c. search needs)
+    (λ c.
+    let some = c .before .loop-test .taken in
+    let made = c .before .before .loop .inv in
+    made-more _ _ _ (omega (arith, some)) made (c .empty .ensures .0))
+    (λ c κs. search needs)
+    (λ c.
+    let word = made-all _ _ (c .before .loop-test .left) (c .before .before .loop .inv) in
+    rw (c .ones .ensures, word) (le-ones _ (word-under _ _)))
+    (λ c.
+    let word = made-all _ _ (c .before .loop-test .left) (c .before .before .loop .inv) in
+    rw (c .ones .ensures, word) (word-others _ _)))

@@ -1,0 +1,102 @@
+// Searches for the highest of sixteen queues again and again, and prints a sum over what was found: for measuring. The search for posted
+// Swis walks through the queues, the search for ready tasks makes a word of them.
+//
+// The arguments: `posted`, `ready`, or another for one look at one queue; how often, as for `pace`; and `best` where queue 15 is the filled
+// one, `worst` where it is queue 0, or another for each queue in turn. Of a word the first letter counts.
+use rules::Lines;
+use text::Text;
+ghost use Prim.Native.Nat.{_≤_};
+
+// Where somebody stands: the first queue, and how many further on each next one is.
+struct Filled {
+    first: usize,
+    step: usize,
+}
+
+// The first letter of argument k; 0 where there is none.
+fn letter(k: usize) -> u8 {
+    let mut name = io::buffer();
+    let length = os::arg(k, &mut name);
+    let word = &name[..length];
+    if word.len() == 0 {
+        return 0;
+    }
+    word[0]
+}
+
+fn rounds() -> u32 {
+    let mut name = io::buffer();
+    let length = os::arg(2, &mut name);
+    pacing::rounds_for(&name[..length])
+}
+
+fn queues_for(letter: u8) -> Filled {
+    match letter {
+        b'b' => Filled { first: 15, step: 0 },
+        b'w' => Filled { first: 0, step: 0 },
+        _ => Filled { first: 0, step: 1 },
+    }
+}
+
+// 1 where somebody stands in the ready queue of priority p.
+fn look(lines: &Lines, p: usize) -> usize
+    ensures { λ r. ⌜ r ≤ 16 ⌝ }
+{
+    if due::anyone(lines, 49 + p % 16) {
+        return 1;
+    }
+    0
+}
+
+fn found_at(lines: &Lines, search: u8, p: usize) -> usize
+    ensures { λ r. ⌜ r ≤ 16 ⌝ }
+{
+    match search {
+        b'p' => due::highest_posted(lines),
+        b'r' => due::highest_ready(lines),
+        _ => look(lines, p),
+    }
+}
+
+fn found(lines: &Lines, search: u8, p: usize) -> u32 {
+    found_at(lines, search, p) as u32
+}
+
+// How many stand in the queue of priority p, of posted Swis and of ready tasks.
+fn set(lines: &mut Lines, p: usize, n: u8) {
+    lines[(32 + p % 16) * 33] = n;
+    lines[(49 + p % 16) * 33] = n;
+}
+
+// n searches. Before each somebody joins the queues of one priority, and after it they are empty again.
+fn searches(lines: &mut Lines, search: u8, filled: Filled, n: u32) -> u32 {
+    let mut sum = 0;
+    let mut p = filled.first;
+    let mut left = n;
+    while 0 < left {
+        set(lines, p, 1);
+        sum = std::num::wrapping_add_u32(sum, found(lines, search, filled.first));
+        set(lines, p, 0);
+        p = std::num::wrapping_add_usize(p, filled.step);
+        left -= 1;
+    }
+    sum
+}
+
+// Puts the line of the sum into a buffer, and writes it from there.
+fn write_sum(out: &mut Text, sum: u32) {
+    let len = pacing::put_sum(out, sum);
+    io::write_all(libc::STDOUT_FILENO, text::front(out, len));
+}
+
+fn print_sum(sum: u32) {
+    let mut out = [0u8; 16384];
+    write_sum(&mut out, sum);
+}
+
+fn main() {
+    let mut lines = [0u8; 2145];
+    let search = letter(1);
+    let filled = queues_for(letter(3));
+    print_sum(searches(&mut lines, search, filled, rounds()));
+}
