@@ -13,13 +13,18 @@ ghost use Rattle.rules.specs.Lines.{anyone, readyLine};
 ghost use Rattle.rules.specs.Dispatch.{highestPosted, activeLevel, swiDue};
 ghost use Rattle.rules.specs.Dispatch.{highestReady, front, taskDue};
 
-// How many priorities tasks have, 0 among them.
+// How many ready queues there are, one for each priority from 0 on.
 const LEVELS: usize = 16;
 
-// The line that is the ready queue of priority 0; that of priority p stands p lines behind it.
-const READY: usize = 49;
+// The lines of posted Swis by priority, from 0 on; that of the active Swis; and the ready queues
+// by priority.
+pub const POSTED_LINES: usize = 32;
 
-// The bits of a word.
+pub const ACTIVE_LINE: usize = 48;
+
+pub const READY_LINES: usize = 49;
+
+// How many bits a word has.
 const WORD: usize = 32;
 
 // Someone stands in line j.
@@ -35,7 +40,7 @@ pub fn highest_posted(lines: &Lines) -> usize
 {
     let mut level = 16;
     while 0 < level {
-        if anyone(lines, 32 + (level - 1)) {
+        if anyone(lines, POSTED_LINES + (level - 1)) {
             return level;
         }
         level -= 1;
@@ -53,7 +58,7 @@ fn empty(lines: &Lines, j: usize) -> u32
     1
 }
 
-// A word with its n lowest bits set, all of them from 32 on.
+// A word with its n lowest bits set; all 32 where n is 32 or more.
 fn ones(n: usize) -> u32
     ensures { λ r. ⌜ r ≡ 2 ^ min n 32 - 1 ⌝ }
 {
@@ -64,9 +69,9 @@ fn ones(n: usize) -> u32
 }
 
 // No. 6: 'a word with one bit for each non-empty queue', of the first n ready queues: bit p for
-// priority p. There is room for 32; queues past them are left out. No branch is in it: the word
-// of the empty queues is made from the highest down, and the others are what it leaves of all
-// bits. That compiles to less than a bit put in for each queue that is not empty.
+// priority p. There is room for 32; queues past them are left out. The word of the empty queues
+// is made from the highest down, and the others are the bits that it leaves: for a fixed n that
+// compiles to no branch, and to less than a bit put in for each queue that is not empty.
 fn ready_queues(lines: &Lines, n: usize) -> u32
     ensures { λ r. ⌜ r ≡ wordBelow (min n 32) (λ p. anyone (now (lines .entry)) (readyLine p)) ⌝ }
 {
@@ -74,7 +79,7 @@ fn ready_queues(lines: &Lines, n: usize) -> u32
     let mut p = rows::lines::least(n, WORD);
     while 0 < p {
         p -= 1;
-        empties = empties * 2 + empty(lines, READY + p);
+        empties = empties * 2 + empty(lines, READY_LINES + p);
     }
     ones(n) - empties
 }
@@ -91,7 +96,7 @@ pub fn highest_ready(lines: &Lines) -> usize
 pub fn active_level(swis: &Swis, lines: &Lines) -> usize
     ensures { λ r. ⌜ r ≡ activeLevel (now (swis .entry)) (now (lines .entry)) ⌝ }
 {
-    if anyone(lines, 48) {
+    if anyone(lines, ACTIVE_LINE) {
         let i = fold::wide(rows::readings::top(lines));
         return words::swi(swis, i, words::PRIORITY) as usize + 1;
     }
@@ -118,7 +123,7 @@ pub fn task_due(lines: &Lines, state: &State) -> bool
     if state[words::DEPTH] != 0 {
         return false;
     }
-    if anyone(lines, 48) {
+    if anyone(lines, ACTIVE_LINE) {
         return false;
     }
     (state[words::SWIS] != 0) & (state[words::TASKS] != 0)
@@ -132,5 +137,5 @@ pub fn front(lines: &Lines) -> u8
     if level == 0 {
         return 0;
     }
-    rows::lines::first(lines, READY + (level - 1))
+    rows::lines::first(lines, READY_LINES + (level - 1))
 }

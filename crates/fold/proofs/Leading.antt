@@ -1,10 +1,11 @@
--- Laws of `wordBelow`: a loop makes the word from the top; those that have f and those that lack it make up all bits; and the leading zeros of the word tell the
--- greatest number that has f.
-use Prim.Native.Nat.{ℕ, zero, suc, _+_, _-_, _*_, _^_, _≤_, _<_}
+-- Laws of `wordBelow`: it has n bits; with the word of those that lack f it makes up all of them; its leading zeros tell `highestBelow`; bit p of it tells whether
+-- p has f; a loop makes it from the top.
+use Prim.Native.Nat.{ℕ, zero, suc, _+_, _-_, _*_, _/_, _%_, _^_, _≤_, _<_}
 use mathlib.Core.Path.{_≡_, refl, ap, _∙_}
 use mathlib.Core.Bool.{Bool, true, false, not, _||_, cond as if}
-use native.Mathlib.Nat.{pow-suc}
+use native.Mathlib.Nat.{pow-suc, div-one, div-div-eq-div-mul}
 use native.Mathlib.Omega.{arith}
+use lib.Arith.{digits-div, digits-mod}
 use lib.Count.{leadingZeros, leading-unique}
 use lib.Dec.{eqb, lit≤, lit<}
 use lib.Pow.{pow-mono}
@@ -36,6 +37,7 @@ pub word-others : (n : ℕ) (f : ℕ → Bool) → 2 ^ n - 1 - wordBelow n (λ i
 word-others n f = let all = word-rest n f in omega arith
 
 -- ---- its length is one more than the greatest number that has f
+-- w has m bits, the top one set; 0 has none
 record Long (w m : ℕ) : Type 0 where
   under : w < 2 ^ m
   over : 2 ^ m ≤ 2 * w + 1
@@ -57,17 +59,8 @@ leading-highest k n f l =
     let zeros = leading-unique k (wordBelow n f) (k - highestBelow n f) (highestBelow n f) (omega arith) (long .under) (long .over) in
     omega arith
 
--- ---- a loop makes it from the top: it has the bits from p on
-pub record Made (n : ℕ) (f : ℕ → Bool) (p w : ℕ) : Type 0 where
-  pub inside : p ≤ n
-  pub word : w ≡ wordBelow (n - p) (λ i. f (p + i))
-
-word-same : (n : ℕ) (f g : ℕ → Bool) → ((i : ℕ) → f i ≡ g i) → wordBelow n f ≡ wordBelow n g
-unfolding wordBelow
-word-same zero f g e = refl
-word-same (suc n) f g e = rw (e n, word-same n f g e)
-
--- the lowest bit
+-- ---- its bits
+-- the lowest bit stands apart; the rest is the word of the next numbers, one place up
 low-step : (n w v : ℕ) (b c : Bool) → v ≡ w * 2 + bit c → bit b * 2 ^ suc n + v ≡ (bit b * 2 ^ n + w) * 2 + bit c
 low-step n w v true c e = rw (pow-suc 2 n) (omega arith)
 low-step n w v false c e = omega arith
@@ -76,6 +69,29 @@ word-low : (n : ℕ) (g : ℕ → Bool) → wordBelow (suc n) g ≡ wordBelow n 
 unfolding wordBelow
 word-low zero g = omega arith
 word-low (suc n) g = low-step n (wordBelow n (λ i. g (suc i))) (wordBelow (suc n) g) (g (suc n)) (g 0) (word-low n g)
+
+bit-under : (b : Bool) → bit b < 2
+bit-under true = lit< tt
+bit-under false = lit< tt
+
+pub word-bit : (n p : ℕ) (f : ℕ → Bool) → p < n → wordBelow n f / 2 ^ p % 2 ≡ bit (f p)
+word-bit zero p f l = absurd (omega arith)
+word-bit (suc n) zero f l = rw (word-low n f, div-one) (digits-mod (wordBelow n (λ i. f (suc i))) (bit-under (f 0)))
+word-bit (suc n) (suc p) f l =
+    let w = wordBelow n (λ i. f (suc i)) in
+    let two : 2 ^ suc p ≡ 2 * 2 ^ p = rw (pow-suc 2 p) (omega arith) in
+    let half : (w * 2 + bit (f 0)) / (2 * 2 ^ p) ≡ w / 2 ^ p = rw (← div-div-eq-div-mul (w * 2 + bit (f 0)) 2 (2 ^ p), digits-div w (bit-under (f 0))) in
+    rw (word-low n f, two, half) (word-bit n p (λ i. f (suc i)) (omega arith))
+
+-- ---- a loop makes it from the top: come down to p, it has the bits p to n - 1, p places lower
+pub record Made (n : ℕ) (f : ℕ → Bool) (p w : ℕ) : Type 0 where
+  pub inside : p ≤ n
+  pub word : w ≡ wordBelow (n - p) (λ i. f (p + i))
+
+word-same : (n : ℕ) (f g : ℕ → Bool) → ((i : ℕ) → f i ≡ g i) → wordBelow n f ≡ wordBelow n g
+unfolding wordBelow
+word-same zero f g e = refl
+word-same (suc n) f g e = rw (e n, word-same n f g e)
 
 pub made-none : (n : ℕ) (f : ℕ → Bool) → Made n f n 0
 unfolding wordBelow
@@ -97,7 +113,7 @@ made-all n f {p} l m =
     let at : (i : ℕ) → 0 + i ≡ i = λ i. omega arith in
     rw (none, all) at (m .word) ∙ word-same n _ f (λ i. ap f (at i))
 
--- while bits are missing, a word of k has room for the next
+-- while bits are missing, a word of suc k bits has room for the next
 pub made-room : (k n : ℕ) (f : ℕ → Bool) {p w : ℕ} → n ≤ suc k → 0 < p → Made n f p w → w * 2 + 1 < 2 ^ suc k
 made-room k n f {p} {w} l h m =
     let at = word-under (n - p) (λ i. f (p + i)) in
@@ -127,3 +143,8 @@ all = refl
 ends-highest : 32 - leadingZeros 32 0x8001 ≡ 16
 unfolding leadingZeros
 ends-highest = refl
+
+-- of nobody it is 0
+none-highest : 32 - leadingZeros 32 0 ≡ 0
+unfolding leadingZeros
+none-highest = refl

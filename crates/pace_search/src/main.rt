@@ -2,12 +2,18 @@
 // Swis walks through the queues, the search for ready tasks makes a word of them.
 //
 // The arguments: `posted`, `ready`, or another for one look at one queue; how often, as for `pace`; and `best` where queue 15 is the filled
-// one, `worst` where it is queue 0, or another for each queue in turn. Of a word the first letter counts.
+// one, a walk's best case, `worst` where it is queue 0, or another for each queue in turn. Of a word the first letter counts.
 use rules::Lines;
 use text::Text;
 ghost use Prim.Native.Nat.{_≤_};
 
-// Where somebody stands: the first queue, and how many further on each next one is.
+// How many queues of each kind there are.
+const QUEUES: usize = 16;
+
+// How many bytes a line has.
+const WIDTH: usize = 33;
+
+// The queue that is filled first, and how far on the next one is each time.
 struct Filled {
     first: usize,
     step: usize,
@@ -24,12 +30,14 @@ fn letter(k: usize) -> u8 {
     word[0]
 }
 
+// How often, by the program's second argument.
 fn rounds() -> u32 {
     let mut name = io::buffer();
     let length = os::arg(2, &mut name);
     pacing::rounds_for(&name[..length])
 }
 
+// Which ones, by the program's third argument.
 fn queues_for(letter: u8) -> Filled {
     match letter {
         b'b' => Filled { first: 15, step: 0 },
@@ -38,16 +46,17 @@ fn queues_for(letter: u8) -> Filled {
     }
 }
 
-// 1 where somebody stands in the ready queue of priority p.
+// 1 where somebody stands in the ready queue of priority p, else 0.
 fn look(lines: &Lines, p: usize) -> usize
     ensures { λ r. ⌜ r ≤ 16 ⌝ }
 {
-    if due::anyone(lines, 49 + p % 16) {
+    if due::anyone(lines, due::READY_LINES + p % QUEUES) {
         return 1;
     }
     0
 }
 
+// What the chosen search found.
 fn found_at(lines: &Lines, search: u8, p: usize) -> usize
     ensures { λ r. ⌜ r ≤ 16 ⌝ }
 {
@@ -58,14 +67,15 @@ fn found_at(lines: &Lines, search: u8, p: usize) -> usize
     }
 }
 
+// The same as a number to be added.
 fn found(lines: &Lines, search: u8, p: usize) -> u32 {
     found_at(lines, search, p) as u32
 }
 
 // How many stand in the queue of priority p, of posted Swis and of ready tasks.
 fn set(lines: &mut Lines, p: usize, n: u8) {
-    lines[(32 + p % 16) * 33] = n;
-    lines[(49 + p % 16) * 33] = n;
+    lines[(due::POSTED_LINES + p % QUEUES) * WIDTH] = n;
+    lines[(due::READY_LINES + p % QUEUES) * WIDTH] = n;
 }
 
 // n searches. Before each somebody joins the queues of one priority, and after it they are empty again.

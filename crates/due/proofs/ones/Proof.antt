@@ -17,8 +17,11 @@ ones-spec =
     (tie.spec
     (λ c. search needs)
     (λ c. search needs)
-    (λ c. rw (shifted _ (c .if1 .taken)) (omega (arith, suc-ones (c .before .args .n))))
     (λ c.
-    let all : min (c .before .args .n) 32 ≡ c .before .args .n = omega (arith, c .if1 .taken) in
-    rw (all, shifted _ (c .if1 .taken)) (omega arith))
+    let few : c .before .args .n < 32 = omega (arith, c .if1 .taken) in
+    rw (shifted _ few) (omega (arith, suc-ones (c .before .args .n))))
+    (λ c.
+    let few : c .before .args .n < 32 = omega (arith, c .if1 .taken) in
+    let all : min (c .before .args .n) 32 ≡ c .before .args .n = omega (arith, few) in
+    rw (all, shifted _ few) (omega arith))
     (λ c. let all : min (c .before .args .n) 32 ≡ 32 = omega (arith, c .if1 .left) in rw all))

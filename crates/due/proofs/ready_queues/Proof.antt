@@ -32,22 +32,27 @@ ready-queues-spec =
     (λ c κs. search needs)
     (λ c. rw (c .least .ensures) (made-none _ _))
     (λ c. search needs)
-    (λ c. omega (arith, room _ _ (omega (arith, c .loop-test .taken)) (c .before .loop .inv)))
-    (λ c. let start = c .before .before .before in omega (arith, c .before .loop .inv .inside, least-most (start .args .n)))
+    (λ c. let at-loop = c .before .loop in omega (arith, room _ _ (omega (arith, c .loop-test .taken)) (at-loop .inv)))
+    (λ c.
+    let at-loop = c .before .loop in
+    let start = c .before .before .before in
+    omega (arith, at-loop .inv .inside, least-most (start .args .n)))
     (λ c κs. search needs)
     (λ c.
-    let some = c .before .loop-test .taken in
-    let made = c .before .before .loop .inv in
-    omega (arith, room _ _ (omega (arith, some)) made, c .empty .ensures .1))
+    let at-test = c .before in
+    let at-loop = at-test .before .loop in
+    omega (arith, room _ _ (omega (arith, at-test .loop-test .taken)) (at-loop .inv), c .empty .ensures .1))
     (λ c. search needs)
     (λ c.
-    let some = c .before .loop-test .taken in
-    let made = c .before .before .loop .inv in
-    made-more _ _ _ (omega (arith, some)) made (c .empty .ensures .0))
+    let at-test = c .before in
+    let at-loop = at-test .before .loop in
+    made-more _ _ _ (omega (arith, at-test .loop-test .taken)) (at-loop .inv) (c .empty .ensures .0))
     (λ c κs. search needs)
     (λ c.
-    let word = made-all _ _ (c .before .loop-test .left) (c .before .before .loop .inv) in
-    rw (c .ones .ensures, word) (le-ones _ (word-under _ _)))
+    let at-test = c .before in
+    let empties = made-all _ _ (at-test .loop-test .left) (at-test .before .loop .inv) in
+    rw (c .ones .ensures, empties) (le-ones _ (word-under _ _)))
     (λ c.
-    let word = made-all _ _ (c .before .loop-test .left) (c .before .before .loop .inv) in
-    rw (c .ones .ensures, word) (word-others _ _)))
+    let at-test = c .before in
+    let empties = made-all _ _ (at-test .loop-test .left) (at-test .before .loop .inv) in
+    rw (c .ones .ensures, empties) (word-others _ _)))
