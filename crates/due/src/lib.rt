@@ -13,8 +13,11 @@ ghost use Rattle.rules.specs.Lines.{anyone, readyLine};
 ghost use Rattle.rules.specs.Dispatch.{highestPosted, activeLevel, swiDue};
 ghost use Rattle.rules.specs.Dispatch.{highestReady, front, taskDue};
 
-// How many ready queues there are, one for each priority from 0 on.
+// How many ready queues there are, and how many queues of posted Swis, one for each priority
+// from 0 on.
 const LEVELS: usize = 16;
+
+const SWI_LEVELS: usize = 16;
 
 // The lines of posted Swis by priority, from 0 on; that of the active Swis; and the ready queues
 // by priority.
@@ -25,7 +28,7 @@ pub const ACTIVE_LINE: usize = 48;
 pub const READY_LINES: usize = 49;
 
 // How many bits a word has.
-const WORD: usize = 32;
+const WORD_BITS: usize = 32;
 
 // Someone stands in line j.
 pub fn anyone(lines: &Lines, j: usize) -> bool
@@ -38,7 +41,7 @@ pub fn anyone(lines: &Lines, j: usize) -> bool
 pub fn highest_posted(lines: &Lines) -> usize
     ensures { λ r. ⌜ (r ≡ highestPosted (now (lines .entry))) × (r ≤ 16) ⌝ }
 {
-    let mut level = 16;
+    let mut level = SWI_LEVELS;
     while 0 < level {
         if anyone(lines, POSTED_LINES + (level - 1)) {
             return level;
@@ -62,7 +65,7 @@ fn empty(lines: &Lines, j: usize) -> u32
 fn ones(n: usize) -> u32
     ensures { λ r. ⌜ r ≡ 2 ^ min n 32 - 1 ⌝ }
 {
-    if n < WORD {
+    if n < WORD_BITS {
         return (1 << n) - 1;
     }
     u32::MAX
@@ -70,13 +73,14 @@ fn ones(n: usize) -> u32
 
 // No. 6: 'a word with one bit for each non-empty queue', of the first n ready queues: bit p for
 // priority p. There is room for 32; queues past them are left out. The word of the empty queues
-// is made from the highest down, and the others are the bits that it leaves: for a fixed n that
-// compiles to no branch, and to less than a bit put in for each queue that is not empty.
+// is made from the highest down, and the others are the bits that it leaves. For a fixed n that
+// compiles to no branch, and to fewer instructions than if a bit were put in for each queue that
+// is not empty.
 fn ready_queues(lines: &Lines, n: usize) -> u32
     ensures { λ r. ⌜ r ≡ wordBelow (min n 32) (λ p. anyone (now (lines .entry)) (readyLine p)) ⌝ }
 {
     let mut empties = 0;
-    let mut p = rows::lines::least(n, WORD);
+    let mut p = rows::lines::least(n, WORD_BITS);
     while 0 < p {
         p -= 1;
         empties = empties * 2 + empty(lines, READY_LINES + p);
@@ -89,7 +93,7 @@ fn ready_queues(lines: &Lines, n: usize) -> u32
 pub fn highest_ready(lines: &Lines) -> usize
     ensures { λ r. ⌜ (r ≡ highestReady levels (now (lines .entry))) × (r ≤ 16) ⌝ }
 {
-    WORD - u32::leading_zeros(ready_queues(lines, LEVELS)) as usize
+    WORD_BITS - u32::leading_zeros(ready_queues(lines, LEVELS)) as usize
 }
 
 // One more than the top active Swi's priority; 0 where none is active.

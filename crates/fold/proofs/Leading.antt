@@ -1,5 +1,5 @@
--- Laws of `wordBelow`: it has n bits; with the word of those that lack f it makes up all of them; its leading zeros tell `highestBelow`; bit p of it tells whether
--- p has f; a loop makes it from the top.
+-- Laws of `wordBelow`: it has no bit from n on; with the word of those that lack f it makes up all n bits; its leading zeros tell `highestBelow`; bit p of it
+-- tells whether p has f; a loop makes it from the top.
 use Prim.Native.Nat.{ℕ, zero, suc, _+_, _-_, _*_, _/_, _%_, _^_, _≤_, _<_}
 use mathlib.Core.Path.{_≡_, refl, ap, _∙_}
 use mathlib.Core.Bool.{Bool, true, false, not, _||_, cond as if}
@@ -13,7 +13,7 @@ use Rattle.fold.specs.Lists.{bit}
 use Rattle.fold.specs.Find.{highestBelow, wordBelow}
 use Rattle.fold.proofs.Finds.{high-is}
 
--- ---- it has n bits
+-- ---- it has no bit from n on
 under-step : (n w : ℕ) (b : Bool) → w < 2 ^ n → bit b * 2 ^ n + w < 2 ^ suc n
 under-step n w true h = rw (pow-suc 2 n) (omega arith)
 under-step n w false h = rw (pow-suc 2 n) (omega arith)
