@@ -7,6 +7,7 @@
 
 enum {
     CALLS = 40,
+    RANGE = 16,    /* call numbers of a kind; each range begins with its create, where there is one */
     CODES = 12     /* 0 to 11 */
 };
 

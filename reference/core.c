@@ -232,9 +232,10 @@ static struct answer dispatched(struct tables *t, struct answer answer)
 
 /* Tasks */
 
-static inline int is_task_priority(uint32_t priority)
+/* -1, or a level other than task 0's. */
+static inline int is_task_priority(const struct tables *t, uint32_t priority)
 {
-    return (priority >= 1 && priority <= 15) || priority == MINUS_ONE;
+    return (priority >= 1 && priority < t->levels) || priority == MINUS_ONE;
 }
 
 static struct answer task_create(struct tables *t, uint32_t priority, uint32_t b, uint32_t c, uint32_t d)
@@ -243,7 +244,7 @@ static struct answer task_create(struct tables *t, uint32_t priority, uint32_t b
 
     if (!in_task(t))
         return refused(WRONG_CONTEXT);
-    if (!is_task_priority(priority) || (b | c | d) != 0)
+    if (!is_task_priority(t, priority) || (b | c | d) != 0)
         return refused(BAD_ARGUMENT);
     if (is_full(t->tasks_in_use, TASKS))
         return refused(TABLE_FULL);
@@ -284,7 +285,7 @@ static struct answer task_set_priority(struct tables *t, uint32_t number, uint32
         return refused(WRONG_CONTEXT);
     if (!in_use(t->tasks_in_use, number, TASKS))
         return absent(TASK_TABLE, number);
-    if (!is_task_priority(priority) || (c | d) != 0)
+    if (!is_task_priority(t, priority) || (c | d) != 0)
         return refused(BAD_ARGUMENT);
     task = &t->task[number];
     if (number == 0 || task->mode == TERMINATED)
@@ -369,7 +370,7 @@ static struct answer swi_create(struct tables *t, uint32_t priority, uint32_t in
 
     if (!in_task(t))
         return refused(WRONG_CONTEXT);
-    if (priority > 15 || (c | d) != 0)
+    if (priority >= SWI_LEVELS || (c | d) != 0)
         return refused(BAD_ARGUMENT);
     if (is_full(t->swis_in_use, SWIS))
         return refused(TABLE_FULL);
@@ -1154,9 +1155,12 @@ struct thread core_running(const struct tables *t)
     return (struct thread){ 'T', t->current };
 }
 
-void core_fresh(struct tables *t)
+struct answer core_fresh(struct tables *t, uint32_t levels)
 {
+    int is_number_of_levels = levels == LEVELS_LEAST || levels == LEVELS_MOST;
+
     memset(t, 0, sizeof *t);
+    t->levels = is_number_of_levels ? levels : (uint32_t)LEVELS_LEAST;
     for (uint32_t place = 0; place < PLACES; place++) {
         int is_own = place < HEAD_OF_READY || (place >= PLACE_OF_SWI && place < HEAD_OF_POSTED);
 
@@ -1167,4 +1171,5 @@ void core_fresh(struct tables *t)
     t->tasks_on = 1;
     t->tasks_in_use = bit(0);
     join_ready(t, 0); /* task 0, priority 0 */
+    return is_number_of_levels ? done(0) : refused(BAD_ARGUMENT);
 }

@@ -16,7 +16,9 @@ enum {
     EVENTS = 8,
     MAILBOXES = 8,
     CLOCKS = 16,
-    PRIORITIES = 16,       /* tasks 0 to 15 (0 is the idle task alone), Swis 0 to 15 */
+    LEVELS_LEAST = 16,     /* of task priorities: this number of levels */
+    LEVELS_MOST = 32,      /* or this one; level 0 is the idle task's alone */
+    SWI_LEVELS = 16,       /* of Swi priorities, with either number of task levels */
     MESSAGES = 8,          /* most messages in a mailbox */
     COUNT_MOST = 65535,    /* of a counting semaphore */
     DEPTH_MOST = 8,        /* of open interrupts */
@@ -120,12 +122,12 @@ struct link {
 
 enum {
     PLACE_OF_TASK = 0,                                   /* the place of task n is n */
-    HEAD_OF_READY = PLACE_OF_TASK + TASKS,               /* one ready queue for each priority */
-    HEAD_OF_SEMAPHORE = HEAD_OF_READY + PRIORITIES,      /* one line for each semaphore */
+    HEAD_OF_READY = PLACE_OF_TASK + TASKS,               /* one ready queue for each priority; with 16 levels the upper half stays empty */
+    HEAD_OF_SEMAPHORE = HEAD_OF_READY + LEVELS_MOST,     /* one line for each semaphore */
     HEAD_OF_MAILBOX = HEAD_OF_SEMAPHORE + SEMAPHORES,    /* one line for each mailbox: all readers or all writers */
     PLACE_OF_SWI = HEAD_OF_MAILBOX + MAILBOXES,
     HEAD_OF_POSTED = PLACE_OF_SWI + SWIS,                /* one queue of posted Swis for each priority */
-    PLACES = HEAD_OF_POSTED + PRIORITIES
+    PLACES = HEAD_OF_POSTED + SWI_LEVELS
 };
 
 struct task {
@@ -179,6 +181,7 @@ struct tables {
     uint32_t swis_on, tasks_on;    /* the switches, 1 or 0 */
     uint32_t posted_levels;        /* set of the priorities at which a Swi is posted */
     uint32_t ready_levels;         /* set of the priorities at which a task is ready */
+    uint32_t levels;               /* of task priorities, LEVELS_LEAST or LEVELS_MOST; no call changes it */
     uint32_t current;              /* task */
     uint32_t tick_count;
 
@@ -212,7 +215,11 @@ struct thread {
     uint32_t number;       /* of the task or Swi; 0 for an interrupt */
 };
 
-void core_fresh(struct tables *t);
+/*
+ * Fresh tables with that number of levels. Where it is neither of the two, the answer is code 4 and the tables have LEVELS_LEAST. Task 0 runs
+ * either way.
+ */
+struct answer core_fresh(struct tables *t, uint32_t levels);
 
 /* One call: the answer, and the tables are the next tables. */
 struct answer core_call(struct tables *t, uint32_t number, uint32_t a, uint32_t b, uint32_t c, uint32_t d);

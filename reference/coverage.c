@@ -1,5 +1,6 @@
 /* Counts what a run of calls reached: the codes of each call, and the deep states. */
 #include "coverage.h"
+#include "editions.h"
 #include "objects.h"
 #include "states.h"
 
@@ -14,26 +15,18 @@ static uint32_t expired_at[POST_PLACES];
 /* Of each task that waits at a semaphore, the call with which it came. */
 static unsigned long came[TASKS];
 
-void coverage_fresh(void)
+void coverage_fresh(uint32_t levels)
 {
     memset(made, 0, sizeof made);
     memset(expired_at, 0, sizeof expired_at);
     coverage.logs++;
+    coverage.logs_with[levels == LEVELS_LEAST ? WITH_LEAST : WITH_MOST]++;
 }
 
 static void at_least(enum most which, uint32_t number)
 {
     if (number > coverage.most[which])
         coverage.most[which] = number;
-}
-
-static void add_to(struct tally *tally, int is_so)
-{
-    if (!is_so)
-        return;
-    tally->times++;
-    tally->logs += tally->log != coverage.logs;
-    tally->log = coverage.logs;
 }
 
 static void note(enum happened which, int is_so)
@@ -78,10 +71,9 @@ static int is_taken(const struct tables *t, uint32_t unit)
     return (t->heap_taken[unit / 64] >> unit % 64 & 1) != 0;
 }
 
-static void note_sizes(const struct tables *t)
+/* How long lines and queues are. */
+static void note_lines(const struct tables *t)
 {
-    uint32_t events = 0, sleepers = 0, units = 0, runs = 0;
-
     for (uint32_t i = 0; i < SEMAPHORES; i++)
         at_least(t->semaphore[i].kind >= COUNTING_BY_PRIORITY ? PRIORITY_LINE : ARRIVAL_LINE, line_length(t, HEAD_OF_SEMAPHORE + i));
     for (uint32_t i = 0; i < MAILBOXES; i++) {
@@ -91,18 +83,34 @@ static void note_sizes(const struct tables *t)
             at_least(t->mailbox[i].count == 0 ? READER_LINE : WRITER_LINE, length);
         at_least(MOST_MESSAGES, t->mailbox[i].count);
     }
-    for (uint32_t i = 0; i < EVENTS; i++)
-        events += t->event[i].waiter != 0;
-    for (uint32_t i = 0; i < TASKS; i++)
-        sleepers += t->task[i].wait == SLEEPING;
-    for (uint32_t i = 0; i < PRIORITIES; i++) {
+    for (uint32_t i = 0; i < LEVELS_MOST; i++)
         at_least(READY_IN_ONE_QUEUE, line_length(t, HEAD_OF_READY + i));
+    for (uint32_t i = 0; i < SWI_LEVELS; i++)
         at_least(POSTED_IN_ONE_QUEUE, line_length(t, HEAD_OF_POSTED + i));
-    }
+}
+
+static void note_units(const struct tables *t)
+{
+    uint32_t units = 0, runs = 0;
+
     for (uint32_t i = 0; i < UNITS; i++) {
         units += (uint32_t)is_taken(t, i);
         runs += !is_taken(t, i) && (i == 0 || is_taken(t, i - 1));
     }
+    at_least(UNITS_TAKEN, units);
+    at_least(FREE_RUNS, runs);
+}
+
+static void note_sizes(const struct tables *t)
+{
+    uint32_t events = 0, sleepers = 0;
+
+    note_lines(t);
+    note_units(t);
+    for (uint32_t i = 0; i < EVENTS; i++)
+        events += t->event[i].waiter != 0;
+    for (uint32_t i = 0; i < TASKS; i++)
+        sleepers += t->task[i].wait == SLEEPING;
     at_least(EVENT_WAITERS, events);
     at_least(SLEEPERS, sleepers);
     at_least(LIMITED_WAITS, size_of(t->tasks_limited));
@@ -116,8 +124,6 @@ static void note_sizes(const struct tables *t)
     at_least(MOST_EVENTS, size_of(t->events_in_use));
     at_least(MOST_MAILBOXES, size_of(t->mailboxes_in_use));
     at_least(MOST_CLOCKS, size_of(t->clocks_in_use));
-    at_least(UNITS_TAKEN, units);
-    at_least(FREE_RUNS, runs);
     note(BOTH_OFF, !t->swis_on && !t->tasks_on);
     if (t->depth == 0 && t->active_count == 0) {
         uint32_t highest = 31u - (uint32_t)__builtin_clz(t->ready_levels);
@@ -126,42 +132,45 @@ static void note_sizes(const struct tables *t)
     }
 }
 
+/* A wait or sleep that a tick ended. */
+static void note_ended(const struct tables *before, uint32_t number)
+{
+    const struct task *was = &before->task[number];
+    uint32_t in_front = before->link[number].before, behind = before->link[number].next;
+
+    switch (was->wait) {
+    case SLEEPING:
+        note(SLEEP_ENDED, 1);
+        break;
+    case AT_SEMAPHORE:
+        note(EXPIRED_SEMAPHORE, 1);
+        expired_at[SEMAPHORE_PLACE] |= (uint32_t)1 << was->object;
+        note_counted(WAIT_EXPIRED, before->semaphore[was->object].kind, 1);
+        break;
+    case AT_EVENT:
+        note(EXPIRED_EVENT, 1);
+        expired_at[EVENT_PLACE] |= (uint32_t)1 << was->object;
+        break;
+    case AT_MAILBOX_READING:
+        note(EXPIRED_READER, 1);
+        expired_at[MAILBOX_PLACE] |= (uint32_t)1 << was->object;
+        break;
+    default:
+        note(EXPIRED_WRITER, 1);
+        break;
+    }
+    note(EXPIRED_INSIDE_LINE, was->wait != SLEEPING && was->wait != AT_EVENT && in_front < TASKS && behind < TASKS);
+}
+
 static void note_tick(const struct tables *before, const struct tables *after)
 {
     uint32_t ended = 0;
 
-    for (uint32_t i = 0; i < TASKS; i++) {
-        const struct task *was = &before->task[i];
-        uint32_t behind, in_front;
-
-        if (was->mode != BLOCKED || after->task[i].mode == BLOCKED)
-            continue;
-        ended++;
-        in_front = before->link[i].before;
-        behind = before->link[i].next;
-        switch (was->wait) {
-        case SLEEPING:
-            note(SLEEP_ENDED, 1);
-            break;
-        case AT_SEMAPHORE:
-            note(EXPIRED_SEMAPHORE, 1);
-            expired_at[SEMAPHORE_PLACE] |= (uint32_t)1 << was->object;
-            note_counted(WAIT_EXPIRED, before->semaphore[was->object].kind, 1);
-            break;
-        case AT_EVENT:
-            note(EXPIRED_EVENT, 1);
-            expired_at[EVENT_PLACE] |= (uint32_t)1 << was->object;
-            break;
-        case AT_MAILBOX_READING:
-            note(EXPIRED_READER, 1);
-            expired_at[MAILBOX_PLACE] |= (uint32_t)1 << was->object;
-            break;
-        default:
-            note(EXPIRED_WRITER, 1);
-            break;
+    for (uint32_t i = 0; i < TASKS; i++)
+        if (before->task[i].mode == BLOCKED && after->task[i].mode != BLOCKED) {
+            ended++;
+            note_ended(before, i);
         }
-        note(EXPIRED_INSIDE_LINE, was->wait != SLEEPING && was->wait != AT_EVENT && in_front < TASKS && behind < TASKS);
-    }
     at_least(WAITS_ENDED_BY_ONE_TICK, ended);
     at_least(SWIS_POSTED_BY_ONE_TICK, size_of(after->swis_posted & ~before->swis_posted));
     for (uint32_t i = 0; i < CLOCKS; i++) {
@@ -446,39 +455,12 @@ static void note_restore(const struct tables *before, const struct tables *after
     note(SWI_BEFORE_TASK, swi_started && were_both_off && after->link[HEAD_OF_READY + highest].next != after->current);
 }
 
-void coverage_note(const struct sums *sums, const struct tables *before, const struct tables *after, const struct call *call,
-                   struct answer answer)
+/* Of an accepted call on a task, a Swi or a clock. */
+static void note_thread_call(const struct tables *before, const struct tables *after, const struct call *call, struct answer answer)
 {
-    const struct call_form *form = form_of(call->number);
-    uint32_t number = call->number, a = call->argument[0];
-    int swi_started;
+    uint32_t a = call->argument[0];
 
-    coverage.calls++;
-    coverage.pair[number & 255][answer.code]++;
-    for (uint32_t table = TASK_TABLE; table <= CLOCK_TABLE; table++)
-        made[table] |= table_in_use(before, table);
-    if (form != NULL && table_of(form) != 0)
-        note_object(before, form, call, answer.code);
-    if (number == HEAP_TAKE || number == HEAP_GIVE_BACK)
-        note_heap(before, after, call, answer);
-    note_sums(sums, call, answer);
-    if (number == SWITCHES_OFF || number == SWITCHES_RESTORE)
-        note_switches(before, call, answer.code);
-    if (number == SWITCHES_RESTORE && answer.code == BAD_ARGUMENT && (call->argument[2] | call->argument[3]) == 0)
-        note_key(a, call->argument[1]);
-    if (number >= FIRST_GONE && number <= LAST_GONE)
-        add_to(&coverage.gone[number - FIRST_GONE][context_of(before)], answer.code == UNKNOWN_CALL);
-    if (answer.code == STATE_FORBIDS)
-        note(FIVE_BEFORE_NINE, before->current == 0 && (!before->swis_on || !before->tasks_on)
-                                   && (number == TASK_SLEEP || number == TASK_END || number == SEMAPHORE_PEND || number == MAILBOX_POST));
-    if (answer.code != ACCEPTED)
-        return;
-    coverage.outcome[number][answer.outcome]++;
-    note_sizes(after);
-    swi_started = after->active_count != 0 && after->depth == 0
-                  && (before->active_count < after->active_count || number == SWI_END)
-                  && (before->active_count <= after->active_count);
-    switch (number) {
+    switch (call->number) {
     case TASK_SET_PRIORITY:
         note_set_priority(before, after, call);
         break;
@@ -500,6 +482,23 @@ void coverage_note(const struct sums *sums, const struct tables *before, const s
     case SWI_TAKEN_TRIGGER:
         note(TAKEN_NOT_INITIAL, answer.value != before->swi[before->active[before->active_count - 1]].initial);
         break;
+    case CLOCK_START:
+        note(CLOCK_RESTARTED, (before->clocks_running >> a & 1) != 0);
+        break;
+    case CLOCK_DELETE:
+        note(RUNNING_CLOCK_DELETED, (before->clocks_running >> a & 1) != 0);
+        break;
+    default:
+        break;
+    }
+}
+
+/* Of an accepted call on a semaphore. */
+static void note_semaphore_call(const struct tables *before, const struct tables *after, const struct call *call, struct answer answer)
+{
+    uint32_t a = call->argument[0];
+
+    switch (call->number) {
     case SEMAPHORE_CREATE:
         note_counted(CREATED_ANEW, a, (made[SEMAPHORE_TABLE] >> answer.value & 1) != 0);
         break;
@@ -518,6 +517,17 @@ void coverage_note(const struct sums *sums, const struct tables *before, const s
     case SEMAPHORE_DELETE:
         forget_expired(SEMAPHORE_PLACE, a);
         break;
+    default:
+        break;
+    }
+}
+
+/* Of an accepted call on an event or a mailbox. */
+static void note_message_call(const struct tables *before, const struct tables *after, const struct call *call, struct answer answer)
+{
+    uint32_t a = call->argument[0];
+
+    switch (call->number) {
     case EVENT_DELETE:
         forget_expired(EVENT_PLACE, a);
         break;
@@ -540,28 +550,71 @@ void coverage_note(const struct sums *sums, const struct tables *before, const s
     case MAILBOX_PEND:
         note(WRITER_SERVED, before->mailbox[a].count != 0 && line_length(before, HEAD_OF_MAILBOX + a) > 0);
         break;
-    case CLOCK_START:
-        note(CLOCK_RESTARTED, (before->clocks_running >> a & 1) != 0);
-        break;
-    case CLOCK_DELETE:
-        note(RUNNING_CLOCK_DELETED, (before->clocks_running >> a & 1) != 0);
-        break;
-    case TICK:
-        note_tick(before, after);
-        break;
-    case SWITCHES_OFF:
-        note_off(before, a);
-        break;
-    case SWITCHES_RESTORE:
-        note_restore(before, after, a, call->argument[1], swi_started);
-        break;
     default:
         break;
     }
+}
+
+/* What an accepted call led to, whichever it was. */
+static void note_dispatch(const struct tables *before, const struct tables *after, const struct call *call)
+{
+    uint32_t number = call->number;
+    int swi_started = after->active_count != 0 && after->depth == 0
+                      && (before->active_count < after->active_count || number == SWI_END)
+                      && (before->active_count <= after->active_count);
+
+    if (number == SWITCHES_RESTORE)
+        note_restore(before, after, call->argument[0], call->argument[1], swi_started);
     note(SWI_PREEMPTED, swi_started && before->active_count != 0 && number != SWI_END);
     note(SWI_AFTER_SWI, swi_started && number == SWI_END);
     note(SWI_AFTER_INTERRUPT, swi_started && number == INTERRUPT_OUT);
     note(SWI_WHILE_TASKS_OFF, swi_started && !after->tasks_on);
     note(PREEMPTED, before->current != after->current && after->task[before->current].mode == READY && number != TASK_YIELD
                         && after->task[before->current].priority == before->task[before->current].priority);
+}
+
+/* Of a call whether it is accepted or not. */
+static void note_any_call(const struct sums *sums, const struct tables *before, const struct tables *after, const struct call *call,
+                          struct answer answer)
+{
+    const struct call_form *form = form_of(call->number);
+    uint32_t number = call->number;
+
+    if (form != NULL && table_of(form) != 0)
+        note_object(before, form, call, answer.code);
+    if (number == HEAP_TAKE || number == HEAP_GIVE_BACK)
+        note_heap(before, after, call, answer);
+    note_sums(sums, call, answer);
+    levels_note(before, after, call, answer);
+    if (number == SWITCHES_OFF || number == SWITCHES_RESTORE)
+        note_switches(before, call, answer.code);
+    if (number == SWITCHES_RESTORE && answer.code == BAD_ARGUMENT && (call->argument[2] | call->argument[3]) == 0)
+        note_key(call->argument[0], call->argument[1]);
+    if (number >= FIRST_GONE && number <= LAST_GONE)
+        add_to(&coverage.gone[number - FIRST_GONE][context_of(before)], answer.code == UNKNOWN_CALL);
+    if (answer.code == STATE_FORBIDS)
+        note(FIVE_BEFORE_NINE, before->current == 0 && (!before->swis_on || !before->tasks_on)
+                                   && (number == TASK_SLEEP || number == TASK_END || number == SEMAPHORE_PEND || number == MAILBOX_POST));
+}
+
+void coverage_note(const struct sums *sums, const struct tables *before, const struct tables *after, const struct call *call,
+                   struct answer answer)
+{
+    coverage.calls++;
+    coverage.pair[call->number & 255][answer.code]++;
+    for (uint32_t table = TASK_TABLE; table <= CLOCK_TABLE; table++)
+        made[table] |= table_in_use(before, table);
+    note_any_call(sums, before, after, call, answer);
+    if (answer.code != ACCEPTED)
+        return;
+    coverage.outcome[call->number][answer.outcome]++;
+    note_sizes(after);
+    note_thread_call(before, after, call, answer);
+    note_semaphore_call(before, after, call, answer);
+    note_message_call(before, after, call, answer);
+    if (call->number == TICK)
+        note_tick(before, after);
+    if (call->number == SWITCHES_OFF)
+        note_off(before, call->argument[0]);
+    note_dispatch(before, after, call);
 }

@@ -6,8 +6,8 @@
 #include "core.h"
 #include "sums.h"
 
-/* Fresh tables: no object was made so far. */
-void coverage_fresh(void);
+/* Fresh tables with that number of levels: no object was made so far. */
+void coverage_fresh(uint32_t levels);
 
 /* Notes one call: the sums before it, the tables before and after it, and its answer. */
 void coverage_note(const struct sums *sums, const struct tables *before, const struct tables *after, const struct call *call,

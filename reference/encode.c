@@ -1,14 +1,24 @@
-/* encode: makes a call log of a sequence of calls, from standard input to standard output. A call a line: five decimal numbers. */
+/*
+ * encode [--levels 16|32]: makes a call log of a sequence of calls, from standard input to standard output, of the version that means so many levels
+ * (16). A call a line: five decimal numbers.
+ */
+#include "core.h"
 #include "log.h"
+#include "options.h"
 
 #include <inttypes.h>
 #include <stdio.h>
 
-int main(void)
+int main(int argc, char **argv)
 {
     char line[256];
     unsigned long lines = 0;
+    uint32_t levels = LEVELS_LEAST;
 
+    if (!take_levels(&argc, &argv, &levels) || argc != 1) {
+        fprintf(stderr, "usage: encode [--levels 16|32]\n");
+        return 2;
+    }
     while (fgets(line, sizeof line, stdin) != NULL) {
         uint32_t n[5];
         uint8_t bytes[RECORD_BYTES];
@@ -20,7 +30,7 @@ int main(void)
             fprintf(stderr, "encode: line %lu is no call\n", lines);
             return 2;
         }
-        log_write(bytes, n[0], n[1], n[2], n[3], n[4]);
+        log_write(bytes, log_version(levels), n[0], n[1], n[2], n[3], n[4]);
         fwrite(bytes, 1, sizeof bytes, stdout);
     }
     return fflush(stdout) == 0 ? 0 : 2;

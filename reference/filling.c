@@ -78,7 +78,7 @@ struct call fill_step(struct maker *m)
     if (!in_task(m))
         return calm_down(m);
     if (number == TASK_CREATE)
-        return call_of(TASK_CREATE, chance(m, 30) ? MINUS_ONE : 1 + below(m, m->levels), 0, 0, 0);
+        return call_of(TASK_CREATE, chance(m, 30) ? MINUS_ONE : some_level(m), 0, 0, 0);
     if (number == CLOCK_CREATE && m->tables.swis_in_use == 0)
         number = SWI_CREATE;
     return likely(m, number);

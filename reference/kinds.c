@@ -1,6 +1,6 @@
 /*
  * A sequence of calls for each kind, written by hand with the answers that document 01 gives; nothing there was printed by a program first. The
- * rows stand in threads.c, pends.c and machine.c.
+ * rows stand in threads.c, pends.c, machine.c and levels.c.
  *
  * kinds --check: the core gives every answer there, stays sound, loses no post and wakes whom wakes.h says, and each table has every code that each
  * call of its kind can give; and the sums of sums.h are as sides.c has them.
@@ -17,7 +17,7 @@
 
 static const struct named_table *const tables_by_name[] = {
     &tasks_table,  &swis_table, &semaphores_table, &events_table, &mailboxes_table,
-    &clocks_table, &heap_table, &switches_table,   &five_table,
+    &clocks_table, &heap_table, &switches_table,   &five_table,   &levels_table,
 };
 
 enum { NAMES = sizeof tables_by_name / sizeof tables_by_name[0] };
@@ -134,7 +134,7 @@ static void check_codes(unsigned which)
 
     if (range > 255)
         return;
-    for (uint32_t number = range; number < range + 16; number++) {
+    for (uint32_t number = range; number < range + RANGE; number++) {
         const struct call_form *form = form_of(number);
 
         if (form == NULL)
@@ -170,15 +170,13 @@ static void check_beside(void)
     struct log log = { bytes, RECORD_BYTES, RECORD_BYTES + 1 };
     struct record record;
 
-    core_fresh(&t);
-    expect(core_unsound(&t) == NULL, "fresh tables are sound");
-    expect(core_running(&t).kind == 'T' && core_running(&t).number == 0, "task 0 runs in fresh tables");
+    core_fresh(&t, LEVELS_LEAST);
     expect(core_call(&t, 0x100, 5, 0, 0, 0).code == UNKNOWN_CALL, "call number 256 is unknown");
     expect(core_call(&t, F, 5, 0, 0, 0).code == UNKNOWN_CALL, "call number 4,294,967,295 is unknown");
     core_call(&t, INTERRUPT_IN, 0, 0, 0, 0);
     t.tick_count = F;
     expect(core_call(&t, TICK, 0, 0, 0, 0).code == ACCEPTED && t.tick_count == 0, "the tick beyond 4,294,967,295 gives 0");
-    log_write(bytes, TASK_CREATE, 5, 0, 0, 0);
+    log_write(bytes, FIRST_EDITION, TASK_CREATE, 5, 0, 0, 0);
     expect(bytes[0] == 0 && bytes[1] == 18 && bytes[2] == 1 && bytes[3] == 0 && bytes[6] == 0 && bytes[7] == 5 && bytes[8] == 0,
            "the record of create at 5");
     expect(log_next(&log, &record) == LOG_CUT && log.position == RECORD_BYTES + 1, "a position past the log is cut, there");
@@ -188,6 +186,121 @@ static void check_beside(void)
     expect(log_next(&log, &record) == LOG_END && log.position == 20, "the end does not move the position");
 }
 
+/* Fresh tables are as they have to be for each number of levels asked for, and tables with another number are not sound. */
+static void check_fresh(void)
+{
+    static const uint32_t asked[] = { 16, 32, 0, 1, 8, 15, 17, 24, 31, 33, 48, 64, 256 + 16, 65536 + 32, 0x80000010u, 0x80000020u, F };
+    static struct tables t, least;
+
+    core_fresh(&least, LEVELS_LEAST);
+    for (size_t i = 0; i < sizeof asked / sizeof asked[0]; i++) {
+        int is_number = asked[i] == 16 || asked[i] == 32;
+        struct answer answer;
+
+        memset(&t, 0xA5, sizeof t);
+        answer = core_fresh(&t, asked[i]);
+        expect(answer.code == (is_number ? 0 : 4) && answer.outcome == 0 && answer.value == 0, "fresh: 16 and 32 levels are accepted, others 4 0 0");
+        expect(t.levels == (asked[i] == 32 ? 32 : 16), "fresh: any number but 32 makes 16 levels");
+        expect(core_unsound(&t) == NULL, "fresh tables are sound");
+        expect(core_running(&t).kind == 'T' && core_running(&t).number == 0, "task 0 runs in fresh tables");
+        t.levels = LEVELS_LEAST;
+        expect(memcmp(&t, &least, sizeof t) == 0, "fresh tables differ in nothing but the number of levels");
+        t.levels = asked[i];
+        expect((core_unsound(&t) == NULL) == is_number, "tables with 16 or 32 levels alone are sound");
+    }
+}
+
+/* A task at 16, ready, blocked or terminated, is sound with 32 levels and not with 16. */
+static void check_high_task(void)
+{
+    static const uint32_t ways[][2][2] = {
+        { { SWITCHES_OFF, TASKS_SWITCH }, { TASK_CREATE, 16 } }, /* ready, and not the current task */
+        { { TASK_CREATE, 16 }, { TASK_SLEEP, 1 } },
+        { { TASK_CREATE, 16 }, { TASK_END, 0 } },
+    };
+    static struct tables t;
+
+    for (size_t i = 0; i < sizeof ways / sizeof ways[0]; i++) {
+        core_fresh(&t, LEVELS_MOST);
+        for (unsigned k = 0; k < 2; k++)
+            expect(core_call(&t, ways[i][k][0], ways[i][k][1], 0, 0, 0).code == ACCEPTED, "a call on the way to a task at 16");
+        expect(core_unsound(&t) == NULL, "a task at 16 is sound with 32 levels");
+        t.levels = LEVELS_LEAST;
+        expect(core_unsound(&t) != NULL, "a task at 16 is not sound with 16 levels");
+    }
+}
+
+enum { SECOND = RECORD_BYTES, THIRD = 2 * RECORD_BYTES, THREE = 3 * RECORD_BYTES }; /* where records begin in a log of three, and its length */
+
+/* A log of three records with these versions. */
+static struct log three_records(uint8_t bytes[THREE], uint8_t first, uint8_t second, uint8_t third)
+{
+    const uint8_t versions[] = { first, second, third };
+
+    for (size_t i = 0; i < sizeof versions; i++) {
+        log_write(bytes + i * RECORD_BYTES, FIRST_EDITION, TASK_CREATE, 5, 0, 0, 0);
+        bytes[i * RECORD_BYTES + VERSION_AT] = versions[i];
+    }
+    return (struct log){ bytes, THREE, 0 };
+}
+
+/* A reader set at that position finds this there, and only a good record moves it. */
+static void expect_at(struct log *log, size_t position, enum log_finding finding, const char *what)
+{
+    struct record record;
+
+    log->position = position;
+    expect(log_next(log, &record) == finding && log->position == position + (finding == LOG_RECORD ? RECORD_BYTES : 0), what);
+}
+
+/* The other faults come first, whatever the versions of the first record and of this one, the third. */
+static void check_order(uint8_t bytes[THREE], uint8_t first, uint8_t third)
+{
+    struct log log = three_records(bytes, first, first, third);
+
+    bytes[THIRD + 1] = 17;
+    expect_at(&log, THIRD, LOG_LENGTH, "length before version");
+    bytes[THIRD + 1] = RECORD_LENGTH;
+    log.length = THREE - 1;
+    expect_at(&log, THIRD, LOG_CUT, "cut before version");
+    log.length = THIRD + 3;
+    expect_at(&log, THIRD, LOG_CUT, "cut before version, nothing after it");
+    log.length = THIRD + 1;
+    expect_at(&log, THIRD, LOG_CUT, "one byte left");
+    log.length = 2;
+    expect(log_levels(&log) == 16, "16 levels where there is no version");
+    expect_at(&log, 0, LOG_CUT, "a length alone");
+}
+
+/* The reader goes by byte 2 of the log, wherever it is set and whatever stands between. Nothing is told after the first fault. */
+static void check_versions(void)
+{
+    uint8_t bytes[THREE];
+    unsigned faults_before = faults;
+
+    for (unsigned i = 0; i < 256 * 256 && faults == faults_before; i++) {
+        uint8_t first = (uint8_t)(i / 256), third = (uint8_t)(i % 256);
+        enum log_finding at_first = first == 1 || first == 2 ? LOG_RECORD : LOG_VERSION;
+        enum log_finding at_third = third == first ? at_first : LOG_VERSION;
+
+        for (uint8_t second = 0; second < 4; second++) {
+            struct log log = three_records(bytes, first, second, third);
+
+            expect(log_levels(&log) == (first == 2 ? 32 : 16), "version 2 alone means 32 levels");
+            expect_at(&log, 0, at_first, "the first record");
+            expect_at(&log, SECOND, second == first ? at_first : LOG_VERSION, "the second record");
+            expect_at(&log, THIRD, at_third, "the third record");
+            bytes[1] = 19;
+            expect_at(&log, THIRD, at_third, "the third record, the first of a wrong length");
+            bytes[SECOND + 1] = 0;
+            bytes[SECOND + 2] = RECORD_LENGTH;
+            bytes[SECOND + 3] = third;
+            expect_at(&log, SECOND + 1, at_third, "a record across two others");
+        }
+        check_order(bytes, first, third);
+    }
+}
+
 static int check(void)
 {
     static struct tables t;
@@ -195,7 +308,7 @@ static int check(void)
     unsigned long calls = 0, sides_calls = 0;
 
     for (unsigned which = 0; which < NAMES; which++) {
-        core_fresh(&t);
+        core_fresh(&t, tables_by_name[which]->levels);
         sums_fresh(&sums);
         for (size_t i = 0; i < tables_by_name[which]->rows; i++) {
             check_row(&t, &sums, tables_by_name[which]->name, i, &tables_by_name[which]->row[i]);
@@ -204,6 +317,9 @@ static int check(void)
         check_codes(which);
     }
     check_beside();
+    check_fresh();
+    check_high_task();
+    check_versions();
     faults += sides_check(&sides_calls);
     if (faults == 0)
         printf("%lu calls answered as written by hand\n%lu calls at semaphores with both sides of their sum as worked out by hand\n",
@@ -217,7 +333,7 @@ static int write_log(unsigned which)
         const struct row *row = &tables_by_name[which]->row[i];
         uint8_t bytes[RECORD_BYTES];
 
-        log_write(bytes, row->call, row->a, row->b, row->c, row->d);
+        log_write(bytes, log_version(tables_by_name[which]->levels), row->call, row->a, row->b, row->c, row->d);
         for (unsigned times = times_of(row); times > 0; times--)
             fwrite(bytes, 1, sizeof bytes, stdout);
     }

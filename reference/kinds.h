@@ -20,16 +20,23 @@ enum { RISING = 1000 };
 
 struct named_table {
     const char *name;
+    uint32_t levels;           /* of the tables on which the rows are run */
     uint32_t range;            /* first call number of the kind; above 255 for none */
     const struct row *row;
     size_t rows;
 };
 
 /* The initializer of a named_table, whose rows stand under its name. */
-#define TABLE(name, range) { #name, range, name, sizeof name / sizeof name[0] }
+#define TABLE_WITH(levels, name, range) { #name, levels, range, name, sizeof name / sizeof name[0] }
+
+/* The same with the fewer levels. */
+#define TABLE(name, range) TABLE_WITH(LEVELS_LEAST, name, range)
 
 /* threads.c */
 extern const struct named_table tasks_table, swis_table;
+
+/* levels.c */
+extern const struct named_table levels_table;
 
 /* pends.c */
 extern const struct named_table semaphores_table, events_table, mailboxes_table;

@@ -18,9 +18,37 @@ static uint32_t object(struct maker *m, uint32_t set, uint32_t size)
     return chance(m, 70) ? below(m, size) : wild(m);
 }
 
+static uint32_t level_of_phase(struct maker *m)
+{
+    return m->first_level + below(m, m->last_level - m->first_level + 1);
+}
+
+/* The number of levels itself, or a greater number: a level again, if some bits were left out. */
+static uint32_t beyond_levels(struct maker *m)
+{
+    uint32_t greater = m->tables.levels << below(m, 4);
+
+    return chance(m, 50) ? m->tables.levels : greater + level_of_phase(m);
+}
+
+uint32_t some_level(struct maker *m)
+{
+    return m->tries_levels && chance(m, 3) ? beyond_levels(m) : level_of_phase(m);
+}
+
 uint32_t task_priority(struct maker *m)
 {
-    return chance(m, 4) ? MINUS_ONE : 1 + below(m, chance(m, 85) ? m->levels : 15);
+    if (chance(m, 4))
+        return MINUS_ONE;
+    return chance(m, 85) ? some_level(m) : 1 + below(m, m->tables.levels - 1);
+}
+
+/* Now and then, where the maker tries the levels, one that a Swi may not have and a task may with LEVELS_MOST. */
+static uint32_t swi_priority(struct maker *m)
+{
+    if (m->tries_levels && chance(m, 6))
+        return SWI_LEVELS + below(m, LEVELS_MOST - SWI_LEVELS);
+    return below(m, SWI_LEVELS);
 }
 
 uint32_t some_limit(struct maker *m)
@@ -213,15 +241,12 @@ struct call give_back(struct maker *m)
     return call_of(HEAP_GIVE_BACK, offset, size, 0, 0);
 }
 
-/*
- * Every call, with arguments that the tables make likely to be accepted. The random numbers are drawn one statement after the other, so that every
- * compiler makes the same log.
- */
-struct call likely(struct maker *m, uint32_t number)
+/* The arguments of the calls of each kind. */
+
+static void likely_task(struct maker *m, uint32_t number, uint32_t *argument)
 {
     const struct tables *t = &m->tables;
-    struct call call = call_of(number, 0, 0, 0, 0);
-    uint32_t *argument = call.argument, set;
+    uint32_t set;
 
     switch (number) {
     case TASK_CREATE:
@@ -241,21 +266,40 @@ struct call likely(struct maker *m, uint32_t number)
     case TASK_LAST_RESULT:
         argument[0] = object(m, t->tasks_in_use, TASKS);
         break;
+    default:
+        break;
+    }
+}
+
+static void likely_swi(struct maker *m, uint32_t number, uint32_t *argument)
+{
+    switch (number) {
     case SWI_CREATE:
-        argument[0] = below(m, 16);
+        argument[0] = swi_priority(m);
         argument[1] = trigger(m);
         break;
     case SWI_DELETE:
     case SWI_POST:
     case SWI_ADD_ONE:
     case SWI_TAKE_ONE:
-        argument[0] = object(m, t->swis_in_use, SWIS);
+        argument[0] = object(m, m->tables.swis_in_use, SWIS);
         break;
     case SWI_SET_BITS:
     case SWI_CLEAR_BITS:
-        argument[0] = object(m, t->swis_in_use, SWIS);
+        argument[0] = object(m, m->tables.swis_in_use, SWIS);
         argument[1] = mask(m);
         break;
+    default:
+        break;
+    }
+}
+
+static void likely_semaphore(struct maker *m, uint32_t number, uint32_t *argument)
+{
+    const struct tables *t = &m->tables;
+    uint32_t set;
+
+    switch (number) {
     case SEMAPHORE_CREATE:
         argument[0] = below(m, 4);
         argument[1] = semaphore_count(m, argument[0]);
@@ -275,49 +319,76 @@ struct call likely(struct maker *m, uint32_t number)
         argument[0] = object(m, t->semaphores_in_use, SEMAPHORES);
         argument[1] = semaphore_count(m, argument[0] < SEMAPHORES ? t->semaphore[argument[0]].kind : 0);
         break;
+    default:
+        break;
+    }
+}
+
+static void likely_event(struct maker *m, uint32_t number, uint32_t *argument)
+{
+    uint32_t events = m->tables.events_in_use;
+
+    switch (number) {
     case EVENT_DELETE:
-        argument[0] = object(m, t->events_in_use, EVENTS);
+        argument[0] = object(m, events, EVENTS);
         break;
     case EVENT_PEND:
-        argument[0] = object(m, t->events_in_use, EVENTS);
+        argument[0] = object(m, events, EVENTS);
         argument[1] = mask(m);
         argument[2] = mask(m);
         argument[3] = some_limit(m);
         break;
     case EVENT_POST:
-        argument[0] = object(m, t->events_in_use, EVENTS);
+        argument[0] = object(m, events, EVENTS);
         argument[1] = mask(m);
         break;
+    default:
+        break;
+    }
+}
+
+static void likely_mailbox(struct maker *m, uint32_t number, uint32_t *argument)
+{
+    uint32_t mailboxes = m->tables.mailboxes_in_use;
+
+    switch (number) {
     case MAILBOX_CREATE:
         argument[0] = chance(m, 25) ? MESSAGES : 1 + below(m, chance(m, 60) ? 3 : MESSAGES);
         break;
     case MAILBOX_DELETE:
-        argument[0] = object(m, t->mailboxes_in_use, MAILBOXES);
+        argument[0] = object(m, mailboxes, MAILBOXES);
         break;
     case MAILBOX_POST:
-        argument[0] = object(m, t->mailboxes_in_use, MAILBOXES);
+        argument[0] = object(m, mailboxes, MAILBOXES);
         argument[1] = some_word(m);
         argument[2] = some_limit(m);
         break;
     case MAILBOX_PEND:
-        argument[0] = object(m, t->mailboxes_in_use, MAILBOXES);
+        argument[0] = object(m, mailboxes, MAILBOXES);
         argument[1] = some_limit(m);
         break;
+    default:
+        break;
+    }
+}
+
+/* Clocks and switches, and the heap's take. */
+static void likely_other(struct maker *m, uint32_t number, uint32_t *argument)
+{
+    switch (number) {
     case CLOCK_CREATE:
-        argument[0] = object(m, t->swis_in_use, SWIS);
+        argument[0] = object(m, m->tables.swis_in_use, SWIS);
         argument[1] = ticks(m);
         argument[2] = chance(m, 40) ? 0 : ticks(m);
         break;
     case CLOCK_DELETE:
     case CLOCK_START:
     case CLOCK_STOP:
-        argument[0] = object(m, t->clocks_in_use, CLOCKS);
+        argument[0] = object(m, m->tables.clocks_in_use, CLOCKS);
         break;
     case HEAP_TAKE:
         argument[0] = bytes(m);
         break;
-    case HEAP_GIVE_BACK:
-        return give_back(m);
     case SWITCHES_OFF:
         argument[0] = some_switches(m);
         argument[1] = chance(m, 4) ? argument[0] : 0; /* a key that it does not take */
@@ -328,6 +399,38 @@ struct call likely(struct maker *m, uint32_t number)
         argument[2] = chance(m, 6);
         break;
     default:
+        break;
+    }
+}
+
+/*
+ * Every call, with arguments that the tables make likely to be accepted. The random numbers are drawn one statement after the other, so that every
+ * compiler makes the same log.
+ */
+struct call likely(struct maker *m, uint32_t number)
+{
+    struct call call = call_of(number, 0, 0, 0, 0);
+
+    if (number == HEAP_GIVE_BACK)
+        return give_back(m);
+    switch (number - number % RANGE) {
+    case TASK_CREATE:
+        likely_task(m, number, call.argument);
+        break;
+    case SWI_CREATE:
+        likely_swi(m, number, call.argument);
+        break;
+    case SEMAPHORE_CREATE:
+        likely_semaphore(m, number, call.argument);
+        break;
+    case EVENT_CREATE:
+        likely_event(m, number, call.argument);
+        break;
+    case MAILBOX_CREATE:
+        likely_mailbox(m, number, call.argument);
+        break;
+    default:
+        likely_other(m, number, call.argument);
         break;
     }
     return call;

@@ -7,7 +7,10 @@
 /* A call with just these arguments. */
 struct call call_of(uint32_t number, uint32_t a, uint32_t b, uint32_t c, uint32_t d);
 
-/* Most often from 1 to the phase's levels, now and then -1. */
+/* One of the phase's levels; now and then beyond all levels, where the maker tries them. */
+uint32_t some_level(struct maker *m);
+
+/* The same, but now and then any level, or -1. */
 uint32_t task_priority(struct maker *m);
 
 /* Outside a task most often 0, for a limit is refused there. */

@@ -33,6 +33,7 @@ enum phase {
     LEVELS,            /* priorities of ready and waiting tasks */
     TURNS,             /* yields, ends and sleeps */
     CLEAN,             /* back to few objects */
+    LADDER,            /* a ready task at every level; only where the maker tries the levels, so it stands last */
     PHASES
 };
 
@@ -48,46 +49,62 @@ static const struct style styles[] = {
     { "mixed", 10, 120, 30, 15,
       { [ANY] = 6, [WILD] = 1, [LINE] = 4, [WRITERS] = 3, [READERS] = 3, [EVENTS_WAITED] = 3, [WAKE] = 4, [EXPIRE] = 3, [NEST] = 3, [TOWER] = 3,
         [SWI_QUEUE] = 1, [TRIGGERS] = 2, [CLOCKWORK] = 2, [CHIME] = 1, [ALARM] = 2, [HEAP_FILL] = 1, [HEAP_HOLES] = 1, [HEAP_CHURN] = 1,
-        [SWITCHED_OFF] = 3, [FILL] = 2, [LEVELS] = 3, [TURNS] = 2, [CLEAN] = 4 } },
-    { "lines", 60, 250, 10, 5, { [LINE] = 8, [WAKE] = 4, [EXPIRE] = 2, [ALARM] = 1, [LEVELS] = 3, [TURNS] = 1, [CLEAN] = 3 } },
+        [SWITCHED_OFF] = 3, [FILL] = 2, [LEVELS] = 3, [TURNS] = 2, [CLEAN] = 4, [LADDER] = 3 } },
+    { "lines", 60, 250, 10, 5, { [LINE] = 8, [WAKE] = 4, [EXPIRE] = 2, [ALARM] = 1, [LEVELS] = 3, [TURNS] = 1, [CLEAN] = 3, [LADDER] = 3 } },
     { "Swis", 20, 120, 15, 8,
       { [NEST] = 3, [TOWER] = 8, [SWI_QUEUE] = 4, [CHIME] = 2, [TRIGGERS] = 6, [CLOCKWORK] = 4, [SWITCHED_OFF] = 2, [TURNS] = 1, [FILL] = 1,
         [CLEAN] = 1 } },
     { "messages", 40, 160, 15, 8,
-      { [WRITERS] = 5, [READERS] = 5, [EVENTS_WAITED] = 5, [WAKE] = 5, [EXPIRE] = 3, [LEVELS] = 1, [FILL] = 1, [CLEAN] = 3 } },
+      { [WRITERS] = 5, [READERS] = 5, [EVENTS_WAITED] = 5, [WAKE] = 5, [EXPIRE] = 3, [LEVELS] = 1, [FILL] = 1, [CLEAN] = 3,
+        [LADDER] = 1 } },
     { "heap", 30, 200, 40, 6, { [HEAP_FILL] = 3, [HEAP_HOLES] = 3, [HEAP_CHURN] = 3, [SWITCHED_OFF] = 1, [TURNS] = 1, [CLEAN] = 1 } },
     { "time", 30, 160, 15, 10,
       { [LINE] = 3, [WRITERS] = 2, [READERS] = 2, [EVENTS_WAITED] = 2, [EXPIRE] = 8, [CLOCKWORK] = 5, [CHIME] = 3, [ALARM] = 5, [TURNS] = 4,
-        [WAKE] = 1, [CLEAN] = 2 } },
+        [WAKE] = 1, [CLEAN] = 2, [LADDER] = 2 } },
     { "wild", 20, 100, 250, 40,
       { [ANY] = 6, [WILD] = 6, [FILL] = 3, [LINE] = 1, [WRITERS] = 1, [READERS] = 1, [EVENTS_WAITED] = 1, [TOWER] = 1, [HEAP_CHURN] = 1, [NEST] = 1,
-        [SWITCHED_OFF] = 1, [CLEAN] = 1 } },
+        [SWITCHED_OFF] = 1, [CLEAN] = 1, [LADDER] = 1 } },
     { "even", 400, 2000, 40, 0, { [ANY] = 1 } },
     { "switches", 15, 80, 20, 10,
       { [SWITCHED_OFF] = 8, [LINE] = 2, [WRITERS] = 1, [TOWER] = 2, [SWI_QUEUE] = 1, [LEVELS] = 2, [NEST] = 2, [TURNS] = 2, [WAKE] = 1,
-        [CLEAN] = 1 } },
+        [CLEAN] = 1, [LADDER] = 2 } },
     { "full", 60, 200, 30, 10,
-      { [FILL] = 10, [HEAP_FILL] = 2, [WAKE] = 1, [CLEAN] = 2, [TOWER] = 1, [SWI_QUEUE] = 1, [CLOCKWORK] = 1, [CHIME] = 1, [NEST] = 1 } },
+      { [FILL] = 10, [HEAP_FILL] = 2, [WAKE] = 1, [CLEAN] = 2, [TOWER] = 1, [SWI_QUEUE] = 1, [CLOCKWORK] = 1, [CHIME] = 1, [NEST] = 1,
+        [LADDER] = 2 } },
 };
 
 enum { STYLES = sizeof styles / sizeof styles[0] };
 
-static void choose_phase(struct maker *m)
+/* The levels of new tasks: all, or a few next to each other, or one. */
+static void choose_levels(struct maker *m)
 {
-    const struct style *style = m->style;
-    unsigned sum = 0;
-    uint32_t pick;
+    uint32_t last = m->tables.levels - 1, span = chance(m, 30) ? 1 : chance(m, 50) ? 3 : last;
 
-    for (unsigned i = 0; i < PHASES; i++)
-        sum += style->weight[i];
-    pick = below(m, sum);
-    for (m->phase = 0; pick >= style->weight[m->phase]; m->phase++)
-        pick -= style->weight[m->phase];
-    m->steps_left = style->shortest + below(m, style->longest - style->shortest + 1);
-    m->target = FULL;
-    m->descending = 0;
-    m->levels = chance(m, 30) ? 1 : chance(m, 50) ? 3 : 15;
-    m->endless = chance(m, 30) ? 100 : chance(m, 40) ? 5 : 60;
+    m->first_level = 1;
+    if (m->tries_levels && span < last) {
+        switch (below(m, 4)) {
+        case 0:
+            m->first_level = last - span + 1;
+            break;
+        case 1:
+            if (m->tables.levels == LEVELS_MOST) { /* about the line between the two numbers */
+                m->first_level = LEVELS_LEAST - span + below(m, span + 1);
+                break;
+            }
+            /* fall through */
+        case 2:
+            m->first_level = 1 + below(m, last - span + 1);
+            break;
+        default:
+            break;
+        }
+    }
+    m->last_level = m->first_level + span - 1;
+}
+
+/* What a phase needs besides: how far it goes, or more time. */
+static void choose_goal(struct maker *m)
+{
     m->goal = 1 + below(m, 8);
     switch (m->phase) {
     case LINE:
@@ -108,17 +125,37 @@ static void choose_phase(struct maker *m)
         m->goal = chance(m, 30) ? 64 : 1 + below(m, 16);
         break;
     case HEAP_HOLES:
-        if (style->weight[HEAP_HOLES] > 1 && chance(m, 30))
+        if (m->style->weight[HEAP_HOLES] > 1 && chance(m, 30))
             m->steps_left = 600; /* time for a hole at every other unit */
         break;
     case SWI_QUEUE:
     case CHIME:
     case ALARM:
+    case LADDER:
         m->steps_left += 60;
         break;
     default:
         break;
     }
+}
+
+static void choose_phase(struct maker *m)
+{
+    const struct style *style = m->style;
+    unsigned sum = 0, phases = m->tries_levels ? PHASES : LADDER;
+    uint32_t pick;
+
+    for (unsigned i = 0; i < phases; i++)
+        sum += style->weight[i];
+    pick = below(m, sum);
+    for (m->phase = 0; pick >= style->weight[m->phase]; m->phase++)
+        pick -= style->weight[m->phase];
+    m->steps_left = style->shortest + below(m, style->longest - style->shortest + 1);
+    m->target = FULL;
+    m->descending = 0;
+    choose_levels(m);
+    m->endless = chance(m, 30) ? 100 : chance(m, 40) ? 5 : 60;
+    choose_goal(m);
 }
 
 static struct call phase_step(struct maker *m)
@@ -146,6 +183,7 @@ static struct call phase_step(struct maker *m)
     case LEVELS: return levels_step(m);
     case TURNS: return turns_step(m);
     case CLEAN: return clean_step(m);
+    case LADDER: return ladder_step(m);
     default: return any(m);
     }
 }
@@ -213,10 +251,10 @@ uint32_t maker_below(struct maker *m, uint32_t n)
     return below(m, n);
 }
 
-void maker_start(struct maker *m, uint64_t seed)
+void maker_start(struct maker *m, uint64_t seed, uint32_t levels)
 {
-    *m = (struct maker){ .random = seed * 0xD1342543DE82EF95u + 1, .style = &styles[seed % STYLES] };
-    core_fresh(&m->tables);
+    *m = (struct maker){ .random = seed * 0xD1342543DE82EF95u + 1, .style = &styles[seed % STYLES], .tries_levels = levels != 0 };
+    core_fresh(&m->tables, m->tries_levels ? levels : (uint32_t)LEVELS_LEAST);
 }
 
 const char *maker_style(const struct maker *m)

@@ -63,12 +63,12 @@ struct call bring_task_but(struct maker *m, uint32_t spared)
     uint32_t set;
 
     if (m->tables.tasks_in_use != FULL)
-        return call_of(TASK_CREATE, 1 + below(m, m->levels), 0, 0, 0);
+        return call_of(TASK_CREATE, some_level(m), 0, 0, 0);
     set = tasks_in_mode(m, INACTIVE);
     if (set != 0) {
         uint32_t task = member(m, set);
 
-        return call_of(TASK_SET_PRIORITY, task, 1 + below(m, m->levels), 0, 0);
+        return call_of(TASK_SET_PRIORITY, task, some_level(m), 0, 0);
     }
     set = tasks_in_mode(m, TERMINATED);
     if (set != 0)

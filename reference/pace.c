@@ -1,6 +1,7 @@
 /*
  * Makes the calls of the log on standard input with core_call, again and again, and prints a sum over all answers: for measuring. It does what the
- * programs `pace` and `pace_entries` do with the call core: the records are words first, and each round starts with fresh tables.
+ * programs `pace` and `pace_entries` do with the call core: the records are words first, and each round starts with fresh tables, which have the
+ * number of levels that the log's version means.
  */
 #include "core.h"
 #include "log.h"
@@ -12,14 +13,18 @@ enum { RECORDS = 3276, WORDS = 5 };
 
 static uint8_t bytes[RECORDS * RECORD_BYTES];
 static uint32_t calls[RECORDS * WORDS];
+static uint32_t levels = LEVELS_LEAST;
 
 static size_t read_calls(void)
 {
     ssize_t got = read(STDIN_FILENO, bytes, sizeof bytes);
-    size_t n = got > 0 ? (size_t)got / RECORD_BYTES : 0;
+    struct log log = { bytes, got > 0 ? (size_t)got : 0, 0 };
+    size_t n = log.length / RECORD_BYTES;
 
+    levels = log_levels(&log);
     for (size_t k = 0; k < n; k++) {
-        struct record record = { .call = bytes[k * RECORD_BYTES + 3], .arguments = bytes + k * RECORD_BYTES + 4 };
+        const uint8_t *at = bytes + k * RECORD_BYTES;
+        struct record record = { .call = at[CALL_AT], .arguments = at + ARGUMENTS_AT };
 
         calls[k * WORDS] = record.call;
         for (unsigned i = 0; i < 4; i++)
@@ -38,7 +43,7 @@ static uint32_t one_round(size_t n, uint32_t sum)
 {
     static struct tables t;
 
-    core_fresh(&t);
+    core_fresh(&t, levels);
     for (const uint32_t *call = calls; call < calls + n * WORDS; call += WORDS) {
         struct answer answer = core_call(&t, call[0], call[1], call[2], call[3], call[4]);
 

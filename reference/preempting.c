@@ -36,55 +36,72 @@ static struct call remove_swi(struct maker *m, uint32_t swi)
     return call_of(SWI_DELETE, swi, 0, 0, 0);
 }
 
+/* While no Swi is active: a Swi at each priority that has none, while there is room. Gives 1 and the call, or 0 if nothing is left to do. */
+static int swis_missing(struct maker *m, struct call *call)
+{
+    const struct tables *t = &m->tables;
+    uint32_t missing = 0, doubled = 0;
+
+    for (uint32_t priority = 0; priority < SWI_LEVELS; priority++) {
+        uint32_t there = swis_at_priority(m, priority);
+
+        if (there == 0)
+            missing |= bit(priority);
+        else
+            doubled |= there & (there - 1);
+    }
+    if (missing != 0 && t->swis_in_use != 0xFFFF && (m->goal > 8 || chance(m, 60)))
+        *call = create_swi(m, m->goal > 8 || chance(m, 50) ? member(m, missing) : below(m, SWI_LEVELS));
+    else if (doubled != 0 && m->goal > 8 && chance(m, 90))
+        *call = remove_swi(m, member(m, doubled));
+    else
+        return 0;
+    return 1;
+}
+
+static struct call descend_tower(struct maker *m)
+{
+    const struct tables *t = &m->tables;
+
+    switch (below(m, 6)) {
+    case 0:
+        return t->swis_in_use != 0 ? surely_post(m, member(m, t->swis_in_use)) : any(m);
+    case 1:
+        return call_of(SWI_TAKEN_TRIGGER, 0, 0, 0, 0);
+    case 2:
+        return any(m);
+    default:
+        return call_of(SWI_END, 0, 0, 0, 0);
+    }
+}
+
 struct call tower_step(struct maker *m)
 {
     const struct tables *t = &m->tables;
     uint32_t next = 0;
+    struct call call;
 
     if (t->depth != 0)
         return chance(m, 40) && t->swis_in_use != 0 ? surely_post(m, member(m, t->swis_in_use)) : call_of(INTERRUPT_OUT, 0, 0, 0, 0);
     if (!t->swis_on && chance(m, 70))
         return call_of(SWITCHES_RESTORE, SWIS_SWITCH, SWIS_SWITCH, 0, 0);
     if (t->active_count == 0) {
-        /* a Swi at each priority that has none, while there is room */
-        uint32_t missing = 0, doubled = 0;
-
         if (m->descending) {
             end_phase(m);
             return any(m);
         }
-        for (uint32_t priority = 0; priority < PRIORITIES; priority++) {
-            uint32_t there = swis_at_priority(m, priority);
-
-            if (there == 0)
-                missing |= bit(priority);
-            else
-                doubled |= there & (there - 1);
-        }
-        if (missing != 0 && t->swis_in_use != 0xFFFF && (m->goal > 8 || chance(m, 60)))
-            return create_swi(m, m->goal > 8 || chance(m, 50) ? member(m, missing) : below(m, 16));
-        if (doubled != 0 && m->goal > 8 && chance(m, 90))
-            return remove_swi(m, member(m, doubled));
+        if (swis_missing(m, &call))
+            return call;
     } else {
         next = t->swi[t->active[t->active_count - 1]].priority + 1;
         if (t->active_count >= m->goal)
             m->descending = 1;
     }
-    if (m->descending) {
-        switch (below(m, 6)) {
-        case 0:
-            return t->swis_in_use != 0 ? surely_post(m, member(m, t->swis_in_use)) : any(m);
-        case 1:
-            return call_of(SWI_TAKEN_TRIGGER, 0, 0, 0, 0);
-        case 2:
-            return any(m);
-        default:
-            return call_of(SWI_END, 0, 0, 0, 0);
-        }
-    }
+    if (m->descending)
+        return descend_tower(m);
     if (chance(m, 15))
         return t->swis_in_use != 0 && chance(m, 60) ? surely_post(m, member(m, t->swis_in_use)) : any(m);
-    for (uint32_t priority = next; priority < PRIORITIES; priority++) {
+    for (uint32_t priority = next; priority < SWI_LEVELS; priority++) {
         uint32_t there = swis_at_priority(m, priority);
 
         if (there != 0 && (m->goal > 8 || chance(m, 70)))
@@ -99,8 +116,8 @@ struct call swi_queue_step(struct maker *m)
     const struct tables *t = &m->tables;
     uint32_t there, others, unposted;
 
-    if (m->target >= PRIORITIES)
-        m->target = below(m, PRIORITIES);
+    if (m->target >= SWI_LEVELS)
+        m->target = below(m, SWI_LEVELS);
     there = swis_at_priority(m, m->target);
     others = t->swis_in_use & ~there;
     unposted = there & ~t->swis_posted;
@@ -204,10 +221,10 @@ static struct call other_in_front(struct maker *m)
     uint32_t others = tasks_in_mode(m, READY) & ~bit(m->tables.current) & ~bit(0);
 
     if (others == 0)
-        return call_of(TASK_CREATE, 15, 0, 0, 0);
+        return call_of(TASK_CREATE, m->tables.levels - 1, 0, 0, 0);
     if (chance(m, 50))
         return call_of(TASK_SET_PRIORITY, m->tables.current, 1, 0, 0);
-    return call_of(TASK_SET_PRIORITY, member(m, others), 15, 0, 0);
+    return call_of(TASK_SET_PRIORITY, member(m, others), m->tables.levels - 1, 0, 0);
 }
 
 /* A Swi or an interrupt, among the steps of switched_off_step. */

@@ -1,5 +1,5 @@
 /*
- * replay [FILE]: replays a call log from a file, or from standard input, on fresh tables.
+ * replay [FILE]: replays a call log from a file, or from standard input, on fresh tables with the number of levels that its version means.
  * One line for each record: record, code, outcome, value, thread. The last line is `end N`, or the fault and its byte offset.
  */
 #include "core.h"
@@ -32,7 +32,7 @@ int main(int argc, char **argv)
     }
     bytes = read_whole(argc > 1 ? argv[1] : NULL, &log.length);
     log.bytes = bytes;
-    core_fresh(&tables);
+    core_fresh(&tables, log_levels(&log));
     while ((finding = log_next(&log, &record)) == LOG_RECORD) {
         struct answer answer = core_call(&tables, record.call, log_argument(&record, 0), log_argument(&record, 1),
                                          log_argument(&record, 2), log_argument(&record, 3));

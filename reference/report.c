@@ -6,6 +6,13 @@
 static const uint8_t order[] = { ACCEPTED,      UNKNOWN_CALL, WRONG_CONTEXT, OUTSIDE_TABLE, OBJECT_NOT_IN_USE, BAD_ARGUMENT,
                                  STATE_FORBIDS, TABLE_FULL,   AT_ITS_END,    NO_HEAP_ROOM,  SWITCH_IS_OFF };
 
+/* What a run of calls adds up to. */
+struct result {
+    unsigned pairs;        /* of call and code that there can be */
+    unsigned missing;      /* of those, and of the deep states */
+    unsigned long stray;   /* answers with a code that the call cannot give */
+};
+
 static int can_have_outcome(uint32_t number, unsigned outcome)
 {
     switch (number) {
@@ -105,10 +112,77 @@ static unsigned print_never_switched(FILE *file)
     return missing;
 }
 
+static const uint32_t level_numbers[LEVEL_NUMBERS] = { [WITH_LEAST] = LEVELS_LEAST, [WITH_MOST] = LEVELS_MOST };
+
+/* Whether a log was made with that number of levels and the state can be then. */
+static int is_asked_for(enum levelled which, enum level_number number)
+{
+    return levelled[which].can_be[number] && coverage.logs_with[number] != 0;
+}
+
+/* With one number of levels alone, damage does not bring every fault. */
+static int asks_for_faults(void)
+{
+    return coverage.logs_with[WITH_LEAST] != 0 && coverage.logs_with[WITH_MOST] != 0;
+}
+
+/* What came of the number of levels, two columns for each number. */
+static void print_levelled(FILE *file)
+{
+    fprintf(file, "\nhow often with each number of levels, and in how many of %lu and %lu logs\n", coverage.logs_with[WITH_LEAST],
+            coverage.logs_with[WITH_MOST]);
+    for (unsigned number = 0; number < LEVEL_NUMBERS; number++)
+        fprintf(file, "%10lu%6s", (unsigned long)level_numbers[number], "logs");
+    fputc('\n', file);
+    for (unsigned i = 0; i < LEVELLED; i++) {
+        for (unsigned number = 0; number < LEVEL_NUMBERS; number++) {
+            const struct tally *tally = &coverage.levelled[i][number];
+
+            if (levelled[i].can_be[number] || tally->times != 0)
+                fprintf(file, "%10lu%6lu", tally->times, tally->logs);
+            else
+                fprintf(file, "%10s%6s", "-", "-");
+        }
+        fprintf(file, "  %s\n", levelled[i].name);
+    }
+    fprintf(file, "%10lu%6s%10lu%6s  ready queues that are not empty, at most\n", (unsigned long)coverage.most_queues[WITH_LEAST], "",
+            (unsigned long)coverage.most_queues[WITH_MOST], "");
+}
+
+/* What the reader found in the logs, damaged and not. */
+static void print_found(FILE *file)
+{
+    fprintf(file, "\nhow often the reader found in a log\n");
+    for (unsigned i = 0; i < FOUND; i++)
+        fprintf(file, "%10lu  %s\n", coverage.found[i], found[i]);
+}
+
+/* Which states of the levels and which faults were never reached, and which states were that cannot be; gives how many. */
+static unsigned print_never_levelled(FILE *file)
+{
+    unsigned missing = 0;
+
+    for (unsigned i = 0; i < LEVELLED * LEVEL_NUMBERS; i++) {
+        unsigned which = i / LEVEL_NUMBERS, number = i % LEVEL_NUMBERS;
+        int is_there = coverage.levelled[which][number].times != 0, can_be = levelled[which].can_be[number];
+
+        if (is_there ? can_be : !is_asked_for((enum levelled)which, (enum level_number)number))
+            continue;
+        missing++;
+        fprintf(file, "%s: %s, with %lu levels\n", is_there ? "cannot be" : "never", levelled[which].name, (unsigned long)level_numbers[number]);
+    }
+    for (unsigned i = 0; i < FOUND; i++)
+        if (asks_for_faults() && coverage.found[i] == 0) {
+            missing++;
+            fprintf(file, "never: found in a log: %s\n", found[i]);
+        }
+    return missing;
+}
+
 /* Which of the deep states were never reached; gives how many. */
 static unsigned print_never(FILE *file)
 {
-    unsigned missing = print_never_switched(file);
+    unsigned missing = print_never_switched(file) + print_never_levelled(file);
 
     for (unsigned i = 0; i < COUNTED * ORDERS; i++)
         if (coverage.counted[i / ORDERS][i % ORDERS] == 0) {
@@ -128,56 +202,62 @@ static unsigned print_never(FILE *file)
     return missing;
 }
 
-unsigned coverage_print(FILE *file)
+/* One call, a column for each code; adds to what the run lacks and what it should not have. */
+static void print_call_codes(FILE *file, const struct call_form *form, struct result *result)
 {
-    unsigned long unknown = 0, stray = 0;
-    unsigned missing = 0, pairs = 0;
+    fprintf(file, "%02lX %-25s", (unsigned long)form->number, form->name);
+    for (unsigned place = 0; place < sizeof order; place++) {
+        unsigned long count = coverage.pair[form->number][order[place]];
 
-    fprintf(file, "%lu calls\n\n", coverage.calls);
+        if (!can_give(form, order[place])) {
+            result->stray += count;
+            fprintf(file, "%9s", count == 0 ? "-" : "NOT ITS");
+            continue;
+        }
+        result->pairs++;
+        result->missing += count == 0;
+        if (count == 0)
+            fprintf(file, "%9s", "NEVER");
+        else
+            fprintf(file, "%9lu", count);
+    }
+    for (unsigned outcome = 1; outcome < 3; outcome++) {
+        unsigned long count = coverage.outcome[form->number][outcome];
+
+        result->missing += count == 0 && can_have_outcome(form->number, outcome);
+        if (can_have_outcome(form->number, outcome) || count != 0)
+            fprintf(file, "%10lu", count);
+        else
+            fprintf(file, "%10s", "-");
+    }
+    fputc('\n', file);
+}
+
+/* How often each call gave each code, and the unknown numbers. */
+static void print_codes(FILE *file, struct result *result)
+{
+    unsigned long unknown = 0;
+
     fprintf(file, "%-28s%9s", "call", "accepted");
     for (unsigned i = 1; i < sizeof order; i++)
         fprintf(file, "%*s%u", order[i] < 10 ? 8 : 7, "code ", order[i]);
     fprintf(file, "  outcome 1 outcome 2\n");
-    for (unsigned i = 0; i < CALLS; i++) {
-        const struct call_form *form = &call_forms[i];
-
-        fprintf(file, "%02lX %-25s", (unsigned long)form->number, form->name);
-        for (unsigned place = 0; place < sizeof order; place++) {
-            unsigned long count = coverage.pair[form->number][order[place]];
-
-            if (!can_give(form, order[place])) {
-                stray += count;
-                fprintf(file, "%9s", count == 0 ? "-" : "NOT ITS");
-                continue;
-            }
-            pairs++;
-            missing += count == 0;
-            if (count == 0)
-                fprintf(file, "%9s", "NEVER");
-            else
-                fprintf(file, "%9lu", count);
-        }
-        for (unsigned outcome = 1; outcome < 3; outcome++) {
-            unsigned long count = coverage.outcome[form->number][outcome];
-
-            missing += count == 0 && can_have_outcome(form->number, outcome);
-            if (can_have_outcome(form->number, outcome) || count != 0)
-                fprintf(file, "%10lu", count);
-            else
-                fprintf(file, "%10s", "-");
-        }
-        fputc('\n', file);
-    }
+    for (unsigned i = 0; i < CALLS; i++)
+        print_call_codes(file, &call_forms[i], result);
     for (unsigned number = 0; number < 256; number++)
         if (form_of(number) == NULL) {
             unknown += coverage.pair[number][UNKNOWN_CALL];
             for (unsigned code = 0; code < CODES; code++)
                 if (code != UNKNOWN_CALL)
-                    stray += coverage.pair[number][code];
+                    result->stray += coverage.pair[number][code];
         }
-    pairs++;
-    missing += unknown == 0;
+    result->pairs++;
+    result->missing += unknown == 0;
     fprintf(file, "%-28s%9s%9lu\n\n", "unknown call numbers", "-", unknown);
+}
+
+static void print_states(FILE *file)
+{
     fprintf(file, "greatest number at a time (of the greatest possible)\n");
     for (unsigned i = 0; i < MOSTS; i++)
         fprintf(file, "%10lu of %3lu  %s\n", (unsigned long)coverage.most[i], (unsigned long)mosts[i].limit, mosts[i].name);
@@ -188,15 +268,34 @@ unsigned coverage_print(FILE *file)
     print_woke(file);
     print_switched(file);
     print_gone(file);
+    print_levelled(file);
+    print_found(file);
+}
+
+static unsigned deep_states(void)
+{
+    unsigned states = (unsigned)HAPPENED + COUNTED * ORDERS + WOKES * POST_PLACES + SWITCHED * SWITCH_CALLS + GONE * CONTEXTS;
+
+    for (unsigned i = 0; i < LEVELLED * LEVEL_NUMBERS; i++)
+        states += is_asked_for((enum levelled)(i / LEVEL_NUMBERS), (enum level_number)(i % LEVEL_NUMBERS)) ? 1 : 0;
+    return states + (asks_for_faults() ? FOUND : 0);
+}
+
+unsigned coverage_print(FILE *file)
+{
+    struct result result = { 0, 0, 0 };
+
+    fprintf(file, "%lu calls\n\n", coverage.calls);
+    print_codes(file, &result);
+    print_states(file);
     fputc('\n', file);
-    missing += print_never(file);
+    result.missing += print_never(file);
     for (unsigned i = 0; i < CALLS; i++)
         for (unsigned code = 0; code < CODES; code++)
             if (can_give(&call_forms[i], code) && coverage.pair[call_forms[i].number][code] == 0)
                 fprintf(file, "never: call %02lX (%s) with code %u\n", (unsigned long)call_forms[i].number, call_forms[i].name, code);
-    if (stray != 0)
-        fprintf(file, "%lu answers with a code that the call cannot give\n", stray);
-    fprintf(file, "%u pairs of call and code and %u deep states, %u of them never reached\n", pairs,
-            (unsigned)HAPPENED + COUNTED * ORDERS + WOKES * POST_PLACES + SWITCHED * SWITCH_CALLS + GONE * CONTEXTS, missing);
-    return missing + (stray != 0);
+    if (result.stray != 0)
+        fprintf(file, "%lu answers with a code that the call cannot give\n", result.stray);
+    fprintf(file, "%u pairs of call and code and %u deep states, %u of them never reached\n", result.pairs, deep_states(), result.missing);
+    return result.missing + (result.stray != 0);
 }

@@ -213,7 +213,7 @@ static unsigned long check_sequence(const struct sequence *sequence)
     unsigned faults_before = faults;
 
     place.name = sequence->name;
-    core_fresh(&t);
+    core_fresh(&t, LEVELS_LEAST);
     sums_fresh(&sums);
     for (place.step = 0; place.step < sequence->steps && faults == faults_before; place.step++) {
         const struct step *step = &sequence->step[place.step];

@@ -32,6 +32,21 @@ uint32_t front_task(const struct maker *m)
     return m->tables.link[HEAD_OF_READY + 31u - (uint32_t)__builtin_clz(m->tables.ready_levels)].next;
 }
 
+uint32_t bare_levels(const struct maker *m)
+{
+    return FULL >> (LEVELS_MOST - m->tables.levels) & ~m->tables.ready_levels & ~bit(0);
+}
+
+uint32_t crowded_tasks(const struct maker *m)
+{
+    uint32_t set = 0;
+
+    for (uint32_t i = 1; i < TASKS; i++)
+        if (m->tables.task[i].mode == READY && line_length(m, HEAD_OF_READY + m->tables.task[i].priority) > 1)
+            set |= bit(i);
+    return set;
+}
+
 uint32_t line_length(const struct maker *m, uint32_t head)
 {
     uint32_t length = 0;

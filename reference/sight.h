@@ -20,6 +20,12 @@ uint32_t switches_now_off(const struct maker *m);
 /* The front of the highest ready queue: the current task, if nothing holds it back. */
 uint32_t front_task(const struct maker *m);
 
+/* The set of the levels above task 0's at which no task is ready. */
+uint32_t bare_levels(const struct maker *m);
+
+/* The ready tasks that are not alone in their queue, but for task 0. */
+uint32_t crowded_tasks(const struct maker *m);
+
 /* A queue or line, by its head. */
 uint32_t line_length(const struct maker *m, uint32_t head);
 

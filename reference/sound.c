@@ -20,50 +20,55 @@ static int is_all_zero(const void *record, size_t size)
     return 1;
 }
 
+/* Walks the ring of one head, where places from low to before high may stand; notes in stands_at who stands there. */
+static const char *ring_unsound(const struct tables *t, uint32_t head, uint32_t low, uint32_t high, uint32_t stands_at[PLACES])
+{
+    if (t->link[head].next >= PLACES || t->link[t->link[head].next].before != head)
+        return "a queue or line whose front does not lead back to it";
+    for (uint32_t place = t->link[head].next; place != head; place = t->link[place].next) {
+        if (place < low || place >= high)
+            return "something that may not stand in this queue or line";
+        if (stands_at[place] != NOWHERE)
+            return "a task or Swi that stands twice";
+        stands_at[place] = head;
+        if (t->link[place].next >= PLACES || t->link[t->link[place].next].before != place)
+            return "a queue or line whose links do not agree";
+    }
+    return NULL;
+}
+
+/* The sets of the priorities at which somebody stands. */
+static const char *level_sets_unsound(const struct tables *t)
+{
+    for (uint32_t priority = 0; priority < LEVELS_MOST; priority++)
+        if (is_member(t->ready_levels, priority) != (t->link[HEAD_OF_READY + priority].next != HEAD_OF_READY + priority))
+            return "the set of non-empty ready queues";
+    for (uint32_t priority = 0; priority < SWI_LEVELS; priority++)
+        if (is_member(t->posted_levels, priority) != (t->link[HEAD_OF_POSTED + priority].next != HEAD_OF_POSTED + priority))
+            return "the set of non-empty queues of posted Swis";
+    return t->posted_levels >> SWI_LEVELS == 0 ? NULL : "a set of Swi priorities beyond 15";
+}
+
 /* Walks the rings; stands_at gets for each place the head of the queue or line where it stands. */
 static const char *rings_unsound(const struct tables *t, uint32_t stands_at[PLACES])
 {
+    const char *fault = NULL;
+
     for (uint32_t place = 0; place < PLACES; place++)
         stands_at[place] = NOWHERE;
-    for (uint32_t head = 0; head < PLACES; head++) {
-        uint32_t low, high, place;
-
-        if (head >= HEAD_OF_READY && head < PLACE_OF_SWI) {
-            low = PLACE_OF_TASK;
-            high = PLACE_OF_TASK + TASKS;
-        } else if (head >= HEAD_OF_POSTED) {
-            low = PLACE_OF_SWI;
-            high = PLACE_OF_SWI + SWIS;
-        } else {
-            continue;
-        }
-        if (t->link[head].next >= PLACES || t->link[t->link[head].next].before != head)
-            return "a queue or line whose front does not lead back to it";
-        for (place = t->link[head].next; place != head; place = t->link[place].next) {
-            if (place < low || place >= high)
-                return "something that may not stand in this queue or line";
-            if (stands_at[place] != NOWHERE)
-                return "a task or Swi that stands twice";
-            stands_at[place] = head;
-            if (t->link[place].next >= PLACES || t->link[t->link[place].next].before != place)
-                return "a queue or line whose links do not agree";
-        }
-    }
+    for (uint32_t head = HEAD_OF_READY; head < PLACE_OF_SWI && fault == NULL; head++)
+        fault = ring_unsound(t, head, PLACE_OF_TASK, PLACE_OF_TASK + TASKS, stands_at);
+    for (uint32_t head = HEAD_OF_POSTED; head < PLACES && fault == NULL; head++)
+        fault = ring_unsound(t, head, PLACE_OF_SWI, PLACE_OF_SWI + SWIS, stands_at);
+    if (fault != NULL)
+        return fault;
     for (uint32_t place = 0; place < PLACES; place++) {
         int is_own = place < HEAD_OF_READY || (place >= PLACE_OF_SWI && place < HEAD_OF_POSTED);
 
         if (is_own && stands_at[place] == NOWHERE && !is_all_zero(&t->link[place], sizeof t->link[place]))
             return "links of a task or Swi that stands nowhere";
     }
-    for (uint32_t priority = 0; priority < PRIORITIES; priority++) {
-        if (is_member(t->ready_levels, priority) != (t->link[HEAD_OF_READY + priority].next != HEAD_OF_READY + priority))
-            return "the set of non-empty ready queues";
-        if (is_member(t->posted_levels, priority) != (t->link[HEAD_OF_POSTED + priority].next != HEAD_OF_POSTED + priority))
-            return "the set of non-empty queues of posted Swis";
-    }
-    if (t->ready_levels >> PRIORITIES != 0 || t->posted_levels >> PRIORITIES != 0)
-        return "a set of priorities beyond 15";
-    return NULL;
+    return level_sets_unsound(t);
 }
 
 static const char *wait_unsound(const struct tables *t, uint32_t number, uint32_t stands_at)
@@ -106,28 +111,12 @@ static const char *wait_unsound(const struct tables *t, uint32_t number, uint32_
     }
 }
 
-static const char *task_unsound(const struct tables *t, uint32_t number, uint32_t stands_at)
+/* A task in use, by its mode. */
+static const char *mode_unsound(const struct tables *t, uint32_t number, uint32_t stands_at)
 {
     const struct task *task = &t->task[number];
-    int is_plain_priority = task->priority >= 1 && task->priority <= 15;
+    int is_plain_priority = task->priority >= 1 && task->priority < t->levels;
 
-    if (!is_member(t->tasks_in_use, number)) {
-        if (number == 0)
-            return "task 0 not in use";
-        if (!is_all_zero(task, sizeof *task))
-            return "a task not in use that is not all 0";
-        return stands_at == NOWHERE ? NULL : "a task not in use in a queue or line";
-    }
-    if (task->outcome > NOT_MET || (task->outcome == NOT_MET && task->value != 0))
-        return "a last result that no wait leaves";
-    if (is_member(t->tasks_limited, number) != (task->ticks_left != 0))
-        return "the set of limited waits";
-    if (number == 0) {
-        if (task->mode != READY || task->priority != 0 || task->outcome != 0 || task->value != 0)
-            return "task 0";
-    }
-    if (task->mode != BLOCKED && (task->wait != NO_WAIT || task->object != 0 || task->ticks_left != 0 || task->word != 0))
-        return "data of a wait that has ended";
     switch (task->mode) {
     case READY:
         if (number != 0 && !is_plain_priority)
@@ -148,10 +137,33 @@ static const char *task_unsound(const struct tables *t, uint32_t number, uint32_
     }
 }
 
-static const char *swis_unsound(const struct tables *t, const uint32_t stands_at[PLACES])
+static const char *task_unsound(const struct tables *t, uint32_t number, uint32_t stands_at)
 {
-    uint32_t active = 0;
+    const struct task *task = &t->task[number];
 
+    if (!is_member(t->tasks_in_use, number)) {
+        if (number == 0)
+            return "task 0 not in use";
+        if (!is_all_zero(task, sizeof *task))
+            return "a task not in use that is not all 0";
+        return stands_at == NOWHERE ? NULL : "a task not in use in a queue or line";
+    }
+    if (task->outcome > NOT_MET || (task->outcome == NOT_MET && task->value != 0))
+        return "a last result that no wait leaves";
+    if (is_member(t->tasks_limited, number) != (task->ticks_left != 0))
+        return "the set of limited waits";
+    if (number == 0) {
+        if (task->mode != READY || task->priority != 0 || task->outcome != 0 || task->value != 0)
+            return "task 0";
+    }
+    if (task->mode != BLOCKED && (task->wait != NO_WAIT || task->object != 0 || task->ticks_left != 0 || task->word != 0))
+        return "data of a wait that has ended";
+    return mode_unsound(t, number, stands_at);
+}
+
+/* The active Swis; their set through *active. */
+static const char *active_unsound(const struct tables *t, uint32_t *active)
+{
     if (t->active_count > SWIS)
         return "the number of active Swis";
     for (uint32_t i = 0; i < SWIS; i++) {
@@ -166,30 +178,40 @@ static const char *swis_unsound(const struct tables *t, const uint32_t stands_at
             return "an active Swi that is not in use";
         if (i > 0 && t->swi[number].priority <= t->swi[t->active[i - 1]].priority)
             return "active Swis that do not rise in priority";
-        active |= 1u << number;
-    }
-    if (t->swis_in_use >> SWIS != 0 || t->swis_posted >> SWIS != 0)
-        return "a set of Swis beyond 15";
-    for (uint32_t number = 0; number < SWIS; number++) {
-        const struct swi *swi = &t->swi[number];
-
-        if (is_member(t->swis_posted, number) != (stands_at[PLACE_OF_SWI + number] != NOWHERE))
-            return "the set of posted Swis";
-        if (!is_member(t->swis_in_use, number)) {
-            if (!is_all_zero(swi, sizeof *swi))
-                return "a Swi not in use that is not all 0";
-            if (is_member(t->swis_posted, number))
-                return "a posted Swi that is not in use";
-            continue;
-        }
-        if (swi->priority > 15)
-            return "a Swi's priority";
-        if (is_member(t->swis_posted, number) && stands_at[PLACE_OF_SWI + number] != HEAD_OF_POSTED + swi->priority)
-            return "a posted Swi that is not in its priority's queue";
-        if (!is_member(active, number) && swi->taken != 0)
-            return "a taken trigger of a Swi that is not active";
+        *active |= 1u << number;
     }
     return NULL;
+}
+
+static const char *swi_unsound(const struct tables *t, uint32_t number, uint32_t stands_at, int is_active)
+{
+    const struct swi *swi = &t->swi[number];
+    int is_posted = is_member(t->swis_posted, number);
+
+    if (is_posted != (stands_at != NOWHERE))
+        return "the set of posted Swis";
+    if (!is_member(t->swis_in_use, number)) {
+        if (!is_all_zero(swi, sizeof *swi))
+            return "a Swi not in use that is not all 0";
+        return is_posted ? "a posted Swi that is not in use" : NULL;
+    }
+    if (swi->priority >= SWI_LEVELS)
+        return "a Swi's priority";
+    if (is_posted && stands_at != HEAD_OF_POSTED + swi->priority)
+        return "a posted Swi that is not in its priority's queue";
+    return is_active || swi->taken == 0 ? NULL : "a taken trigger of a Swi that is not active";
+}
+
+static const char *swis_unsound(const struct tables *t, const uint32_t stands_at[PLACES])
+{
+    uint32_t active = 0;
+    const char *fault = active_unsound(t, &active);
+
+    if (fault == NULL && (t->swis_in_use >> SWIS != 0 || t->swis_posted >> SWIS != 0))
+        fault = "a set of Swis beyond 15";
+    for (uint32_t number = 0; number < SWIS && fault == NULL; number++)
+        fault = swi_unsound(t, number, stands_at[PLACE_OF_SWI + number], is_member(active, number));
+    return fault;
 }
 
 static const char *semaphore_unsound(const struct tables *t, uint32_t number)
@@ -204,7 +226,7 @@ static const char *semaphore_unsound(const struct tables *t, uint32_t number)
     }
     if (semaphore->kind > BINARY_BY_PRIORITY)
         return "a semaphore's kind";
-    if (semaphore->count > (semaphore->kind % 2 == 1 ? 1u : 65535u))
+    if (semaphore->count > (semaphore->kind % 2 == 1 ? 1u : (uint32_t)COUNT_MOST))
         return "a semaphore's count";
     for (uint32_t place = t->link[head].next; place != head; place = t->link[place].next)
         if (t->task[place].mode != BLOCKED || t->task[place].wait != AT_SEMAPHORE || t->task[place].object != number)
@@ -289,7 +311,7 @@ static const char *heap_unsound(const struct tables *t)
 
 static const char *dispatch_unsound(const struct tables *t)
 {
-    uint32_t posted = PRIORITIES, ready = PRIORITIES;
+    uint32_t posted = SWI_LEVELS, ready = t->levels;
 
     if (t->current >= TASKS || t->task[t->current].mode != READY)
         return "a current task that is not ready";
@@ -313,6 +335,8 @@ const char *core_unsound(const struct tables *t)
     uint32_t stands_at[PLACES];
     const char *fault;
 
+    if (t->levels != LEVELS_LEAST && t->levels != LEVELS_MOST)
+        return "the number of levels";
     if (t->depth > DEPTH_MOST || t->swis_on > 1 || t->tasks_on > 1)
         return "the depth or a switch";
     fault = rings_unsound(t, stands_at);

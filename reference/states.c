@@ -160,4 +160,55 @@ const char *const switched[SWITCHED] = {
     [TASK_UNUSED_ARGUMENT] = "code 4 from a task for an unused argument alone",
 };
 
+const struct levelled_state levelled[LEVELLED] = {
+    [MADE_LOW] = { "task made at 1 to 15", { 1, 1 } },
+    [MADE_HIGH] = { "task made at 16 to 31", { 0, 1 } },
+    [MADE_LAST] = { "task made at the last level", { 1, 1 } },
+    [SET_LOW] = { "priority set to 1 to 15", { 1, 1 } },
+    [SET_HIGH] = { "priority set to 16 to 31", { 0, 1 } },
+    [SET_LAST] = { "priority set to the last level", { 1, 1 } },
+    [MADE_HIGH_REFUSED] = { "code 4 for a task made at 16 to 31", { 1, 0 } },
+    [SET_HIGH_REFUSED] = { "code 4 for a priority set to 16 to 31", { 1, 0 } },
+    [MADE_PAST_LAST_REFUSED] = { "code 4 for a task made one past the last level", { 1, 1 } },
+    [SET_PAST_LAST_REFUSED] = { "code 4 for a priority set one past the last level", { 1, 1 } },
+    [MADE_FAR_REFUSED] = { "code 4 for a task made at 33 or more", { 1, 1 } },
+    [SET_FAR_REFUSED] = { "code 4 for a priority set to 33 or more", { 1, 1 } },
+    [SWI_MADE_LAST] = { "Swi made at 15", { 1, 1 } },
+    [SWI_HIGH_REFUSED] = { "code 4 for a Swi made at 16 to 31", { 1, 1 } },
+    [SWI_FAR_REFUSED] = { "code 4 for a Swi made at 32 or more", { 1, 1 } },
+    [RAN_LOW] = { "task switched to in a queue of 1 to 15", { 1, 1 } },
+    [RAN_HIGH] = { "task switched to in a queue of 16 to 31", { 0, 1 } },
+    [RAN_LAST] = { "task switched to in the last queue", { 1, 1 } },
+    [RAN_LOW_AFTER_HIGH] = { "task at 15 or below ran after one at 16 or above", { 0, 1 } },
+    [RAN_HIGH_AFTER_LOW] = { "task at 16 or above ran after one at 15 or below", { 0, 1 } },
+    [YIELDED_HIGH] = { "yielded to an equal at 16 to 31", { 0, 1 } },
+    [READIED_HIGH] = { "tick readied a task at 16 to 31", { 0, 1 } },
+    [JOINED_HIGH_BEFORE_LOW] = { "task at 16 to 31 joined a priority line before one at 1 to 15", { 0, 1 } },
+    [JOINED_HIGH_BEFORE_HIGH] = { "task at 16 to 31 joined a priority line before one at 16 to 31", { 0, 1 } },
+};
+
+const char *const found[FOUND] = {
+    [FIRST_READ_TO_END] = "log of version 1 read to its end",
+    [SECOND_READ_TO_END] = "log of version 2 read to its end",
+    [CUT_AT_ONE_BYTE] = "cut: one byte left",
+    [CUT_SHORT] = "cut: a record too short",
+    [CUT_SHORT_OTHER_VERSION] = "cut: a record too short that has another version too",
+    [LENGTH_WRONG] = "length",
+    [LENGTH_WRONG_OTHER_VERSION] = "length: a record that has another version too",
+    [SECOND_IN_FIRST] = "version: 2 in a log of version 1",
+    [FIRST_IN_SECOND] = "version: 1 in a log of version 2",
+    [NEITHER_IN_FIRST] = "version: neither 1 nor 2 in a log of version 1",
+    [NEITHER_IN_SECOND] = "version: neither 1 nor 2 in a log of version 2",
+    [NEITHER_AT_FIRST_RECORD] = "version: neither 1 nor 2 in the first record",
+};
+
 struct counts coverage;
+
+void add_to(struct tally *tally, int is_so)
+{
+    if (!is_so)
+        return;
+    tally->times++;
+    tally->logs += tally->log != coverage.logs;
+    tally->log = coverage.logs;
+}

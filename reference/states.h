@@ -192,6 +192,63 @@ extern const char *const switched[SWITCHED]; /* in words */
 
 enum switch_call { CALL_OFF, CALL_RESTORE, SWITCH_CALLS }; /* 77 and 78 */
 
+/* What came of the number of levels, a column for each number. */
+enum levelled {
+    MADE_LOW,
+    MADE_HIGH,
+    MADE_LAST,
+    SET_LOW,
+    SET_HIGH,
+    SET_LAST,
+    MADE_HIGH_REFUSED,
+    SET_HIGH_REFUSED,
+    MADE_PAST_LAST_REFUSED,
+    SET_PAST_LAST_REFUSED,
+    MADE_FAR_REFUSED,
+    SET_FAR_REFUSED,
+    SWI_MADE_LAST,
+    SWI_HIGH_REFUSED,
+    SWI_FAR_REFUSED,
+    RAN_LOW,
+    RAN_HIGH,
+    RAN_LAST,
+    RAN_LOW_AFTER_HIGH,
+    RAN_HIGH_AFTER_LOW,
+    YIELDED_HIGH,
+    READIED_HIGH,
+    JOINED_HIGH_BEFORE_LOW,
+    JOINED_HIGH_BEFORE_HIGH,
+    LEVELLED
+};
+
+enum level_number { WITH_LEAST, WITH_MOST, LEVEL_NUMBERS }; /* of the levels: 16 and 32 */
+
+struct levelled_state {
+    const char *name;
+    int can_be[LEVEL_NUMBERS]; /* with that number of levels */
+};
+
+extern const struct levelled_state levelled[LEVELLED];
+
+/* What the reader finds in logs of both versions, whole and damaged. */
+enum found {
+    FIRST_READ_TO_END,
+    SECOND_READ_TO_END,
+    CUT_AT_ONE_BYTE,
+    CUT_SHORT,
+    CUT_SHORT_OTHER_VERSION,
+    LENGTH_WRONG,
+    LENGTH_WRONG_OTHER_VERSION,
+    SECOND_IN_FIRST,
+    FIRST_IN_SECOND,
+    NEITHER_IN_FIRST,
+    NEITHER_IN_SECOND,
+    NEITHER_AT_FIRST_RECORD,
+    FOUND
+};
+
+extern const char *const found[FOUND]; /* in words */
+
 enum context { FROM_TASK, FROM_SWI, FROM_INTERRUPT, CONTEXTS };
 
 enum place { SEMAPHORE_PLACE, EVENT_PLACE, MAILBOX_PLACE, POST_PLACES }; /* of a post */
@@ -202,8 +259,12 @@ struct tally {
     unsigned long log;                 /* the last of them, counted from 1 */
 };
 
+/* One time more, if it is so. */
+void add_to(struct tally *tally, int is_so);
+
 struct counts {
     unsigned long logs;
+    unsigned long logs_with[LEVEL_NUMBERS];
     unsigned long calls;
     unsigned long pair[256][CODES];    /* of call and code */
     unsigned long outcome[256][3];     /* of accepted calls */
@@ -212,6 +273,9 @@ struct counts {
     struct tally woke[WOKES][POST_PLACES];
     struct tally switched[SWITCHED][SWITCH_CALLS];
     struct tally gone[LAST_GONE - FIRST_GONE + 1][CONTEXTS]; /* numbers that No. 10 took away, refused with 1 */
+    struct tally levelled[LEVELLED][LEVEL_NUMBERS];
+    uint32_t most_queues[LEVEL_NUMBERS]; /* ready queues that are not empty, at a time */
+    unsigned long found[FOUND];
     unsigned long counted[COUNTED][ORDERS];
     uint64_t most_posts[ORDERS];       /* since a count was set */
     uint64_t most_taken[ORDERS];

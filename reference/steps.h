@@ -14,6 +14,7 @@ struct call expire_step(struct maker *m);
 struct call alarm_step(struct maker *m);
 struct call levels_step(struct maker *m);
 struct call turns_step(struct maker *m);
+struct call ladder_step(struct maker *m);
 
 /* preempting.c: interrupts, Swis, clocks and switches */
 struct call nest_step(struct maker *m);

@@ -139,27 +139,11 @@ struct call expire_step(struct maker *m)
     return tick_step(m);
 }
 
-struct call alarm_step(struct maker *m)
+/* A wait of the phase's ticks: at an object where one would begin, or a sleep. */
+static struct call wait_for_alarm(struct maker *m)
 {
     const struct tables *t = &m->tables;
 
-    if (m->target == FULL)
-        m->target = 1 + below(m, 6); /* the ticks of all */
-    if (m->descending) {
-        if (m->descending++ > 2 * m->target + 4)
-            end_phase(m);
-        if (in_swi(m))
-            return calm_down(m);
-        return chance(m, 80) && t->depth != 0 ? call_of(TICK, 0, 0, 0, 0) : tick_step(m);
-    }
-    if (!is_calm(m))
-        return calm_down(m);
-    if (t->current == 0) {
-        if (t->tasks_in_use != FULL || (tasks_in_mode(m, INACTIVE) | tasks_in_mode(m, TERMINATED)) != 0)
-            return bring_task(m);
-        m->descending = 1;
-        return call_of(INTERRUPT_IN, 0, 0, 0, 0);
-    }
     switch (below(m, 4)) {
     case 0:
         for (uint32_t i = 0; i < SEMAPHORES; i++)
@@ -181,6 +165,30 @@ struct call alarm_step(struct maker *m)
         break;
     }
     return call_of(TASK_SLEEP, m->target, 0, 0, 0);
+}
+
+struct call alarm_step(struct maker *m)
+{
+    const struct tables *t = &m->tables;
+
+    if (m->target == FULL)
+        m->target = 1 + below(m, 6); /* the ticks of all */
+    if (m->descending) {
+        if (m->descending++ > 2 * m->target + 4)
+            end_phase(m);
+        if (in_swi(m))
+            return calm_down(m);
+        return chance(m, 80) && t->depth != 0 ? call_of(TICK, 0, 0, 0, 0) : tick_step(m);
+    }
+    if (!is_calm(m))
+        return calm_down(m);
+    if (t->current == 0) {
+        if (t->tasks_in_use != FULL || (tasks_in_mode(m, INACTIVE) | tasks_in_mode(m, TERMINATED)) != 0)
+            return bring_task(m);
+        m->descending = 1;
+        return call_of(INTERRUPT_IN, 0, 0, 0, 0);
+    }
+    return wait_for_alarm(m);
 }
 
 static struct call pend_at(struct maker *m, uint32_t semaphore)
@@ -244,5 +252,50 @@ struct call turns_step(struct maker *m)
         return likely(m, TASK_LAST_RESULT);
     default:
         return call_of(TASK_YIELD, 0, 0, 0, 0);
+    }
+}
+
+/* Towards a ready task at that level, without one less at another: gives 1 and the call, or 0 if no task can be had for it. */
+static int task_missing(struct maker *m, uint32_t level, struct call *call)
+{
+    uint32_t inactive = tasks_in_mode(m, INACTIVE), terminated = tasks_in_mode(m, TERMINATED), crowded = crowded_tasks(m);
+
+    if (m->tables.tasks_in_use != FULL)
+        *call = call_of(TASK_CREATE, level, 0, 0, 0);
+    else if (terminated != 0)
+        *call = call_of(TASK_DELETE, member(m, terminated), 0, 0, 0);
+    else if ((inactive | crowded) != 0)
+        *call = call_of(TASK_SET_PRIORITY, member(m, inactive | crowded), level, 0, 0);
+    else if (tasks_in_mode(m, BLOCKED) != 0 && chance(m, 90))
+        *call = serve_somebody(m);
+    else
+        return 0;
+    return 1;
+}
+
+/* Up, until a task is ready at every level; then down, each task that runs leaving its queue most often. */
+struct call ladder_step(struct maker *m)
+{
+    uint32_t bare = bare_levels(m);
+    struct call call;
+
+    if (!is_calm(m))
+        return calm_down(m);
+    if (!m->descending && bare != 0 && task_missing(m, member(m, bare), &call))
+        return call;
+    m->descending = 1;
+    if (m->tables.current == 0) {
+        end_phase(m);
+        return any(m);
+    }
+    switch (below(m, 8)) {
+    case 0:
+        return call_of(TASK_SET_PRIORITY, m->tables.current, task_priority(m), 0, 0);
+    case 1:
+        return call_of(TASK_END, 0, 0, 0, 0);
+    case 2:
+        return would_wait(m);
+    default:
+        return call_of(TASK_SLEEP, 1 + below(m, 8), 0, 0, 0);
     }
 }

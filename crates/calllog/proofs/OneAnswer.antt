@@ -4,7 +4,7 @@ use mathlib.Core.Path.{_≡_, sym, _∙_}
 use mathlib.Core.List.{List}
 use lib.ListN.{length}
 use denote.Ref.{RefT, ptr, now}
-use Rattle.rules.specs.Log.{readAt, moveTo}
+use Rattle.rules.specs.Log.{readIn, readAt, moveTo}
 use Rattle.rules.specs.declared.Read.{Read}
 use Rattle.calllog.specs.Part.{PartAt}
 use Rattle.calllog.specs.declared.reader.Reader.{Reader}
@@ -17,12 +17,12 @@ same-step r s p q = let e : _≡_ {A = Step} (record { found = r .found; at = r 
 same-reader : (r s : Reader) → r .log ≡ s .log → r .at ≡ s .at → r ≡ s
 same-reader r s p q = let e : _≡_ {A = Reader} (record { log = r .log; at = r .at }) (record { log = s .log; at = s .at }) = cc in e
 
--- ---- `step_at` and `read_next`: what stands at a position of a log, and the position after it
-abbrev pub Stepped : List ℕ → ℕ → Step → Type 0
-Stepped log at r = (r .found ≡ readAt log at) × (r .at ≡ moveTo (r .found) at)
+-- ---- `step_in`, and `step_at` with the version of the log: what stands at a position, and the position after it
+abbrev pub Stepped : ℕ → List ℕ → ℕ → Step → Type 0
+Stepped v log at r = (r .found ≡ readIn v log at) × (r .at ≡ moveTo (r .found) at)
 
-pub one-step : (log : List ℕ) (at : ℕ) (r s : Step) → Stepped log at r → Stepped log at s → r ≡ s
-one-step log at r s p q = same-step r s (cc) (cc)
+pub one-step : (v : ℕ) (log : List ℕ) (at : ℕ) (r s : Step) → Stepped v log at r → Stepped v log at s → r ≡ s
+one-step v log at r s p q = same-step r s (cc) (cc)
 
 -- ---- `Reader::new`: a reader of the log that was passed, at its start
 abbrev pub Begun : RefT (List ℕ) → Reader → Type 0

@@ -3,7 +3,7 @@ use rules::Read;
 ghost use mathlib.Core.Path.{_≡_};
 ghost use Prim.Native.Nat.{_%_, _^_, _<_};
 ghost use lib.ListN.{getD};
-ghost use Rattle.rules.specs.Log.{halfAt, wordAt, readAt, argument, moveTo};
+ghost use Rattle.rules.specs.Log.{versionOf, levelsFor, isVersion, halfAt, wordAt, readIn, readAt, argument, moveTo};
 ghost use Rattle.calllog.specs.Part.{PartAt};
 
 pub mod reader;
@@ -44,9 +44,32 @@ fn word_at(s: &[u8], at: usize) -> u32
     0
 }
 
-// What stands at a position of a log.
-pub fn read_at(log: &[u8], at: usize) -> Read
-    ensures { λ r. ⌜ r ≡ readAt (now (log .entry)) at ⌝ }
+// No. 14: 'The first record decides for the whole log': the version that it has; 0 where the log is too short to have one.
+pub fn version_of(log: &[u8]) -> u8
+    ensures { λ r. ⌜ r ≡ versionOf (now (log .entry)) ⌝ }
+{
+    byte_at(log, 2)
+}
+
+// No. 14: 'Log version 2 .. means 32 levels; a version 1 log replays with 16'.
+pub fn levels_for(version: u8) -> u32
+    ensures { λ r. ⌜ r ≡ levelsFor version ⌝ }
+{
+    if version == 2 {
+        return rules::MOST_LEVELS;
+    }
+    rules::FEW_LEVELS
+}
+
+fn is_version(version: u8) -> bool
+    ensures { λ r. ⌜ r ≡ isVersion version ⌝ }
+{
+    (version == 1) | (version == 2)
+}
+
+// What stands at a position of a log, or of a part of one, whose first record has this version.
+pub fn read_in(log: &[u8], at: usize, version: u8) -> Read
+    ensures { λ r. ⌜ r ≡ readIn version (now (log .entry)) at ⌝ }
 {
     if log.len() < at {
         return Read::Cut(at);
@@ -63,13 +86,20 @@ pub fn read_at(log: &[u8], at: usize) -> Read
     if log.len() - at < 20 {
         return Read::Cut(at);
     }
-    if log[at + 2] != 1 {
+    if !is_version(version) | (log[at + 2] != version) {
         return Read::Version(at);
     }
     Read::Record {
         number: log[at + 3],
         start: at + 4,
     }
+}
+
+// What stands at a position of a log.
+pub fn read_at(log: &[u8], at: usize) -> Read
+    ensures { λ r. ⌜ r ≡ readAt (now (log .entry)) at ⌝ }
+{
+    read_in(log, at, version_of(log))
 }
 
 // The sixteen argument bytes from `start` on, as that part of the log; an empty part where sixteen are not there.

@@ -1,7 +1,7 @@
 // The reader: it holds the lent log and its position. Each function over it is thin, above one on the slice and a number.
 use rules::Read;
 ghost use mathlib.Core.Path.{_≡_};
-ghost use Rattle.rules.specs.Log.{readAt, moveTo};
+ghost use Rattle.rules.specs.Log.{readIn, readAt, moveTo};
 ghost use Rattle.calllog.specs.Part.{PartAt};
 
 // What stands at a position, and the position after it.
@@ -10,15 +10,23 @@ pub struct Step {
     pub at: usize,
 }
 
-pub fn step_at(log: &[u8], at: usize) -> Step
-    ensures { λ r. ⌜ (r .found ≡ readAt (now (log .entry)) at) × (r .at ≡ moveTo (r .found) at) ⌝ }
+// In a log, or a part of one, whose first record has this version.
+pub fn step_in(log: &[u8], at: usize, version: u8) -> Step
+    ensures { λ r. ⌜ (r .found ≡ readIn version (now (log .entry)) at) × (r .at ≡ moveTo (r .found) at) ⌝ }
 {
-    let found = super::read_at(log, at);
+    let found = super::read_in(log, at, version);
     let next = super::move_to(found, at);
     Step {
         found: found,
         at: next,
     }
+}
+
+// In a log that is whole.
+pub fn step_at(log: &[u8], at: usize) -> Step
+    ensures { λ r. ⌜ (r .found ≡ readAt (now (log .entry)) at) × (r .at ≡ moveTo (r .found) at) ⌝ }
+{
+    step_in(log, at, super::version_of(log))
 }
 
 pub struct Reader<'a> {
@@ -51,21 +59,7 @@ impl<'a> Reader<'a> {
     }
 }
 
-// ---- for callers that have the log and a number: they need no reader
-
-// The reader's step from a position.
-pub fn read_next(log: &[u8], at: usize) -> Step
-    ensures { λ r. ⌜ (r .found ≡ readAt (now (log .entry)) at) × (r .at ≡ moveTo (r .found) at) ⌝ }
-{
-    let mut reader = Reader { log, at };
-    let found = reader.next();
-    Step {
-        found: found,
-        at: reader.at,
-    }
-}
-
-// What a reader of the log hands out from `start` on.
+// What a reader of the log hands out from `start` on, for callers that need no reader.
 pub fn read_arguments<'a>(log: &'a [u8], start: usize) -> &'a [u8]
     ensures { λ r. ⌜ PartAt (log .entry) start r ⌝ }
 {

@@ -319,24 +319,20 @@ pub record Calls : Type 0 where
   pub of-both : fresh runs both
   pub of-which : fresh runs which
 
+-- in two lists, so that each is computed within the steps that one proof may take
 abbrev all : List (List Line)
-all =
-    tasks
-    ∷ messages
-    ∷ writers-and-readers
-    ∷ clocks
-    ∷ switches
-    ∷ interrupts
-    ∷ numbers
-    ∷ order
-    ∷ woken
-    ∷ both
-    ∷ which
-    ∷ []
+all = tasks ∷ messages ∷ writers-and-readers ∷ clocks ∷ switches ∷ []
+
+abbrev more : List (List Line)
+more = interrupts ∷ numbers ∷ order ∷ woken ∷ both ∷ which ∷ []
 
 all-run : AllRun fresh all
 unfolding quickly
 all-run = faster fresh all fresh-sound refl
+
+more-run : AllRun fresh more
+unfolding quickly
+more-run = faster fresh more fresh-sound refl
 
 pub calls : Calls
 calls =
@@ -346,10 +342,10 @@ calls =
       of-writers-and-readers = all-run .1 .1 .0;
       of-clocks = all-run .1 .1 .1 .0;
       of-switches = all-run .1 .1 .1 .1 .0;
-      of-interrupts = all-run .1 .1 .1 .1 .1 .0;
-      of-numbers = all-run .1 .1 .1 .1 .1 .1 .0;
-      of-order = all-run .1 .1 .1 .1 .1 .1 .1 .0;
-      of-woken = all-run .1 .1 .1 .1 .1 .1 .1 .1 .0;
-      of-both = all-run .1 .1 .1 .1 .1 .1 .1 .1 .1 .0;
-      of-which = all-run .1 .1 .1 .1 .1 .1 .1 .1 .1 .1 .0;
+      of-interrupts = more-run .0;
+      of-numbers = more-run .1 .0;
+      of-order = more-run .1 .1 .0;
+      of-woken = more-run .1 .1 .1 .0;
+      of-both = more-run .1 .1 .1 .1 .0;
+      of-which = more-run .1 .1 .1 .1 .1 .0;
     }

@@ -4,7 +4,7 @@ use mathlib.Core.Path.{_≡_, refl, ap, _∙_}
 use mathlib.Core.Bool.{true}
 use mathlib.Core.List.{List, [], _∷_, _++_}
 use Rattle.rules.specs.Tables.{tables}
-use Rattle.rules.specs.Fresh.{fresh}
+use Rattle.rules.specs.Fresh.{fresh, freshWith}
 use Rattle.rules.specs.Sound.{sound}
 use Rattle.rules.specs.Text.{textOf}
 use Rattle.rules.specs.Replay.{replayLines, replayText}
@@ -37,10 +37,10 @@ printed =
 
 -- fresh tables, but that the tick count is two ticks from its end
 unfoldable pub late : Tables
-unfolding fresh
+unfolding freshWith
 late =
     tables (fresh .tasks) (fresh .lines) (fresh .semaphores) (fresh .events) (fresh .mailboxes) (fresh .swis) (fresh .clocks) (fresh .heap)
-    (0 ∷ 1 ∷ 1 ∷ 4294967294 ∷ 0 ∷ [])
+    (0 ∷ 1 ∷ 1 ∷ 4294967294 ∷ 0 ∷ 16 ∷ [])
 
 -- "(b) counting post at 65,534 accepted, at 65,535 code 7", of kind 0 and of kind 2
 abbrev pub case-b : List Line

@@ -1,8 +1,8 @@
 -- `readAt` answers exactly what stands at a position, of any bytes and any position: its tests are gone through one after the other.
 use Prim.Native.Nat.{ℕ, suc, _+_, _-_, _*_, _<_, _≤_}
 use mathlib.Core.Path.{_≡_, refl, sym, ap, subst, _∙_}
-use mathlib.Core.Bool.{true, cond as if}
-use mathlib.Core.Logic.{_≢_, _↔_, inl, inr, ⊎-elim}
+use mathlib.Core.Bool.{Bool, true, false, _&&_, cond as if}
+use mathlib.Core.Logic.{_≢_, _⊎_, _↔_, inl, inr, ⊎-elim}
 use mathlib.Core.List.{List, _∷_}
 use native.Mathlib.Omega.{arith}
 use borrow.Author.Tests.{eq-eqb, ne-eqb, lt-ltb, le-ltb}
@@ -10,10 +10,46 @@ use lib.Dec.{eqb, ltb}
 use lib.ListN.{length, take, drop, getD, take-append-drop, length-append, length-drop}
 use lib.Seq.{drop-cons, drop-drop, getD-drop, take-at, length-take-le}
 use Rattle.fold.proofs.Laws.{same?, lt-or-le}
-use Rattle.rules.specs.Log.{halfAt, readAt, argumentBytes, handedOut, argument, moveTo}
+use Rattle.rules.specs.Log.{versionOf, isVersion, halfAt, readIn, readAt, argumentBytes, handedOut, argument, moveTo}
 use Rattle.rules.specs.declared.Read.{Read}
 use Rattle.rules.specs.declared.Read.the-variants.{Record, End, Cut, Length, Version}
-use Rattle.demands.specs.Log.{LengthAt, RecordAt, StandsAt, LogLayout, HandsOut, BigEndian, OnlyRecordsMove}
+use Rattle.demands.specs.Log.{LengthAt, RecordAt, OtherVersion, StandsAt, LogLayout, HandsOut, BigEndian, OnlyRecordsMove}
+
+-- ---- the version: one of the two and the first record's, or not
+abbrev SameVersion : List ℕ → ℕ → Type 0
+SameVersion s v = (v ≡ versionOf s) × ((versionOf s ≡ 0x01) ⊎ (versionOf s ≡ 0x02))
+
+is-version : (v : ℕ) → (v ≡ 1) ⊎ (v ≡ 2) → isVersion v ≡ true
+is-version v (inl e) = rw e
+is-version v (inr e) = rw e
+
+no-version : (v : ℕ) → v ≢ 1 → v ≢ 2 → isVersion v ≡ false
+no-version v a b = rw (ne-eqb v 1 a, ne-eqb v 2 b)
+
+version-same : (s : List ℕ) (v : ℕ) → SameVersion s v → (isVersion (versionOf s) && eqb v (versionOf s)) ≡ true
+version-same s v (e, f) = rw (is-version (versionOf s) f, eq-eqb v (versionOf s) e)
+
+and-false : (b : Bool) → (b && false) ≡ false
+and-false true = refl
+and-false false = refl
+
+version-other : (s : List ℕ) (v : ℕ) → OtherVersion s v → (isVersion (versionOf s) && eqb v (versionOf s)) ≡ false
+version-other s v o =
+    ⊎-elim
+    (λ (e : v ≡ versionOf s). ⊎-elim (λ (n : v ≢ versionOf s). absurd (n e)) (λ n. rw (no-version (versionOf s) (λ f. n .0 (e ∙ f)) (λ f. n .1 (e ∙ f)))) o)
+    (λ (n : v ≢ versionOf s). rw (ne-eqb v (versionOf s) n) (and-false (isVersion (versionOf s))))
+    (same? v (versionOf s))
+
+version? : (s : List ℕ) (v : ℕ) → SameVersion s v ⊎ OtherVersion s v
+version? s v =
+    ⊎-elim
+    (λ (e : v ≡ versionOf s).
+    ⊎-elim
+    (λ (f : v ≡ 1). inl (e, inl (sym e ∙ f)))
+    (λ (n : v ≢ 1). ⊎-elim (λ (f : v ≡ 2). inl (e, inr (sym e ∙ f))) (λ (m : v ≢ 2). inr (inr (n, m))) (same? v 2))
+    (same? v 1))
+    (λ (n : v ≢ versionOf s). inr (inl n))
+    (same? v (versionOf s))
 
 module _ (s : List ℕ) (at : ℕ) where
   -- ---- the record's bytes
@@ -38,15 +74,15 @@ module _ (s : List ℕ) (at : ℕ) where
 
   -- ---- the tests one after the other
   past : length s < at → readAt s at ≡ Cut at
-  unfolding readAt
+  unfolding readIn
   past h = rw (lt-ltb (length s) at h)
 
   none : length s ≡ at → readAt s at ≡ End
-  unfolding readAt
+  unfolding readIn
   none e = rw (le-ltb (length s) at (omega arith), eq-eqb (length s) at e)
 
   one : length s ≡ at + 1 → readAt s at ≡ Cut at
-  unfolding readAt
+  unfolding readIn
   one e =
       rw (le-ltb (length s) at (omega arith), ne-eqb (length s) at (λ (q : length s ≡ at). omega arith), eq-eqb (length s - at) 1 (omega arith))
 
@@ -54,9 +90,9 @@ module _ (s : List ℕ) (at : ℕ) where
   module _ (two : at + 2 ≤ length s) where
     tested : readAt s at
         ≡ if (eqb (halfAt s at) 18)
-        (if (ltb (length s - at) 20) (Cut at) (if (eqb (getD s (at + 2) 0) 1) (Record (getD s (at + 3) 0) (at + 4)) (Version at)))
+        (if (ltb (length s - at) 20) (Cut at) (if (isVersion (versionOf s) && eqb (getD s (at + 2) 0) (versionOf s)) (Record (getD s (at + 3) 0) (at + 4)) (Version at)))
         (Length at)
-    unfolding readAt
+    unfolding readIn
     tested =
         rw (
           le-ltb (length s) at (omega arith),
@@ -75,13 +111,13 @@ module _ (s : List ℕ) (at : ℕ) where
     short h = rw (tested (l .0), good, lt-ltb (length s - at) 20 (omega (arith, l .0)))
 
     module _ (h : at + 20 ≤ length s) where
-      strange : getD s (at + 2) 0 ≢ 0x01 → readAt s at ≡ Version at
-      strange n = rw (tested (l .0), good, le-ltb (length s - at) 20 (omega arith), ne-eqb (getD s (at + 2) 0) 1 n)
+      strange : OtherVersion s (getD s (at + 2) 0) → readAt s at ≡ Version at
+      strange n = rw (tested (l .0), good, le-ltb (length s - at) 20 (omega arith), version-other s (getD s (at + 2) 0) n)
 
-      read : getD s (at + 2) 0 ≡ 0x01 → readAt s at ≡ Record (getD s (at + 3) 0) (at + 4)
-      read e = rw (tested (l .0), good, le-ltb (length s - at) 20 (omega arith), eq-eqb (getD s (at + 2) 0) 1 e)
+      read : SameVersion s (getD s (at + 2) 0) → readAt s at ≡ Record (getD s (at + 3) 0) (at + 4)
+      read e = rw (tested (l .0), good, le-ltb (length s - at) 20 (omega arith), version-same s (getD s (at + 2) 0) e)
 
-      record-there : getD s (at + 2) 0 ≡ 0x01 → RecordAt s at (getD s (at + 3) 0) (argumentBytes s (at + 4))
+      record-there : SameVersion s (getD s (at + 2) 0) → RecordAt s at (getD s (at + 3) 0) (argumentBytes s (at + 4))
       unfolding argumentBytes
       record-there e =
           record {
@@ -94,9 +130,10 @@ module _ (s : List ℕ) (at : ℕ) where
                   next (at + 3) (at + 4) (omega arith) (omega arith),
                   l .1,
                   l .2,
-                  e,
+                  e .0,
                   take-append-drop 16 (drop (at + 4) s),
                 );
+            version = e .1;
             sixteen = length-take-le 16 (drop (at + 4) s) (omega (arith, length-drop (at + 4) s));
           }
 
@@ -120,9 +157,9 @@ module _ (s : List ℕ) (at : ℕ) where
       (λ (h : length s < at + 20). rw (short l h) (refl, inr (inr (l, h))))
       (λ (h : at + 20 ≤ length s).
       ⊎-elim
-      (λ (v : getD s (at + 2) 0 ≡ 1). rw (read l h v) (refl, record-there l h v))
-      (λ (v : getD s (at + 2) 0 ≢ 1). rw (strange l h v) (refl, h, l, v))
-      (same? (getD s (at + 2) 0) 1))
+      (λ (v : SameVersion s (getD s (at + 2) 0)). rw (read l h v) (refl, record-there l h v))
+      (λ (v : OtherVersion s (getD s (at + 2) 0)). rw (strange l h v) (refl, h, l, v))
+      (version? s (getD s (at + 2) 0)))
       (lt-or-le (length s) (at + 20)))
       (λ (e : halfAt s at ≢ 18).
       let differs : LengthAt s at → ⊥ = λ l. let (_, a, b) = l in e (omega arith) in
@@ -136,7 +173,7 @@ module _ (s : List ℕ) (at : ℕ) where
   only (Record number start) (e, r) =
       let h = whole number (argumentBytes s start) r in
       let at-byte = byte _ (r .bytes) in
-      read (omega arith, begins number (argumentBytes s start) r, at-byte 1) h (at-byte 2)
+      read (omega arith, begins number (argumentBytes s start) r, at-byte 1) h (at-byte 2, r .version)
       ∙ ap (λ (n : ℕ). Record n (at + 4)) (at-byte 3)
       ∙ ap (Record number) (sym e)
   only End e = none e

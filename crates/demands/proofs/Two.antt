@@ -2,27 +2,29 @@
 use Prim.{tt}
 use Prim.Native.Nat.{ℕ, _≤_}
 use mathlib.Core.Path.{_≡_, refl, sym, ap, subst, _∙_}
-use mathlib.Core.Logic.{_≢_}
+use mathlib.Core.Logic.{_≢_, ⊎-elim}
 use mathlib.Core.Bool.{true, not, false≢true, and-eq-true-iff}
 use mathlib.Core.List.{List, [], _∷_}
 use native.Mathlib.Omega.{arith}
-use borrow.Author.Tests.{leb-true}
+use borrow.Author.Tests.{leb-true, eqb-true, ne-eqb}
 use lib.Dec.{leb}
+use Rattle.fold.proofs.Laws.{same?}
 use Rattle.fold.specs.Lists.{count, allOf}
 use Rattle.rules.specs.Answer.{Cases, order, firstGiven}
-use Rattle.rules.specs.Tables.{Typed}
-use Rattle.rules.specs.Fresh.{fresh}
+use Rattle.rules.specs.Tables.{Typed, fewLevels, mostLevels}
+use Rattle.rules.specs.Fresh.{fresh, freshWith, isLevels, madeFresh}
 use Rattle.rules.specs.Dispatch.{running}
 use Rattle.rules.specs.Sound.{Sound}
 use Rattle.rules.specs.Step.{step, finished}
 use Rattle.rules.proofs.Agree.{sound-means, means-sound}
-use Rattle.rules.proofs.Faster.{fresh-sound}
+use Rattle.rules.proofs.Faster.{fresh-sound, fresh-for-sound}
 use Rattle.rules.specs.declared.Tables.{Tables}
 use Rattle.rules.specs.declared.Step.{Step}
 use Rattle.runs.specs.Run.{Asked, Words, made, next, after, Each, AllWords}
 use Rattle.refusals.proofs.Demand.{exactly-in, code-is}
 use Rattle.refusals.proofs.First.{by-bool}
 use Rattle.refusals.specs.Refusals.{refusal}
+use Rattle.laws.proofs.Calls.{chosen}
 use Rattle.keeps.proofs.Nothing.{nothing-left}
 use Rattle.turns.proofs.Made.{is-step, next-typed, next-sound}
 use Rattle.demands.specs.Two.{DemandTwo, Kept}
@@ -66,13 +68,34 @@ pub demand-2 : DemandTwo
 demand-2 = is-kept
 
 -- ---- "Fresh tables are sound"
-pub fresh-typed : Typed fresh
-unfolding fresh
-fresh-typed =
+fresh-with-typed : (n : ℕ) → Typed (freshWith n)
+unfolding freshWith
+fresh-with-typed n =
     record { tasks = refl; lines = refl; semaphores = refl; events = refl; mailboxes = refl; swis = refl; clocks = refl; heap = refl; state = refl }
+
+pub fresh-typed : Typed fresh
+fresh-typed = fresh-with-typed fewLevels
 
 pub fresh-is-sound : Sound fresh
 fresh-is-sound = sound-means fresh fresh-sound
+
+-- so are those that are asked for with any number of levels
+pub made-fresh-safe : (n : ℕ) → Typed (madeFresh n .tables) × Sound (madeFresh n .tables)
+unfolding madeFresh
+made-fresh-safe n =
+    chosen (λ (x : Step). Typed (x .tables) × Sound (x .tables)) (isLevels n) _ _
+    (λ e.
+    (
+      fresh-with-typed n,
+      ⊎-elim
+          (λ (few : n ≡ fewLevels). rw few fresh-is-sound)
+          (λ (other : n ≢ fewLevels). rw (most n e other) (sound-means (freshWith mostLevels) (fresh-for-sound 2)))
+          (same? n fewLevels),
+    ))
+    (λ _. (fresh-typed, fresh-is-sound))
+  where
+    most : (n : ℕ) → isLevels n ≡ true → n ≢ fewLevels → n ≡ mostLevels
+    most n e other = eqb-true n mostLevels (rw (ne-eqb n fewLevels other) at e)
 
 -- ---- along any sequence of calls from sound tables: each call keeps them so
 pub along : (t : Tables) → Typed t → Sound t → (qs : List Asked) → AllWords t qs → Each (λ u q. Sound u × Kept u q (made u q)) t qs

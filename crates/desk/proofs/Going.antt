@@ -10,7 +10,8 @@ use lib.ListN.{length, take, drop, length-take}
 use lib.Seq.{sets, sets-eq, take-all, take-add, take-append-seam, drop-length}
 use Rattle.fold.specs.Lists.{bit}
 use Rattle.fold.proofs.Laws.{lt-or-le}
-use Rattle.rules.specs.Log.{readAt}
+use Rattle.rules.specs.Tables.{tables}
+use Rattle.rules.specs.Log.{readIn}
 use Rattle.rules.specs.declared.Read.{Read}
 use Rattle.rules.specs.declared.Read.the-variants.{Record, End, Cut, Length, Version}
 use Rattle.rules.specs.declared.Tables.{Tables}
@@ -18,7 +19,7 @@ use Rattle.rules.proofs.Read as R
 use Rattle.text.specs.Put.{Put}
 use Rattle.text.proofs.Puts.{fits, put-none, put-more}
 use Rattle.calllog.proofs.Records.{record-fits}
-use Rattle.parts.specs.Part.{kept, Left, textBefore, waiting, readable, partOf, turn}
+use Rattle.parts.specs.Part.{kept, Left, textBefore, waiting, versionBy, readable, partOf, begunState, begun, turn}
 use Rattle.reads.specs.declared.Ran.{Ran}
 use Rattle.desk.specs.declared.Progress.{Progress}
 use Rattle.reads.specs.Done.{ranTo, oneFor, Went}
@@ -60,7 +61,7 @@ module _ (last : Bool) (s : List ℕ) (o n₀ : ℕ) (t₀ : Tables) (xs : List 
       (record { text = []; put = put-none 16384 xs 0; whole = part-whole last s o n₀ t₀; inside = omega arith; over = λ h. absurd (true≢false (sym h)) })
 
   -- a read, and what follows it
-  read-last : (f : Read) (at n : ℕ) (t : Tables) → f ≡ readAt s at → readable last s at ≡ true
+  read-last : (f : Read) (at n : ℕ) (t : Tables) → f ≡ readIn (versionBy (t .state)) s at → readable last s at ≡ true
       → partAt last s o at n t
       ≡ textBefore (oneFor f s o n t .text) (rest (oneFor f s o n t .ended) (oneFor f s o n t .at) (oneFor f s o n t .count) (oneFor f s o n t .tables))
   unfolding oneFor
@@ -74,10 +75,10 @@ module _ (last : Bool) (s : List ℕ) (o n₀ : ℕ) (t₀ : Tables) (xs : List 
   abbrev Near : ℕ → ℕ → Bool → Type 0
   Near at next ended = (next ≤ length s) × ((ended ≡ true → next ≡ length s) × (length s - next + bit (not ended) < length s - at + 1))
 
-  read-near : (f : Read) (at n : ℕ) (t : Tables) → f ≡ readAt s at → Near at (oneFor f s o n t .at) (oneFor f s o n t .ended)
+  read-near : (f : Read) (at n : ℕ) (t : Tables) → f ≡ readIn (versionBy (t .state)) s at → Near at (oneFor f s o n t .at) (oneFor f s o n t .ended)
   unfolding oneFor
   read-near (Record number start) at n t e =
-      let k = record-fits s at number start (sym e) in (omega arith, (λ h. absurd (true≢false (sym h)), omega arith))
+      let k = record-fits _ s at number start (sym e) in (omega arith, (λ h. absurd (true≢false (sym h)), omega arith))
   read-near End at n t e = (omega arith, (λ h. refl, omega arith))
   read-near (Cut k) at n t e = (omega arith, (λ h. refl, omega arith))
   read-near (Length k) at n t e = (omega arith, (λ h. refl, omega arith))
@@ -85,22 +86,22 @@ module _ (last : Bool) (s : List ℕ) (o n₀ : ℕ) (t₀ : Tables) (xs : List 
 
   module _ {t : Tables} {ys : List ℕ} {p : Ran} (w : Sofar t ys p) where
     module _ (on : (not (p .ended) && readable last s (p .at)) ≡ true) {u : Tables} {zs : List ℕ} {r : Ran}
-        (g : Went (oneFor (readAt s (p .at)) s o (p .count) t) u ys (p .len) zs r) where
+        (g : Went (oneFor (readIn (versionBy (t .state)) s (p .at)) s o (p .count) t) u ys (p .len) zs r) where
       going : (p .ended ≡ false) × (readable last s (p .at) ≡ true)
       going = goes-on (p .ended) (readable last s (p .at)) on
 
-      near : Near (p .at) (oneFor (readAt s (p .at)) s o (p .count) t .at) (oneFor (readAt s (p .at)) s o (p .count) t .ended)
-      near = read-near (readAt s (p .at)) (p .at) (p .count) t refl
+      near : Near (p .at) (oneFor (readIn (versionBy (t .state)) s (p .at)) s o (p .count) t .at) (oneFor (readIn (versionBy (t .state)) s (p .at)) s o (p .count) t .ended)
+      near = read-near (readIn (versionBy (t .state)) s (p .at)) (p .at) (p .count) t refl
 
       -- one read more
       pub sofar-next : Sofar u zs r
       sofar-next =
           record {
-            text = w .text ++ oneFor (readAt s (p .at)) s o (p .count) t .text;
+            text = w .text ++ oneFor (readIn (versionBy (t .state)) s (p .at)) s o (p .count) t .text;
             put = put-more (w .put) (g .line);
             whole =
                 w .whole
-                ∙ rw (going .0, read-last (readAt s (p .at)) (p .at) (p .count) t refl (going .1), g .at, g .count, g .tables, g .ended) (simp append-assoc);
+                ∙ rw (going .0, read-last (readIn (versionBy (t .state)) s (p .at)) (p .at) (p .count) t refl (going .1), g .at, g .count, g .tables, g .ended) (simp append-assoc);
             inside = rw (g .at) (near .0);
             over = λ k. g .at ∙ near .1 .0 (sym (g .ended) ∙ k);
           }
@@ -153,15 +154,20 @@ module _ (last : Bool) (p : Progress) (more : ℕ) (t₀ : Tables) (ps xs : List
   abbrev leaves : Left
   leaves = turn last (behind ps p more) (leftOf t₀ ps xs p)
 
+  -- the tables with the state that a log leaves that begins
+  abbrev withState : List ℕ → Tables
+  withState st = tables (t₀ .tasks) (t₀ .lines) (t₀ .semaphores) (t₀ .events) (t₀ .mailboxes) (t₀ .swis) (t₀ .clocks) (t₀ .heap) st
+
   pub turned : {n : ℕ} → n ≡ min (p .held) 2560 + min more 2560 → {s : List ℕ} → s ≡ take n ps
-      → {t : Tables} {ys : List ℕ} (r : Ran) → Gone (partOf last s (p .offset) (p .count) t₀) s (p .offset) t xs ys r
+      → {st : List ℕ} → st ≡ begunState (p .count) s (t₀ .state)
+      → {t : Tables} {ys : List ℕ} (r : Ran) → Gone (partOf last s (p .offset) (p .count) (withState st)) s (p .offset) t xs ys r
       → {qs : List ℕ} {held : ℕ} → (qs ≡ sets ps 0 (drop (r .at) (take n ps))) × (held ≡ length (drop (r .at) (take n ps)))
       → {q : Progress} → q ≡ comeTo (p .offset) r held
       → Turned leaves t ps qs xs ys q
-  turned {n} e {s} f {t} {ys} r g {qs} {held} m {q} c =
+  turned {n} e {s} f {st} begins {t} {ys} r g {qs} {held} m {q} c =
       let all : take n ps ≡ bytes = rw e (both-are (p .held) more ps size) in
-      let h : Gone leaves bytes (p .offset) t xs ys r = rw (f ∙ all) at g in
-      let b = part-bounded last bytes (p .offset) (p .count) t₀ in
+      let h : Gone leaves bytes (p .offset) t xs ys r = rw (begins, f ∙ all) at g in
+      let b = part-bounded last bytes (p .offset) (p .count) (begun (p .count) bytes t₀) in
       let short : length bytes ≤ 2560 = omega (arith, ap length all, length-take n ps) in
       let whole = fits 16384 0 (leaves .text) (omega (arith, b .text)) in
       let text-is : ys ≡ sets xs 0 (leaves .text) = h .text .bytes ∙ rw whole in

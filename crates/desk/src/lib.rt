@@ -1,6 +1,7 @@
 // The replay of a log that comes part by part, as text. The calls are made on lent tables, and of the log only the bytes of a record
 // that is not whole yet are kept.
 use reads::Ran;
+use reads::begin;
 use reads::next_line;
 use reads::ran_to;
 use rules::Clocks;
@@ -157,6 +158,7 @@ pub fn replay_part(
     sized(*out);
     let n = end_of(p.held, more);
     let log = text::front(part, n);
+    begin(state, log, p.count);
     let ran = records(
         tasks,
         lines,

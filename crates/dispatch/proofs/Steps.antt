@@ -48,7 +48,7 @@ module _ (ws ls st : List ℕ) {t : Bool} (is : t ≡ swiDue ws ls st) where
   no-swi w = rw (sym is ∙ w)
 
 module _ (ls st : List ℕ) {t : Bool} (is : t ≡ taskDue ls st) where
-  pub task-chosen : t ≡ true → {i v : ℕ} → i ≡ front levels ls → v ≡ i → set st 4 v ≡ taskDispatched ls st
+  pub task-chosen : t ≡ true → {i v : ℕ} → i ≡ front (levels st) ls → v ≡ i → set st 4 v ≡ taskDispatched ls st
   unfolding taskDispatched
   task-chosen w a b = rw (b, a, sym is ∙ w)
 

@@ -81,6 +81,6 @@ pub fn dispatch_tasks(lines: &Lines, state: &mut State)
         ≡ taskDispatched (now (lines .entry)) (now (state .entry)) ⌝ }
 {
     if due::task_due(lines, state) {
-        state[4] = number(due::front(lines));
+        state[4] = number(due::front(lines, state));
     }
 }

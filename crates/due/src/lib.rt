@@ -13,9 +13,11 @@ ghost use Rattle.rules.specs.Lines.{anyone, readyLine};
 ghost use Rattle.rules.specs.Dispatch.{highestPosted, activeLevel, swiDue};
 ghost use Rattle.rules.specs.Dispatch.{highestReady, front, taskDue};
 
-// How many ready queues there are, and how many queues of posted Swis, one for each priority
-// from 0 on.
-const LEVELS: usize = 16;
+// How many ready queues are in use, few or most, and how many queues of posted Swis there are,
+// one for each priority from 0 on.
+const FEW_LEVELS: usize = 16;
+
+const MOST_LEVELS: usize = 32;
 
 const SWI_LEVELS: usize = 16;
 
@@ -88,12 +90,23 @@ fn ready_queues(lines: &Lines, n: usize) -> u32
     ones(n) - empties
 }
 
-// One more than the highest priority at which a task is ready; 0 where none is. No. 6: 'find the
-// top one by the count of leading zeros'.
-pub fn highest_ready(lines: &Lines) -> usize
-    ensures { λ r. ⌜ (r ≡ highestReady levels (now (lines .entry))) × (r ≤ 16) ⌝ }
+// Of the first n ready queues, up to 32: one more than the highest priority at which a task is
+// ready; 0 where none is. No. 6: 'find the top one by the count of leading zeros'.
+fn highest_of(lines: &Lines, n: usize) -> usize
+    ensures { λ r. ⌜ (r ≡ highestReady (min n 32) (now (lines .entry))) × (r ≤ 32) ⌝ }
 {
-    WORD_BITS - u32::leading_zeros(ready_queues(lines, LEVELS)) as usize
+    WORD_BITS - u32::leading_zeros(ready_queues(lines, n)) as usize
+}
+
+// One more than the highest priority at which a task is ready; 0 where none is. Both numbers of
+// levels are named, so that each search is compiled for its own.
+pub fn highest_ready(lines: &Lines, state: &State) -> usize
+    ensures { λ r. ⌜ (r ≡ highestReady (levels (now (state .entry))) (now (lines .entry))) × (r ≤ 32) ⌝ }
+{
+    if state[words::LEVELS] == rules::MOST_LEVELS {
+        return highest_of(lines, MOST_LEVELS);
+    }
+    highest_of(lines, FEW_LEVELS)
 }
 
 // One more than the top active Swi's priority; 0 where none is active.
@@ -134,10 +147,10 @@ pub fn task_due(lines: &Lines, state: &State) -> bool
 }
 
 // The front of the highest non-empty ready queue; 0 where all are empty.
-pub fn front(lines: &Lines) -> u8
-    ensures { λ r. ⌜ r ≡ front levels (now (lines .entry)) ⌝ }
+pub fn front(lines: &Lines, state: &State) -> u8
+    ensures { λ r. ⌜ r ≡ front (levels (now (state .entry))) (now (lines .entry)) ⌝ }
 {
-    let level = highest_ready(lines);
+    let level = highest_ready(lines, state);
     if level == 0 {
         return 0;
     }

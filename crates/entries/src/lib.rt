@@ -15,7 +15,7 @@ use rules::Tables;
 use rules::Tasks;
 use rules::Thread;
 ghost use mathlib.Core.Path.{_≡_};
-ghost use Rattle.rules.specs.Fresh.{fresh};
+ghost use Rattle.rules.specs.Fresh.{madeFresh};
 ghost use Rattle.rules.specs.Step.{stepOf};
 ghost use Rattle.runs.specs.Run.{asked};
 ghost use Rattle.demands.specs.One.{threadOf};
@@ -23,12 +23,23 @@ ghost use Rattle.demands.specs.Promised.{Promised};
 ghost use Rattle.lent.specs.Lent.{before, leaves};
 ghost use Rattle.kernel.specs.Safe.{Safe};
 
-// Fresh tables: they are sound.
-pub fn fresh() -> Tables
-    ensures { λ r. ⌜ r ≡ fresh ⌝ }
-    ensures { λ r. ⌜ Safe r ⌝ }
+// Fresh tables with 16 levels or 32: they are sound. No. 14: 'fresh tables asked for with other levels are 4 and come with 16'.
+pub fn fresh(levels: u32) -> Step
+    ensures { λ r. ⌜ r ≡ madeFresh levels ⌝ }
+    ensures { λ r. ⌜ Safe (r .tables) ⌝ }
 {
-    rows::fresh()
+    if (levels == rules::FEW_LEVELS) | (levels == rules::MOST_LEVELS) {
+        return Step {
+            tables: rows::fresh(levels),
+            answer: rows::answers::accepted(0, 0),
+            thread: Thread::Task(0),
+        };
+    }
+    Step {
+        tables: rows::fresh(rules::FEW_LEVELS),
+        answer: rows::answers::refused(4),
+        thread: Thread::Task(0),
+    }
 }
 
 // One call on lent tables: code 10 and no change where they are not sound.

@@ -36,7 +36,7 @@ tablesOf one two priority waiters at5 at6 current =
     tables (ready ∷ (zeros 7 ++ (one ∷ 5 ∷ (zeros 6 ++ (two ∷ priority ∷ zeros 238)))))
     (linesWith (semaphoreLine 0 has waiters ∷ readyLine 0 has (0 ∷ []) ∷ readyLine 5 has at5 ∷ readyLine 6 has at6 ∷ []))
     (1 ∷ 2 ∷ zeros 46) (zeros 16) (zeros 80) (zeros 96) (zeros 80) (zeros 256)
-    (0 ∷ 1 ∷ 1 ∷ 0 ∷ current ∷ [])
+    (0 ∷ 1 ∷ 1 ∷ 0 ∷ current ∷ 16 ∷ [])
 
 unfoldable pub start : Tables
 start = tablesOf ready 0 0 [] (1 ∷ []) [] 1

@@ -178,6 +178,6 @@ gone-at-last p x t [] e = e
 gone-at-last p x t (q ∷ qs) e = inr (inr (gone-at-last p x (next t q) qs e))
 
 -- no task is ready above the highest at which one is
-pub none-higher : (t : Tables) (r : ℕ) → highestReady levels (t .lines) ≤ r → r < levels → queue r t ≡ []
+pub none-higher : (t : Tables) (r : ℕ) → highestReady (levels (t .state)) (t .lines) ≤ r → r < levels (t .state) → queue r t ≡ []
 unfolding highestReady
-none-higher t r over under = no-length _ (ltb-false 0 _ (high-is levels (λ p. anyone (t .lines) (readyLine p)) .after r over under))
+none-higher t r over under = no-length _ (ltb-false 0 _ (high-is (levels (t .state)) (λ p. anyone (t .lines) (readyLine p)) .after r over under))

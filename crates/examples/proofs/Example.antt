@@ -88,7 +88,7 @@ served =
 
 -- ---- its turn in the queue: of those before it, 1 yields and 2 ends
 pub in-ending : ReadyAt 5 3 ending × (queue 5 ending ≡ 3 ∷ 1 ∷ 4 ∷ []) × (running (ending .lines) (ending .state) ≡ Task 3)
-    × (highestReady levels (ending .lines) ≡ 6) × (line (ending .lines) activeLine ≡ [])
+    × (highestReady (levels (ending .state)) (ending .lines) ≡ 6) × (line (ending .lines) activeLine ≡ [])
 unfolding quickly linesWith tablesOf ending
 in-ending = ((refl, refl), refl, refl, refl, refl)
 

@@ -11,9 +11,9 @@ use native.Mathlib.Omega.{arith}
 use lib.ListN.{getD, take, drop}
 use Rattle.fold.specs.Lists.{zeros}
 use Rattle.rules.specs.Answer.{answer}
-use Rattle.rules.specs.Tables.{Typed, forever, ready, tables, semaphore, COUNT}
+use Rattle.rules.specs.Tables.{Typed, fewLevels, forever, ready, tables, semaphore, COUNT}
 use Rattle.rules.specs.Lines.{readyLine}
-use Rattle.rules.specs.Fresh.{fresh}
+use Rattle.rules.specs.Fresh.{fresh, madeFresh}
 use Rattle.rules.specs.Sound.{Sound}
 use Rattle.rules.specs.declared.Tables.{Tables}
 use Rattle.rules.proofs.Runs.{Line, Said, _⇒_, said, saw, says, look, calls, answers, T, I, createTask, createSemaphore, deleteSemaphore, pend, post}
@@ -117,7 +117,7 @@ unfoldable pub now : Tables
 now =
     tables (ready ∷ (zeros 7 ++ (ready ∷ 5 ∷ zeros 246))) (linesWith (readyLine 0 has (0 ∷ []) ∷ readyLine 5 has (1 ∷ []) ∷ []))
     (1 ∷ 2 ∷ 2 ∷ 1 ∷ 0 ∷ 65535 ∷ 1 ∷ 1 ∷ 1 ∷ zeros 39) (zeros 16) (zeros 80) (zeros 96) (zeros 80) (zeros 256)
-    (0 ∷ 1 ∷ 1 ∷ 1 ∷ 1 ∷ [])
+    (0 ∷ 1 ∷ 1 ∷ 1 ∷ 1 ∷ 16 ∷ [])
 
 pub to-now : Leads anything 0 fresh run 4 now
 unfolding quickly linesWith pass inWords now
@@ -201,9 +201,9 @@ one-balanced = in-run right stated 1 (counting .1) resetOne refl refl refl
 
 -- ---- from fresh tables on the theorem finds the last creation itself, and it is this one
 pub found : (x : LastSet 0 (history fresh runCalls)) × (x .call ≡ at createdZero) × (x .since ≡ since createdZero)
-unfolding howMany
+unfolding howMany madeFresh
 found =
-    let (x, _) = no-post-lost-from-fresh runCalls (to-now .words) 0 (rw (to-now .now) (counting .0)) in
+    let (x, _) = no-post-lost-from-fresh fewLevels runCalls (to-now .words) 0 (rw (to-now .now) (counting .0)) in
     let here : LastSet 0 (history fresh runCalls) =
     record { before = take createdZero all; call = at createdZero; since = since createdZero; split = is-all; sets = refl; noneSince = refl } in
     let (call, later) = one-last 0 (history fresh runCalls) x here in

@@ -75,7 +75,7 @@ tablesOf rows waiters queue count ticks current =
     tables (ready ∷ (zeros 7 ++ (rows ++ zeros 216)))
     (linesWith (semaphoreLine 0 has waiters ∷ readyLine 0 has (0 ∷ []) ∷ readyLine 5 has queue ∷ []))
     (1 ∷ 0 ∷ count ∷ 1 ∷ 0 ∷ 65535 ∷ zeros 42) (zeros 16) (zeros 80) (zeros 96) (zeros 80) (zeros 256)
-    (0 ∷ 1 ∷ 1 ∷ ticks ∷ current ∷ [])
+    (0 ∷ 1 ∷ 1 ∷ ticks ∷ current ∷ 16 ∷ [])
 
 -- a row: mode, priority, object, left, first, second, outcome, value
 abbrev pub row : ℕ → ℕ → ℕ → List ℕ

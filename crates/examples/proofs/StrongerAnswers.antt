@@ -12,11 +12,11 @@ use lib.ListN.{length, getD}
 use Rattle.fold.specs.Lists.{count, ahead, allOf, bit, zeros}
 use Rattle.rules.specs.Answer.{order, answer}
 use Rattle.rules.specs.Tables.{Typed, wordEnd, tables, TASKS}
-use Rattle.rules.specs.Fresh.{fresh, freshTasks, freshLines}
+use Rattle.rules.specs.Fresh.{fresh, freshWith, freshTasks, freshLines}
 use Rattle.rules.specs.Dispatch.{running}
 use Rattle.rules.specs.Sound.{Sound, sound}
 use Rattle.rules.specs.Step.{stepOf, call}
-use Rattle.rules.specs.Log.{readAt}
+use Rattle.rules.specs.Log.{readIn, readAt}
 use Rattle.rules.specs.declared.Tables.{Tables}
 use Rattle.rules.specs.declared.Step.{Step}
 use Rattle.rules.specs.declared.Read.the-variants.{Length}
@@ -36,7 +36,7 @@ use Rattle.examples.proofs.BySteps.{pass, inWords, Leads, leads, anythi
 
 -- ---- tables that are not sound: fresh ones, but that task 1 is the current one
 unfoldable stray : Tables
-stray = tables freshTasks freshLines (zeros 48) (zeros 16) (zeros 80) (zeros 96) (zeros 80) (zeros 256) (0 ∷ 1 ∷ 1 ∷ 0 ∷ 1 ∷ [])
+stray = tables freshTasks freshLines (zeros 48) (zeros 16) (zeros 80) (zeros 96) (zeros 80) (zeros 256) (0 ∷ 1 ∷ 1 ∷ 0 ∷ 1 ∷ 16 ∷ [])
 
 stray-typed : Typed stray
 unfolding stray
@@ -98,7 +98,7 @@ abbrev yields : List Line
 yields = yield ⇒ said 9 0 0 (T 0) ∷ []
 
 unfoldable off : Tables
-off = tables freshTasks freshLines (zeros 48) (zeros 16) (zeros 80) (zeros 96) (zeros 80) (zeros 256) (0 ∷ 1 ∷ 0 ∷ 0 ∷ 0 ∷ [])
+off = tables freshTasks freshLines (zeros 48) (zeros 16) (zeros 80) (zeros 96) (zeros 80) (zeros 256) (0 ∷ 1 ∷ 0 ∷ 0 ∷ 0 ∷ 16 ∷ [])
 
 to-off : Leads anything 0 fresh switchedOff 0 off
 unfolding quickly pass inWords off
@@ -118,7 +118,7 @@ not-without-code-9 every =
 
 -- ---- "length not 18, `length`; fewer than 18 after it, `cut`": the log 00 13 is `length`, though twenty bytes are not there
 pub not-cut-before-length : ((s : List ℕ) (at n : ℕ) → readAt s at ≡ Length n → at + 20 ≤ length s) → ⊥
-unfolding readAt
+unfolding readIn
 not-cut-before-length every = omega (arith, every (0x00 ∷ 0x13 ∷ []) 0 0 refl)
 
 -- ---- entry calls: one on fresh tables, as it is made
@@ -165,7 +165,7 @@ tablesFirst t [] = t
 tablesFirst t (e ∷ es) = tablesFirst t es
 
 pub not-on-the-first-tables : ((t : Tables) → Sound t → (es : List Entered) → Sequence t es → tablesFirst t es ≡ after t (Entries.calls es)) → ⊥
-unfolding tablesFirst Entries.calls fresh off
+unfolding tablesFirst Entries.calls freshWith off
 not-on-the-first-tables every =
     let same = every fresh fresh-is-sound (entered (asked 0x77 2 0 0 0) ∷ []) (one-call 0x77 2 (omega arith)) ∙ to-off .now in
     omega (arith, ap (λ (t : Tables). getD (t .state) TASKS 0) same)

@@ -230,7 +230,7 @@ taken =
     tables (ready ∷ (zeros 7 ++ (ready ∷ 5 ∷ (zeros 6 ++ (ready ∷ 6 ∷ zeros 238)))))
     (linesWith (readyLine 0 has (0 ∷ []) ∷ readyLine 5 has (1 ∷ []) ∷ readyLine 6 has (2 ∷ []) ∷ []))
     (1 ∷ zeros 47) (zeros 16) (zeros 80) (zeros 96) (zeros 80) (zeros 256)
-    (0 ∷ 1 ∷ 1 ∷ 0 ∷ 2 ∷ [])
+    (0 ∷ 1 ∷ 1 ∷ 0 ∷ 2 ∷ 16 ∷ [])
 
 to-taken : Leads anything 0 fresh byTaskTwo 1 taken
 unfolding quickly linesWith pass inWords taken

@@ -96,14 +96,14 @@ outranked =
     tables (ready ∷ (zeros 7 ++ (row ready 0 1 ++ (row terminated 0 0 ++ (row ready 0 0 ++ (row ready 0 0 ++ (ready ∷ 6 ∷ zeros 214)))))))
     (linesWith (readyLine 0 has (0 ∷ []) ∷ readyLine 5 has (3 ∷ 1 ∷ 4 ∷ []) ∷ readyLine 6 has (5 ∷ []) ∷ []))
     (1 ∷ 0 ∷ 1 ∷ 1 ∷ 0 ∷ 65535 ∷ zeros 42) (zeros 16) (zeros 80) (zeros 96) (zeros 80) (zeros 256)
-    (0 ∷ 1 ∷ 1 ∷ 3 ∷ 5 ∷ [])
+    (0 ∷ 1 ∷ 1 ∷ 3 ∷ 5 ∷ 16 ∷ [])
 
 to-outranked : Leads anything 0 moment outranking 1 outranked
 unfolding quickly linesWith tablesOf pass inWords moment outranked
 to-outranked = leads anything 0 moment (to-moment .typed) (to-moment .sound) outranking 1 outranked refl refl
 
 in-outranked : ReadyAt 5 3 outranked × (queue 5 outranked ≡ 3 ∷ drop 1 (queue 5 outranked)) × (running (outranked .lines) (outranked .state) ≡ Task 5)
-    × (highestReady levels (outranked .lines) ≡ 7) × (line (outranked .lines) activeLine ≡ [])
+    × (highestReady (levels (outranked .state)) (outranked .lines) ≡ 7) × (line (outranked .lines) activeLine ≡ [])
 unfolding quickly ahead linesWith outranked
 in-outranked = ((refl, refl), refl, refl, refl, refl)
 

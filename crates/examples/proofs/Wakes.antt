@@ -62,7 +62,7 @@ tablesOf one two four five seven standing bits first second current =
     (row ready 0 0 0 0 ++ (one ++ (two ++ (row atSemaphore 5 0 0 0 ++ (four ++ (five ++ (row reading 5 0 0 0 ++ (seven ++ zeros 192))))))))
     (linesWith (readyLine 0 has (0 ∷ []) ∷ standing))
     (1 ∷ zeros 47) (1 ∷ bits ∷ zeros 14) (empty ++ (first ++ (second ++ zeros 50))) (zeros 96) (zeros 80) (zeros 256)
-    (0 ∷ 1 ∷ 1 ∷ 0 ∷ current ∷ [])
+    (0 ∷ 1 ∷ 1 ∷ 0 ∷ current ∷ 16 ∷ [])
 
 -- the rows while all wait
 abbrev one : List ℕ

@@ -7,7 +7,7 @@ use mathlib.Core.List.{List}
 use native.Mathlib.Omega.{arith}
 use lib.Dec.{eqb, ltb}
 use Rattle.fold.specs.Rule.{Means}
-use Rattle.rules.specs.Tables.{taskCount, minusOne, ready, inactive, task}
+use Rattle.rules.specs.Tables.{taskCount, minusOne, ready, inactive, task, levels}
 use Rattle.rules.specs.Lines.{postedLine, activeLine, line, homeBy, homeOf, taskHome, Queued, moved, atBack}
 use Rattle.rules.specs.Waits.{readied, woken}
 use Rattle.rules.specs.Tasks.{blocked, placedAt, reprioritized}
@@ -30,9 +30,9 @@ Aside h = (j : ℕ) → postedLine 0 ≤ j → j ≤ activeLine → j ≢ h
 pub stands-aside : (k : Task) → Stands k → Aside (homeOf k)
 stands-aside k s j low high e = ⊎-elim (λ o. not-of-swis (homeOf k) j o low high (sym e)) (λ n. omega arith) (stands-in k s)
 
-module _ (q : Queued) (rows : Means (tasksRule (q .tasks))) where
+module _ (q : Queued) (sx : List ℕ) (rows : Means (tasksRule (levels sx) (q .tasks))) where
   pub home-aside : (i : ℕ) → Aside (taskHome (q .tasks) i)
-  home-aside i = stands-aside (task (q .tasks) i) (task-stands (q .tasks) rows i)
+  home-aside i = stands-aside (task (q .tasks) i) (task-stands _ (q .tasks) rows i)
 
   pub moved-aside : (place : List ℕ → ℕ) (i : ℕ) (k : Task) → Aside (homeOf k) → SwisStay (q .lines) (moved place i k q .lines)
   unfolding moved

@@ -36,7 +36,7 @@ module _ (cs : List ℕ) (i : ℕ) (k : Clock) where
 pub clock-keeps : (t : Tables) → Almost t → (i : ℕ) (k : Clock) → Means (clockRule (t .swis) k) → Almost (withClocks t (withClock (t .clocks) i k))
 clock-keeps t a i k rule =
     others-change t a (t .semaphores) (t .events) (t .mailboxes) (withClock (t .clocks) i k) (t .heap) (t .state)
-    refl refl refl (length-withClock (t .clocks) i k) refl refl (a .semaphores) (a .events) (a .mailboxes)
+    refl refl refl (length-withClock (t .clocks) i k) refl refl refl (a .semaphores) (a .events) (a .mailboxes)
     (λ x h.
     ⊎-elim
     (λ (e : x ≡ i). rw (e, clock-same (t .clocks) i k (a .typed .clocks) (rw e at h)) rule)

@@ -8,7 +8,7 @@ use lib.Dec.{eqb}
 use lib.ListN.{length}
 use Rattle.fold.specs.Lists.{bit, count}
 use Rattle.fold.specs.Rule.{Means}
-use Rattle.rules.specs.Tables.{Typed, tables, taskCount, wordEnd, ready, task, state, DEPTH, SWIS, TASKS, CURRENT}
+use Rattle.rules.specs.Tables.{levels, LEVELS, Typed, tables, taskCount, wordEnd, ready, task, state, DEPTH, SWIS, TASKS, CURRENT}
 use Rattle.rules.specs.Lines.{lineCount, postedLine, activeLine, line, taskHome, swiHome}
 use Rattle.rules.specs.Answer.{Call, codeOf}
 use Rattle.rules.specs.Dispatch.{swiDue, taskDue}
@@ -44,7 +44,7 @@ pub record Almost (t : Tables) : Type 0 where
   pub typed : Typed t
   pub heap : Means (heapRule (t .heap))
   pub clocks : Means (clocksRule (t .clocks) (t .swis))
-  pub tasks : Means (tasksRule (t .tasks))
+  pub tasks : Means (tasksRule (levels (t .state)) (t .tasks))
   pub lines : Means (linesRule (t .lines))
   pub standing : Standing (t .tasks) (t .swis) (t .lines)
   pub semaphores : Means (semaphoresRule (t .semaphores) (t .lines))
@@ -56,10 +56,10 @@ pub record Almost (t : Tables) : Type 0 where
 -- the tables in which nobody stands change: the objects, the clocks, the heap and the state
 pub others-change : (t : Tables) → Almost t → (ss es ms cs h st : List ℕ)
     → length ss ≡ length (t .semaphores) → length es ≡ length (t .events) → length ms ≡ length (t .mailboxes) → length cs ≡ length (t .clocks)
-    → length h ≡ length (t .heap) → length st ≡ length (t .state)
+    → length h ≡ length (t .heap) → length st ≡ length (t .state) → levels st ≡ levels (t .state)
     → Means (semaphoresRule ss (t .lines)) → Means (eventsRule (t .tasks) es (t .lines)) → Means (mailboxesRule (t .tasks) ms (t .lines))
     → Means (clocksRule cs (t .swis)) → Means (heapRule h) → Almost (tables (t .tasks) (t .lines) ss es ms (t .swis) cs h st)
-others-change t a ss es ms cs h st sl el ml cl hl tl sr er mr cr hr =
+others-change t a ss es ms cs h st sl el ml cl hl tl same sr er mr cr hr =
     record {
       typed =
           record {
@@ -75,7 +75,7 @@ others-change t a ss es ms cs h st sl el ml cl hl tl sr er mr cr hr =
           };
       heap = hr;
       clocks = cr;
-      tasks = a .tasks;
+      tasks = rw same (a .tasks);
       lines = a .lines;
       standing = a .standing;
       semaphores = sr;
@@ -90,6 +90,7 @@ pub record Ranges (st : List ℕ) : Type 0 where
   pub swis : state st SWIS < 2
   pub tasks : state st TASKS < 2
   pub current : state st CURRENT < taskCount
+  pub levels : (state st LEVELS ≡ 16) ⊎ (state st LEVELS ≡ 32)
 
 -- between a call's effect and dispatch: the current task is ready, or dispatch is about to choose another
 pub record Settling (t : Tables) : Type 0 where

@@ -29,3 +29,4 @@ pub mod OfSwitches
 pub mod Keeps
 pub mod Nothing
 pub mod Quiet
+pub mod Raised

@@ -11,7 +11,7 @@ use borrow.Author.Tests.{lt-ltb, eq-eqb, ne-eqb}
 use Rattle.fold.specs.Lists.{bit, count, without, putAt}
 use Rattle.fold.specs.Rule.{Means}
 use Rattle.fold.proofs.Laws.{same?, count-putAt, count-without, count-without-other, length-without, without-absent, room}
-use Rattle.rules.specs.Tables.{Typed, taskCount, atSemaphore, atEvent, reading, writing, task, withTask, semaphore, event, mailbox, USED, COUNT, BITS, CAPACITY, MESSAGES}
+use Rattle.rules.specs.Tables.{Typed, taskCount, atSemaphore, atEvent, reading, writing, task, withTask, semaphore, event, mailbox, USED, COUNT, BITS, CAPACITY, MESSAGES, levels}
 use Rattle.rules.specs.Lines.{lineCount, lineMost, semaphoreLine, eventLine, mailboxLine, postedLine, activeLine, line, homeOf, taskHome, left, entered, Queued, queued, moved}
 use Rattle.rules.specs.Events.{matched}
 use Rattle.rules.specs.Sound.{taskRule, tasksRule, linesRule, semaphoresRule, eventsRule, mailboxesRule}
@@ -42,7 +42,7 @@ pub record Welcome (t : Tables) (i : ℕ) (k : Task) : Type 0 where
       → (mailbox (t .mailboxes) (k .object) CAPACITY ≢ 0)
       × (mailbox (t .mailboxes) (k .object) MESSAGES ≡ mailbox (t .mailboxes) (k .object) CAPACITY)
 
-pub queued-typed : (t : Tables) (q : Queued) → Typed t → length (q .tasks) ≡ 256 → length (q .lines) ≡ 2145 → Typed (withQueued t q)
+pub queued-typed : (t : Tables) (q : Queued) → Typed t → length (q .tasks) ≡ 256 → length (q .lines) ≡ 2673 → Typed (withQueued t q)
 queued-typed t q typed tasks lines =
     record {
       tasks = tasks;
@@ -56,7 +56,7 @@ queued-typed t q typed tasks lines =
       state = typed .state;
     }
 
-module _ (t : Tables) (a : Almost t) (place : List ℕ → ℕ) (i : ℕ) (k : Task) (lt : i < taskCount) (row : Means (taskRule i k)) where
+module _ (t : Tables) (a : Almost t) (place : List ℕ → ℕ) (i : ℕ) (k : Task) (lt : i < taskCount) (row : Means (taskRule (levels (t .state)) i k)) where
   abbrev new : Queued
   new = moved place i k (queued (t .tasks) (t .lines))
 
@@ -67,7 +67,7 @@ module _ (t : Tables) (a : Almost t) (place : List ℕ → ℕ) (i : ℕ) (k : T
   abbrev rest : ℕ → List ℕ
   rest j = without i (line (t .lines) j)
 
-  mid-full : length mid ≡ 2145
+  mid-full : length mid ≡ 2673
   mid-full = length-left (t .lines) (taskHome (t .tasks) i) i ∙ a .typed .lines
 
   -- what the move is, for a task that there is
@@ -125,7 +125,7 @@ module _ (t : Tables) (a : Almost t) (place : List ℕ → ℕ) (i : ℕ) (k : T
       (same? j (homeOf k)))
 
   pub moved-swi-line : SwisStay (t .lines) (moved place i k (queued (t .tasks) (t .lines)) .lines)
-  moved-swi-line = moved-aside (queued (t .tasks) (t .lines)) (a .tasks) place i k (stands-aside k (row-stands i k row))
+  moved-swi-line = moved-aside (queued (t .tasks) (t .lines)) _ (a .tasks) place i k (stands-aside k (row-stands _ i k row))
 
   -- the two kinds of lines of tasks
   pub moved-into : (j : ℕ) → OfTasks j → j ≡ homeOf k → line (new .lines) j ≡ putAt (place (rest j)) i (rest j)
@@ -165,8 +165,8 @@ module _ (t : Tables) (a : Almost t) (place : List ℕ → ℕ) (i : ℕ) (k : T
       (rw moved-is (length-withTask (t .tasks) i k ∙ a .typed .tasks))
       (rw moved-is (length-entered mid (homeOf k) i place ∙ mid-full))
 
-  moved-tasks : Means (tasksRule (new .tasks))
-  moved-tasks = rw moved-is (tasks-withTask (t .tasks) i k (a .typed .tasks) lt (a .tasks) row)
+  moved-tasks : Means (tasksRule (levels (t .state)) (new .tasks))
+  moved-tasks = rw moved-is (tasks-withTask _ (t .tasks) i k (a .typed .tasks) lt (a .tasks) row)
 
   moved-lines : Means (linesRule (new .lines))
   moved-lines =
@@ -190,7 +190,7 @@ module _ (t : Tables) (a : Almost t) (place : List ℕ → ℕ) (i : ℕ) (k : T
     moved-semaphores s h =
         ⊎-elim
         (λ (e : semaphoreLine s ≡ homeOf k).
-        let (m, q) = semaphore-row k (row-stands i k row) s h (sym e) in
+        let (m, q) = semaphore-row k (row-stands _ i k row) s h (sym e) in
         let (used, none) = welcome .semaphore m in
         semaphore-more (t .semaphores) (t .lines) (new .lines) s (a .semaphores s h) (rw q at used) (rw q at none))
         (λ (n : semaphoreLine s ≢ homeOf k).
@@ -202,7 +202,7 @@ module _ (t : Tables) (a : Almost t) (place : List ℕ → ℕ) (i : ℕ) (k : T
     moved-events n h =
         ⊎-elim
         (λ (e : eventLine n ≡ homeOf k).
-        let (m, q) = event-row k (row-stands i k row) n h (sym e) in
+        let (m, q) = event-row k (row-stands _ i k row) n h (sym e) in
         let (used, empty, unmet) = welcome .event m in
         let nobody : line (t .lines) (eventLine n) ≡ [] = rw q at empty in
         event-more (t .tasks) (new .tasks) (t .events) (t .lines) (new .lines) n (a .events n h) i (rw q at used)
@@ -241,7 +241,7 @@ module _ (t : Tables) (a : Almost t) (place : List ℕ → ℕ) (i : ℕ) (k : T
             × ((k .mode ≡ reading → mailbox (t .mailboxes) m MESSAGES ≡ 0)
             × (k .mode ≡ writing → mailbox (t .mailboxes) m MESSAGES ≡ mailbox (t .mailboxes) m CAPACITY))
         at-mailbox e =
-            let (mode, q) = mailbox-row k (row-stands i k row) m h e in (
+            let (mode, q) = mailbox-row k (row-stands _ i k row) m h e in (
               ⊎-elim (λ (r : k .mode ≡ reading). rw q at (welcome .reader r .0)) (λ (r : k .mode ≡ writing). rw q at (welcome .writer r .0)) mode,
               ((λ r. rw q at (welcome .reader r .1)), (λ r. rw q at (welcome .writer r .1))),
             )
@@ -264,7 +264,7 @@ module _ (t : Tables) (a : Almost t) (place : List ℕ → ℕ) (i : ℕ) (k : T
         }
 
 -- ---- a task's row changes, and its line does not: of a task in a line the mode and what it holds stay
-module _ (t : Tables) (a : Almost t) (i : ℕ) (k : Task) (lt : i < taskCount) (row : Means (taskRule i k)) (home : homeOf k ≡ taskHome (t .tasks) i)
+module _ (t : Tables) (a : Almost t) (i : ℕ) (k : Task) (lt : i < taskCount) (row : Means (taskRule (levels (t .state)) i k)) (home : homeOf k ≡ taskHome (t .tasks) i)
     (holds : homeOf k < lineCount
     → (k .mode ≡ task (t .tasks) i .mode) × (k .first ≡ task (t .tasks) i .first) × (k .second ≡ task (t .tasks) i .second)) where
   abbrev us : List ℕ
@@ -306,7 +306,7 @@ module _ (t : Tables) (a : Almost t) (i : ℕ) (k : Task) (lt : i < taskCount) (
         typed = queued-typed t (queued us (t .lines)) (a .typed) (length-withTask (t .tasks) i k ∙ a .typed .tasks) (a .typed .lines);
         heap = a .heap;
         clocks = a .clocks;
-        tasks = tasks-withTask (t .tasks) i k (a .typed .tasks) lt (a .tasks) row;
+        tasks = tasks-withTask _ (t .tasks) i k (a .typed .tasks) lt (a .tasks) row;
         lines = a .lines;
         standing = record { tasks = λ x j o. rw (row-home x) (a .standing .tasks x j o); swis = a .standing .swis };
         semaphores = a .semaphores;

@@ -15,7 +15,7 @@ use Rattle.fold.specs.Rule.{Rule, each, Means}
 use Rattle.fold.proofs.Laws.{same?}
 use Rattle.fold.proofs.Finds.{IsFirst, first-below-is}
 use Rattle.rules.specs.Answer.{T}
-use Rattle.rules.specs.Tables.{Typed, tables, taskCount, ready, terminated, task, current}
+use Rattle.rules.specs.Tables.{Typed, tables, taskCount, ready, terminated, task, current, levels}
 use Rattle.rules.specs.Lines.{postedLine, eventLine, mailboxLine, line, anyone, readyLine, first, homeBy, homeOf, taskHome, queued, moved, atBack}
 use Rattle.rules.specs.Waits.{outside, idle, switchOff, readied, woken}
 use Rattle.rules.specs.Events.{waiterMatch}
@@ -91,7 +91,7 @@ module _ (t : Tables) (a : Almost t) (j : ℕ) (low : j < postedLine 0) (some : 
 
   pub first-blocked : (ready < task (t .tasks) (first (t .lines) j) .mode) × (task (t .tasks) (first (t .lines) j) .mode < terminated)
   first-blocked =
-      waiter-mode (task (t .tasks) (first (t .lines) j)) (task-stands (t .tasks) (a .tasks) (first (t .lines) j))
+      waiter-mode (task (t .tasks) (first (t .lines) j)) (task-stands _ (t .tasks) (a .tasks) (first (t .lines) j))
       (omega (arith, member-home t a j (inl low) 0 some))
 
   -- once it is served the line has lost it
@@ -101,7 +101,7 @@ module _ (t : Tables) (a : Almost t) (j : ℕ) (low : j < postedLine 0) (some : 
   first-leaves v =
       let i : ℕ = first (t .lines) j in
       let k : Task = readied (task (t .tasks) i) 0 v in
-      let row : Means (taskRule i k) =
+      let row : Means (taskRule (levels (t .state)) i k) =
       woken-row t a i first-task (first-blocked .0) (first-blocked .1) 0 v (omega arith) (λ e. absurd (omega arith)) in
       moved-line t a atBack i k first-task row j (inl low)
       ∙ rw (ne-eqb j (readyLine (k .priority)) (λ (e : j ≡ readyLine (k .priority)). omega arith))
@@ -119,7 +119,7 @@ module _ (t : Tables) (typed : Typed t) (s : Sound t) where
   -- a wait begins, and none of its cases holds
   pub begins : (limit : ℕ) → limit ≢ 0 → outside (context (t .lines) (t .state)) limit ≡ false
       → (w : Bool) → w ≡ true → (w && idle (t .state)) ≡ false → (w && switchOff (t .state)) ≡ false
-      → (k : Task) → (current (t .state) ≢ 0 → Means (taskRule (current (t .state)) k)) → Welcome t (current (t .state)) k
+      → (k : Task) → (current (t .state) ≢ 0 → Means (taskRule (levels (t .state)) (current (t .state)) k)) → Welcome t (current (t .state)) k
       → (place : List ℕ → ℕ)
       → Settling (withQueued t (moved place (current (t .state)) k (queued (t .tasks) (t .lines))))
   begins limit n out w now busy off k row welcome place =
@@ -134,7 +134,7 @@ pub objects-change : (t : Tables) → Settling t → (ss es ms : List ℕ)
 objects-change t s ss es ms sl el ml sr er mr =
     let a = s .almost in
     record {
-      almost = others-change t a ss es ms (t .clocks) (t .heap) (t .state) sl el ml refl refl refl sr er mr (a .clocks) (a .heap);
+      almost = others-change t a ss es ms (t .clocks) (t .heap) (t .state) sl el ml refl refl refl refl sr er mr (a .clocks) (a .heap);
       ranges = s .ranges;
       current = s .current;
     }

@@ -166,7 +166,7 @@ module _ (t : Tables) (typed : Typed t) (s : Sound t) where
       (λ f.
       begins t typed s d (eqb-false d 0 f) (ok .at2) (waits (t .events) a b c d) (rw (e, f)) busy (ok .at9) _
       (λ i.
-      at-event-row (current (t .state)) (task (t .tasks) (current (t .state))) i (current-row t s) (current-used t s) a d word lt b c
+      at-event-row _ (current (t .state)) (task (t .tasks) (current (t .state))) i (current-row t s) (current-used t s) a d word lt b c
       (some-mask b c (ok .at4)))
       (welcome a d b c used none (eqb-true (matched (bitsOf t a) b c) 0 e)) _))
       (λ e.

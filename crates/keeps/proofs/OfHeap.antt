@@ -153,7 +153,7 @@ module _ (t : Tables) (typed : Typed t) (s : Sound t) where
       let a = sound-almost t typed s in
       let almost =
       others-change t a (t .semaphores) (t .events) (t .mailboxes) (t .clocks) (withUnits (t .heap) u es) (t .state)
-      refl refl refl refl (length-units (t .heap) u es) refl (a .semaphores) (a .events) (a .mailboxes) (a .clocks) rule in
+      refl refl refl refl (length-units (t .heap) u es) refl refl (a .semaphores) (a .events) (a .mailboxes) (a .clocks) rule in
       record { almost = almost; ranges = sound-ranges t s; current = inl (still-ready t s) }
 
   take-keeps : (x a b c d : ℕ) → Keeps (withHeap t) (called (takeCases (t .heap) x a b c d) (takeEffect (t .heap) a))

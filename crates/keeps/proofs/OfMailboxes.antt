@@ -140,7 +140,7 @@ module _ (t : Tables) (typed : Typed t) (s : Sound t) where
         by-range 0 (length xs)
         (λ some.
         let home = member-home t (sound-almost t typed s) (mailboxLine a) (inl low) 0 some in
-        let (mode, object) = mailbox-row (task (t .tasks) i) (task-stands (t .tasks) (s .tasks) i) a lt home in
+        let (mode, object) = mailbox-row (task (t .tasks) i) (task-stands _ (t .tasks) (s .tasks) i) a lt home in
         let (reads, writes) = row-of a lt .waiters 0 some in
         absurd
         (⊎-elim
@@ -216,7 +216,7 @@ module _ (t : Tables) (typed : Typed t) (s : Sound t) where
       chosen (Leaves t) (eqb c 0) _ _ (λ g. sound-settles t typed s)
       (λ g.
       begins t typed s c (eqb-false c 0 g) (ok .at2) (postWaits (t .tasks) (t .lines) (t .mailboxes) a c) (rw (e, f, g)) (ok .at5) (ok .at9) _
-      (λ i. writing-row (current (t .state)) (task (t .tasks) (current (t .state))) i (current-row t s) (current-used t s) a c word lt b)
+      (λ i. writing-row _ (current (t .state)) (task (t .tasks) (current (t .state))) i (current-row t s) (current-used t s) a c word lt b)
       (welcome a lt writing c b (λ q. absurd (omega arith)) (λ q. omega (arith, leb-true (capacity t a) (number t a) f)) (omega arith) used) _))
       (λ f.
       let room : number t a < capacity t a = leb-false (capacity t a) (number t a) f in
@@ -238,7 +238,7 @@ module _ (t : Tables) (typed : Typed t) (s : Sound t) where
       chosen (Leaves t) (eqb b 0) _ _ (λ g. sound-settles t typed s)
       (λ g.
       begins t typed s b (eqb-false b 0 g) (ok .at2) (pendWaits (t .mailboxes) a b) (rw (e, g)) (ok .at5) (ok .at9) _
-      (λ i. reading-row (current (t .state)) (task (t .tasks) (current (t .state))) i (current-row t s) (current-used t s) a b word lt)
+      (λ i. reading-row _ (current (t .state)) (task (t .tasks) (current (t .state))) i (current-row t s) (current-used t s) a b word lt)
       (welcome a lt reading b 0 (λ q. eqb-true (number t a) 0 e) (λ q. absurd (omega arith)) (omega arith) used) _))
       (λ e.
       let some : number t a ≢ 0 = eqb-false (number t a) 0 e in

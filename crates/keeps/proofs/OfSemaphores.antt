@@ -195,7 +195,7 @@ module _ (t : Tables) (typed : Typed t) (s : Sound t) where
       chosen (Leaves t) (eqb b 0) _ _ (λ f. sound-settles t typed s)
       (λ f.
       begins t typed s b (eqb-false b 0 f) (ok .at2) (waits (t .semaphores) a b) (rw (eq-eqb (countOf t a) 0 none, f)) (ok .at5) (ok .at9) _
-      (λ i. at-semaphore-row (current (t .state)) (task (t .tasks) (current (t .state))) i (current-row t s) (current-used t s) a b word lt)
+      (λ i. at-semaphore-row _ (current (t .state)) (task (t .tasks) (current (t .state))) i (current-row t s) (current-used t s) a b word lt)
       (welcome a b used none) _))
 
   pub semaphores-keeps : (number a b c d : ℕ) → Words a b c d

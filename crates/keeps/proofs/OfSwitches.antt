@@ -11,7 +11,7 @@ use lib.ListN.{length, length-set}
 use lib.Seq.{getD-set-same, getD-set-other}
 use Rattle.fold.proofs.Laws.{same?}
 use Rattle.rules.specs.Answer.{Cases, After, called, accepted, done}
-use Rattle.rules.specs.Tables.{Typed, wordEnd, tables, state, withState, DEPTH, SWIS, TASKS, TICK, CURRENT}
+use Rattle.rules.specs.Tables.{Typed, wordEnd, tables, state, withState, DEPTH, SWIS, TASKS, TICK, CURRENT, LEVELS, levels}
 use Rattle.rules.specs.Dispatch.{context}
 use Rattle.rules.specs.Sound.{Sound}
 use Rattle.rules.specs.Step.{withTicked}
@@ -19,6 +19,7 @@ use Rattle.rules.specs.Switches.{swisBit, tasksBit, has, on, off, turned, offCa
 use Rattle.rules.specs.Tick.{Ticked, tickedOf, clocksTicked, ticked, onState, switchCall}
 use Rattle.rules.specs.declared.Tables.{Tables}
 use Rattle.laws.proofs.Calls.{chosen}
+use Rattle.laws.proofs.Levels.{word-stays, levels-same}
 use Rattle.keeps.proofs.Groups.{Words, Almost, others-change, Ranges, Settling, Keeps}
 use Rattle.keeps.proofs.Standing.{sound-almost}
 use Rattle.keeps.proofs.Waiting.{sound-ranges, still-ready}
@@ -30,13 +31,13 @@ abbrev withStated : Tables → List ℕ → Tables
 withStated t st =
     tables (t .tasks) (t .lines) (t .semaphores) (t .events) (t .mailboxes) (t .swis) (t .clocks) (t .heap) st
 
-state-almost : (t : Tables) → Almost t → (st : List ℕ) → length st ≡ length (t .state) → Almost (withStated t st)
-state-almost t a st all =
-    others-change t a (t .semaphores) (t .events) (t .mailboxes) (t .clocks) (t .heap) st refl refl refl refl refl all
+state-almost : (t : Tables) → Almost t → (st : List ℕ) → length st ≡ length (t .state) → levels st ≡ levels (t .state) → Almost (withStated t st)
+state-almost t a st all same =
+    others-change t a (t .semaphores) (t .events) (t .mailboxes) (t .clocks) (t .heap) st refl refl refl refl refl all same
     (a .semaphores) (a .events) (a .mailboxes) (a .clocks) (a .heap)
 
 -- one word of the state, not the current task, is v now
-module _ (st : List ℕ) (all : length st ≡ 5) (f v : ℕ) (front : f < 4) where
+module _ (st : List ℕ) (all : length st ≡ 6) (f v : ℕ) (front : f < 4) where
   word-under : (g n : ℕ) → (g ≡ f → v < n) → state st g < n → state (withState st f v) g < n
   word-under g n here h =
       ⊎-elim
@@ -47,6 +48,9 @@ module _ (st : List ℕ) (all : length st ≡ 5) (f v : ℕ) (front : f < 4) whe
   current-stays : state (withState st f v) CURRENT ≡ state st CURRENT
   current-stays = getD-set-other st f CURRENT v 0 (λ (e : 4 ≡ f). omega arith)
 
+  levels-stay : state (withState st f v) LEVELS ≡ state st LEVELS
+  levels-stay = getD-set-other st f LEVELS v 0 (λ (e : 5 ≡ f). omega arith)
+
   word-ranges : Ranges st → (f ≡ DEPTH → v < 9) → (f ≡ SWIS → v < 2) → (f ≡ TASKS → v < 2) → Ranges (withState st f v)
   word-ranges r depth swis tasks =
       record {
@@ -54,13 +58,15 @@ module _ (st : List ℕ) (all : length st ≡ 5) (f v : ℕ) (front : f < 4) whe
         swis = word-under SWIS 2 (λ e. swis (sym e)) (r .swis);
         tasks = word-under TASKS 2 (λ e. tasks (sym e)) (r .tasks);
         current = rw current-stays (r .current);
+        levels = rw levels-stay (r .levels);
       }
 
--- a state with its words in range and the current task of the one before
+-- a state with its words in range, and the current task and the levels of the one before
 record Fits (before st : List ℕ) : Type 0 where
-  all : length st ≡ 5
+  all : length st ≡ 6
   ranges : Ranges st
   same : state st CURRENT ≡ state before CURRENT
+  leveled : levels st ≡ levels before
 
 module _ (before st : List ℕ) (h : Fits before st) (f v : ℕ) where
   word-fits : f < 4 → (f ≡ DEPTH → v < 9) → (f ≡ SWIS → v < 2) → (f ≡ TASKS → v < 2) → Fits before (withState st f v)
@@ -69,6 +75,7 @@ module _ (before st : List ℕ) (h : Fits before st) (f v : ℕ) where
         all = length-set st f v ∙ h .all;
         ranges = word-ranges st (h .all) f v front (h .ranges) depth swis tasks;
         same = current-stays st (h .all) f v front ∙ h .same;
+        leveled = levels-same st f v (λ (e : 5 ≡ f). omega arith) ∙ h .leveled;
       }
 
   -- a switch, off or on
@@ -84,12 +91,12 @@ turned-fits bits v small st h =
 
 module _ (t : Tables) (typed : Typed t) (s : Sound t) where
   unchanged : Fits (t .state) (t .state)
-  unchanged = record { all = typed .state; ranges = sound-ranges t s; same = refl }
+  unchanged = record { all = typed .state; ranges = sound-ranges t s; same = refl; leveled = refl }
 
   fits-settles : {st : List ℕ} → Fits (t .state) st → Settling (withStated t st)
   fits-settles {st} h =
       record {
-        almost = state-almost t (sound-almost t typed s) st (h .all ∙ sym (typed .state));
+        almost = state-almost t (sound-almost t typed s) st (h .all ∙ sym (typed .state)) (h .leveled);
         ranges = h .ranges;
         current = inl (rw (h .same) (still-ready t s));
       }
@@ -127,7 +134,7 @@ module _ (t : Tables) (typed : Typed t) (s : Sound t) where
       let v = (state (t .state) TICK + 1) % wordEnd in
       let h = word-fits _ _ unchanged TICK v (omega arith) (λ e. absurd (omega arith)) (λ e. absurd (omega arith)) (λ e. absurd (omega arith)) in
       record {
-        almost = state-almost _ a (withState (t .state) TICK v) (length-set (t .state) TICK v);
+        almost = state-almost _ a (withState (t .state) TICK v) (length-set (t .state) TICK v) (h .leveled);
         ranges = h .ranges;
         current = inl (rw (h .same) r);
       }

@@ -3,6 +3,7 @@ use Prim.Native.Nat.{ℕ, _<_, _≤_}
 use mathlib.Core.Path.{_≡_, refl, sym, ap, _∙_}
 use mathlib.Core.Logic.{_≢_, _⊎_, inl, inr, ⊎-elim}
 use mathlib.Core.Bool.{Bool, true, false, _||_, true≢false, cond as if}
+use mathlib.Core.List.{List}
 use native.Mathlib.Omega.{arith}
 use borrow.Author.Tests.{eqb-true, eqb-false, eq-eqb, ne-eqb, lt-ltb, ltb-true, leb-true, leb-false, le-leb, not-false}
 use lib.Dec.{eqb, ltb, leb}
@@ -18,6 +19,7 @@ use Rattle.rules.specs.Step.{withQueued}
 use Rattle.rules.specs.Tasks.{isPriority, freeTask, blocked, placedAt, withPriority, ended, reprioritized, createCases, createEffect, deleteCases, deleteEffect, setPriorityCases, setPriorityEffect, yieldCases, yieldEffect, endCases, endEffect, sleepCases, sleepEffect, lastResultCases, lastResultEffect, taskCall}
 use Rattle.rules.specs.declared.Tables.{Tables}
 use Rattle.rules.specs.declared.Task.{Task}
+use Rattle.laws.proofs.Levels.{levels-under}
 use Rattle.laws.proofs.Calls.{chosen}
 use Rattle.keeps.proofs.Groups.{Words, Settling, Keeps}
 use Rattle.keeps.proofs.Codes.{accepted-is, object-used}
@@ -29,30 +31,30 @@ use Rattle.keeps.proofs.Waiting.{neither, both, row-other, sound-ranges
 use Rattle.keeps.proofs.Chosen.{chosen-keeps, unknown-keeps, sound-settles}
 
 -- "Task priorities -1 and 1 to 15"
-abbrev Priority : ℕ → Type 0
-Priority p = (p ≡ minusOne) ⊎ ((0 < p) × (p < levels))
+abbrev Priority : List ℕ → ℕ → Type 0
+Priority st p = (p ≡ minusOne) ⊎ ((0 < p) × (p < levels st))
 
-is-priority : (p : ℕ) → isPriority levels p ≡ true → Priority p
+is-priority : (st : List ℕ) (p : ℕ) → isPriority (levels st) p ≡ true → Priority st p
 unfolding isPriority
-is-priority p e =
+is-priority st p e =
     ⊎-elim inl
     (λ (n : p ≢ minusOne).
-    let (low, high) = both (ltb 0 p) (ltb p levels) (rw (ne-eqb p minusOne n) at e) in
-    inr (ltb-true 0 p low, ltb-true p levels high))
+    let (low, high) = both (ltb 0 p) (ltb p (levels st)) (rw (ne-eqb p minusOne n) at e) in
+    inr (ltb-true 0 p low, ltb-true p (levels st) high))
     (same? p minusOne)
 
 -- ---- rows
 -- a ready task or, exactly at -1, an inactive one
-placed-row : (i : ℕ) (k : Task) → i ≢ 0 → Means (noWait k) → k .outcome < 2 → (k .outcome ≡ 1 → k .value ≡ 0) → (p : ℕ) → Priority p
-    → Means (taskRule i (placedAt k p))
-placed-row i k n clear small unmet p h =
+placed-row : (st : List ℕ) (i : ℕ) (k : Task) → i ≢ 0 → Means (noWait k) → k .outcome < 2 → (k .outcome ≡ 1 → k .value ≡ 0) → (p : ℕ) → Priority st p
+    → Means (taskRule (levels st) i (placedAt k p))
+placed-row st i k n clear small unmet p h =
     ⊎-elim
     (λ (e : p ≡ minusOne).
     let m : placedAt k p .mode ≡ inactive = rw (eq-eqb p minusOne e) in
-    rest-row i (placedAt k p) n clear (inr (omega arith, omega arith)) small unmet (λ q. absurd (omega arith)) (λ _. e) (λ u. absurd (u .1 m)))
-    (λ (r : (0 < p) × (p < levels)).
-    let m : placedAt k p .mode ≡ ready = rw (ne-eqb p minusOne (λ (e : p ≡ minusOne). omega arith)) in
-    rest-row i (placedAt k p) n clear (inl (omega arith)) small unmet (λ q. absurd (omega arith)) (λ q. absurd (omega arith)) (λ _. r))
+    rest-row _ i (placedAt k p) n clear (inr (omega arith, omega arith)) small unmet (λ q. absurd (omega arith)) (λ _. e) (λ u. absurd (u .1 m)))
+    (λ (r : (0 < p) × (p < levels st)).
+    let m : placedAt k p .mode ≡ ready = rw (ne-eqb p minusOne (λ (e : p ≡ minusOne). omega (arith, levels-under st))) in
+    rest-row _ i (placedAt k p) n clear (inl (omega arith)) small unmet (λ q. absurd (omega arith)) (λ q. absurd (omega arith)) (λ _. r))
     h
 
 placed-welcome : (t : Tables) (i : ℕ) (k : Task) (p : ℕ) → Welcome t i (placedAt k p)
@@ -63,16 +65,16 @@ placed-welcome t i k p = welcome-none t i (placedAt k p) (go (eqb p minusOne))
     go false = inl (omega arith)
 
 -- a row not in use
-no-row : (i : ℕ) → i ≢ 0 → Means (taskRule i noTask)
-no-row i n =
-    rest-row i noTask n (refl, (refl, (refl, refl))) (inl (omega arith)) (omega arith) (λ _. refl) (λ _. (refl, (refl, refl)))
+no-row : (st : List ℕ) (i : ℕ) → i ≢ 0 → Means (taskRule (levels st) i noTask)
+no-row st i n =
+    rest-row _ i noTask n (refl, (refl, (refl, refl))) (inl (omega arith)) (omega arith) (λ _. refl) (λ _. (refl, (refl, refl)))
     (λ e. absurd (omega arith)) (λ u. absurd (u .0 refl))
 
 -- a task in use that has ended
-ended-row : (i : ℕ) (k : Task) → i ≢ 0 → Means (taskRule i k) → (k .mode ≢ notInUse) × (k .mode ≢ inactive) → Means (taskRule i (ended k))
-ended-row i k n row used =
-    let r = row-other i k n row in
-    rest-row i (ended k) n (refl, (refl, (refl, refl))) (inr (omega arith, omega arith)) (r .outcome) (r .unmet) (λ e. absurd (omega arith))
+ended-row : (st : List ℕ) (i : ℕ) (k : Task) → i ≢ 0 → Means (taskRule (levels st) i k) → (k .mode ≢ notInUse) × (k .mode ≢ inactive) → Means (taskRule (levels st) i (ended k))
+ended-row st i k n row used =
+    let r = row-other _ i k n row in
+    rest-row _ i (ended k) n (refl, (refl, (refl, refl))) (inr (omega arith, omega arith)) (r .outcome) (r .unmet) (λ e. absurd (omega arith))
     (λ e. absurd (omega arith)) (λ _. r .level used)
 
 -- ---- lines: only a ready row stands by its priority
@@ -104,16 +106,16 @@ module _ (t : Tables) (typed : Typed t) (s : Sound t) where
   not-current : (i : ℕ) → task (t .tasks) i .mode ≢ ready → state (t .state) CURRENT ≢ i
   not-current i n e = n (ap (λ (x : ℕ). task (t .tasks) x .mode) (sym e) ∙ still-ready t s)
 
-  create-keeps : (x a b c d : ℕ) → Keeps (withQueued t) (called (createCases (t .tasks) x a b c d) (createEffect (queued (t .tasks) (t .lines)) a))
+  create-keeps : (x a b c d : ℕ) → Keeps (withQueued t) (called (createCases (t .tasks) (t .state) x a b c d) (createEffect (queued (t .tasks) (t .lines)) a))
   unfolding createCases createEffect freeTask
   create-keeps x a b c d z =
-      let ok = accepted-is (createCases (t .tasks) x a b c d) z in
+      let ok = accepted-is (createCases (t .tasks) (t .state) x a b c d) z in
       let i = freeTask (t .tasks) in
       let (lt, is) = free-is taskCount (λ i. eqb (task (t .tasks) i .mode) notInUse) (ok .at6) in
       let free : task (t .tasks) i .mode ≡ 0 = eqb-true _ _ is in
       let rest : task (t .tasks) i .mode ≢ ready = λ e. omega arith in
-      let level = is-priority a (not-false _ (neither _ _ (ok .at4) .0)) in
-      let row = placed-row i noTask (not-first i lt rest) (refl, (refl, (refl, refl))) (omega arith) (λ (e : 0 ≡ 1). absurd (omega arith)) a level in
+      let level = is-priority (t .state) a (not-false _ (neither _ _ (ok .at4) .0)) in
+      let row = placed-row (t .state) i noTask (not-first i lt rest) (refl, (refl, (refl, refl))) (omega arith) (λ (e : 0 ≡ 1). absurd (omega arith)) a level in
       let almost = sound-almost t typed s in
       record {
         almost = moved-keeps t almost atBack i (placedAt noTask a) lt row (placed-welcome t i noTask a);
@@ -133,7 +135,7 @@ module _ (t : Tables) (typed : Typed t) (s : Sound t) where
       let rest : m ≢ ready = λ e. omega arith in
       let nowhere-now =
       home-none (task (t .tasks) a) rest (λ e. omega arith) (λ e. omega arith) (λ e. omega arith) (λ e. omega arith) in
-      let row = no-row a (not-first a lt rest) in
+      let row = no-row _ a (not-first a lt rest) in
       let almost = sound-almost t typed s in
       record {
         almost = row-keeps t almost a noTask lt row (sym nowhere-now) (λ (h : 255 < lineCount). absurd (omega arith));
@@ -142,14 +144,14 @@ module _ (t : Tables) (typed : Typed t) (s : Sound t) where
       }
 
   -- a blocked task keeps its place in line
-  blocked-settles : (a p : ℕ) → a < taskCount → a ≢ 0 → blocked (task (t .tasks) a .mode) ≡ true → (0 < p) × (p < levels)
+  blocked-settles : (a p : ℕ) → a < taskCount → a ≢ 0 → blocked (task (t .tasks) a .mode) ≡ true → (0 < p) × (p < levels (t .state))
       → Settling (withQueued t (queued (withTask (t .tasks) a (withPriority (task (t .tasks) a) p)) (t .lines)))
   blocked-settles a p lt n e level =
       let k = task (t .tasks) a in
       let (low, high) = is-blocked (k .mode) e in
       let rest : k .mode ≢ ready = λ q. omega arith in
       let row =
-      still-waiting a k n (s .tasks a lt) low high p (k .left) level (omega arith) (λ q. row-other a k n (s .tasks a lt) .whenSleeping q .1 .0) in
+      still-waiting _ a k n (s .tasks a lt) low high p (k .left) level (omega arith) (λ q. row-other _ a k n (s .tasks a lt) .whenSleeping q .1 .0) in
       record {
         almost =
             row-keeps t (sound-almost t typed s) a (withPriority k p) lt row (home-kept (k .mode) p (k .priority) (k .object) rest)
@@ -159,14 +161,14 @@ module _ (t : Tables) (typed : Typed t) (s : Sound t) where
       }
 
   -- a ready or inactive task joins the new queue at the back; the current one stays ready
-  placed-settles : (a p : ℕ) → a < taskCount → a ≢ 0 → (task (t .tasks) a .mode ≡ ready) ⊎ (task (t .tasks) a .mode ≡ inactive) → Priority p
+  placed-settles : (a p : ℕ) → a < taskCount → a ≢ 0 → (task (t .tasks) a .mode ≡ ready) ⊎ (task (t .tasks) a .mode ≡ inactive) → Priority (t .state) p
       → (state (t .state) CURRENT ≡ a → p ≢ minusOne)
       → Settling (withQueued t (moved atBack a (placedAt (task (t .tasks) a) p) (queued (t .tasks) (t .lines))))
   placed-settles a p lt n which level stays =
       let k = task (t .tasks) a in
-      let r = row-other a k n (s .tasks a lt) in
+      let r = row-other _ a k n (s .tasks a lt) in
       let clear : Means (noWait k) = ⊎-elim (r .whenReady) (λ e. r .whenInactive e .1) which in
-      let row = placed-row a k n clear (r .outcome) (r .unmet) p level in
+      let row = placed-row (t .state) a k n clear (r .outcome) (r .unmet) p level in
       let almost = sound-almost t typed s in
       record {
         almost = moved-keeps t almost atBack a (placedAt k p) lt row (placed-welcome t a k p);
@@ -189,7 +191,7 @@ module _ (t : Tables) (typed : Typed t) (s : Sound t) where
       let m = task (t .tasks) a .mode in
       let used = eqb-false m 0 (object-used _ _ (ok .at3) (ok .at11)) in
       let lt : a < taskCount = in-use (t .tasks) a used in
-      let level = is-priority b (not-false _ (neither _ _ (ok .at4) .0)) in
+      let level = is-priority (t .state) b (not-false _ (neither _ _ (ok .at4) .0)) in
       let (other, last) = neither _ _ (ok .at5) in
       let n : a ≢ 0 = eqb-false a 0 (neither (eqb a 0) (eqb m terminated) other .0) in
       let runs : m ≢ terminated = eqb-false m terminated (neither (eqb a 0) (eqb m terminated) other .1) in
@@ -200,9 +202,9 @@ module _ (t : Tables) (typed : Typed t) (s : Sound t) where
       chosen (λ (q : Queued). Settling (withQueued t q)) (blocked m) _ _
       (λ e.
       blocked-settles a b lt n e
-      (⊎-elim (λ (q : b ≡ minusOne). absurd (true≢false (sym e ∙ neither (eqb a (current (t .state))) (blocked m) (lowest q) .1))) (λ (r : (0 < b) × (b < levels)). r) level))
+      (⊎-elim (λ (q : b ≡ minusOne). absurd (true≢false (sym e ∙ neither (eqb a (current (t .state))) (blocked m) (lowest q) .1))) (λ (r : (0 < b) × (b < levels (t .state))). r) level))
       (λ e.
-      placed-settles a b lt n (ready-or-inactive m e used runs (row-other a _ n (s .tasks a lt) .range)) level
+      placed-settles a b lt n (ready-or-inactive m e used runs (row-other _ a _ n (s .tasks a lt) .range)) level
       (λ q l. eqb-false a (current (t .state)) (neither (eqb a (current (t .state))) (blocked m) (lowest l) .0) (sym (current-is t s ∙ q)))))
 
   yield-keeps : (x a b c d : ℕ) → Keeps (withQueued t) (called (yieldCases (t .state) x a b c d) (yieldEffect (queued (t .tasks) (t .lines)) (t .state)))
@@ -227,7 +229,7 @@ module _ (t : Tables) (typed : Typed t) (s : Sound t) where
       let k = task (t .tasks) i in
       let n = not-idle t s (ok .at5) in
       waits-settle t typed s (eqb-true _ _ (not-false _ (ok .at2))) (ok .at9) (ended k)
-      (ended-row i k n (current-row t s) (current-used t s)) (welcome-none t i (ended k) (inr (omega arith))) atBack
+      (ended-row _ i k n (current-row t s) (current-used t s)) (welcome-none t i (ended k) (inr (omega arith))) atBack
 
   sleep-keeps : (a b c d : ℕ) → a < wordEnd
       → Keeps (withQueued t)
@@ -244,7 +246,7 @@ module _ (t : Tables) (typed : Typed t) (s : Sound t) where
       let n = not-idle t s (rw some at (ok .at5)) in
       let limit : a ≢ forever = eqb-false a forever (neither _ _ (ok .at4) .0) in
       waits-settle t typed s (eqb-true _ _ (not-false _ (ok .at2))) (rw some at (ok .at9)) (waiting k sleeping 0 a 0 0)
-      (sleeping-row i k n (current-row t s) (current-used t s) a (eqb-false a 0 e) (omega arith)) (welcome-none t i (waiting k sleeping 0 a 0 0) (inl (omega arith))) atBack)
+      (sleeping-row _ i k n (current-row t s) (current-used t s) a (eqb-false a 0 e) (omega arith)) (welcome-none t i (waiting k sleeping 0 a 0 0) (inl (omega arith))) atBack)
 
   last-result-keeps : (a b c d : ℕ) → Keeps (withQueued t) (called (lastResultCases (t .tasks) a b c d) (lastResultEffect (queued (t .tasks) (t .lines)) a))
   unfolding lastResultEffect

@@ -8,7 +8,7 @@ use borrow.Author.Tests.{eqb-true, eqb-false, ne-eqb}
 use lib.Dec.{eqb, ltb}
 use Rattle.fold.specs.Rule.{Means}
 use Rattle.rules.specs.Answer.{Cases, After, accepted, Call, called, codeOf, done, notMet, nowWaiting}
-use Rattle.rules.specs.Tables.{noTask, reading, writing, semaphore, event, mailbox, current, USED, COUNT, BITS, CAPACITY, MESSAGES}
+use Rattle.rules.specs.Tables.{noTask, reading, writing, semaphore, event, mailbox, current, USED, COUNT, BITS, CAPACITY, MESSAGES, levels}
 use Rattle.rules.specs.Lines.{semaphoreLine, mailboxLine, eventLine, postedLine, line, anyone, first, homeBy, Queued, atBack}
 use Rattle.rules.specs.Waits.{Served, served, queue, wakesFirst}
 use Rattle.rules.specs.Sound.{tasksRule}
@@ -58,37 +58,37 @@ module _ {A : Type 0} {linesOf : A → List ℕ} {ls : List ℕ} {moves : ℕ �
 abbrev pub taskMoves : ℕ → ℕ → ℕ → Bool
 taskMoves number o v = not (eqb number 0x01) && not (eqb number 0x06)
 
-module _ (q : Queued) (rows : Means (tasksRule (q .tasks))) (st : List ℕ) (x number a b c d : ℕ) where
+module _ (q : Queued) (sx : List ℕ) (rows : Means (tasksRule (levels sx) (q .tasks))) (st : List ℕ) (x number a b c d : ℕ) where
   pub tasks-quiet : Quiet (λ (y : Queued). y .lines) (q .lines) (taskMoves number) (Tasks.taskCall q st x number a b c d)
   unfolding Tasks.taskCall Tasks.createEffect Tasks.deleteEffect Tasks.setPriorityEffect Tasks.yieldEffect Tasks.endEffect Tasks.sleepEffect Tasks.lastResultEffect homeBy
   tasks-quiet =
-      numbered (eqb number 0x00) (λ e. does (λ _. goes (rw (eqb-true number 0x00 e)) (placed-aside q rows _ noTask a)))
+      numbered (eqb number 0x00) (λ e. does (λ _. goes (rw (eqb-true number 0x00 e)) (placed-aside q sx rows _ noTask a)))
       (numbered (eqb number 0x01) (λ _. same refl)
-      (numbered (eqb number 0x02) (λ e. does (λ _. goes (rw (eqb-true number 0x02 e)) (priority-aside q rows a b)))
+      (numbered (eqb number 0x02) (λ e. does (λ _. goes (rw (eqb-true number 0x02 e)) (priority-aside q sx rows a b)))
       (numbered (eqb number 0x03)
-      (λ e. does (λ _. goes (rw (eqb-true number 0x03 e)) (moved-aside q rows atBack (current st) _ (home-aside q rows (current st)))))
+      (λ e. does (λ _. goes (rw (eqb-true number 0x03 e)) (moved-aside q sx rows atBack (current st) _ (home-aside q sx rows (current st)))))
       (numbered (eqb number 0x04)
-      (λ e. does (λ _. goes (rw (eqb-true number 0x04 e)) (moved-aside q rows atBack (current st) _ (λ j low high n. omega arith))))
+      (λ e. does (λ _. goes (rw (eqb-true number 0x04 e)) (moved-aside q sx rows atBack (current st) _ (λ j low high n. omega arith))))
       (numbered (eqb number 0x05)
       (λ e.
       does
       (λ _.
-      tested (eqb a 0) (stays refl) (goes (rw (eqb-true number 0x05 e)) (moved-aside q rows atBack (current st) _ (λ j low high n. omega arith)))))
+      tested (eqb a 0) (stays refl) (goes (rw (eqb-true number 0x05 e)) (moved-aside q sx rows atBack (current st) _ (λ j low high n. omega arith)))))
       (numbered (eqb number 0x06) (λ _. same refl) (same refl)))))))
 
 -- ---- a post at any of the three kinds: it wakes the first in line, who is not task 0, so its value says that a task has moved
-module _ (q : Served) (rows : Means (tasksRule (q .tasks))) (never : NeverWaits 0 (q .lines)) where
+module _ (q : Served) (sx : List ℕ) (rows : Means (tasksRule (levels sx) (q .tasks))) (never : NeverWaits 0 (q .lines)) where
   wakes-one : {moves : ℕ → ℕ → Bool} (j v : ℕ) (os : List ℕ) → ((i : ℕ) → eqb i 0 ≡ false → moves done i ≡ true)
       → j < postedLine 0 → anyone (q .lines) j ≡ true
       → Leaves (λ (y : Served). y .lines) (q .lines) moves (wakesFirst j v (served (q .tasks) (q .lines) os))
   wakes-one j v os says waiters some =
-      goes (says _ (ne-eqb (first (q .lines) j) 0 (first-not 0 (q .lines) never j waiters some))) (woken-aside (queue q) rows _ done v)
+      goes (says _ (ne-eqb (first (q .lines) j) 0 (first-not 0 (q .lines) never j waiters some))) (woken-aside (queue q) sx rows _ done v)
 
 -- ---- semaphores and events: only a wait that begins, and a post with a wake, move a task (`settling/specs/Settle` says it of the code's answer)
 abbrev pub waitsOrWakes : ℕ → ℕ → ℕ → ℕ → Bool
 waitsOrWakes post number o v = eqb o nowWaiting || (eqb number post && not (eqb v 0))
 
-module _ (q : Served) (rows : Means (tasksRule (q .tasks))) (never : NeverWaits 0 (q .lines)) (st : List ℕ) (x number a b c d : ℕ) where
+module _ (q : Served) (sx : List ℕ) (rows : Means (tasksRule (levels sx) (q .tasks))) (never : NeverWaits 0 (q .lines)) (st : List ℕ) (x number a b c d : ℕ) where
   abbrev LeavesBy : ℕ → After Served → Type 0
   LeavesBy post e = Leaves (λ (y : Served). y .lines) (q .lines) (waitsOrWakes post number) e
 
@@ -98,7 +98,7 @@ module _ (q : Served) (rows : Means (tasksRule (q .tasks))) (never : NeverWaits 
       let ok = accepted-is (Semaphores.pendCases (q .objects) st x a b c d) z in
       let lt : a < 16 = row-used 3 16 (q .objects) a 0 (eqb-false (semaphore (q .objects) a USED) 0 (object-used _ _ (ok .at3) (ok .at11))) in
       tested (ltb 0 (semaphore (q .objects) a COUNT)) (stays refl)
-      (tested (eqb b 0) (stays refl) (goes refl (waits-aside (queue q) rows _ (current st) _ (omega arith))))
+      (tested (eqb b 0) (stays refl) (goes refl (waits-aside (queue q) sx rows _ (current st) _ (omega arith))))
 
   post-leaves : eqb number 0x23 ≡ true → codeOf (Semaphores.postCases (q .objects) a b c d) ≡ 0 → LeavesBy 0x23 (Semaphores.postEffect q a)
   unfolding Semaphores.postCases Semaphores.postEffect
@@ -106,7 +106,7 @@ module _ (q : Served) (rows : Means (tasksRule (q .tasks))) (never : NeverWaits 
       let ok = accepted-is (Semaphores.postCases (q .objects) a b c d) z in
       let lt : a < 16 = row-used 3 16 (q .objects) a 0 (eqb-false (semaphore (q .objects) a USED) 0 (object-used _ _ (ok .at3) (ok .at11))) in
       chosen (LeavesBy 0x23) (anyone (q .lines) (semaphoreLine a)) _ _
-      (wakes-one q rows never (semaphoreLine a) 0 (q .objects) (λ i n. rw (e, n)) (omega arith))
+      (wakes-one q sx rows never (semaphoreLine a) 0 (q .objects) (λ i n. rw (e, n)) (omega arith))
       (λ _. stays refl)
 
   pub semaphores-quiet : Quiet (λ (y : Served). y .lines) (q .lines) (waitsOrWakes 0x23 number) (Semaphores.semaphoreCall q st x number a b c d)
@@ -124,7 +124,7 @@ module _ (q : Served) (rows : Means (tasksRule (q .tasks))) (never : NeverWaits 
       let ok = accepted-is (Events.pendCases (q .lines) (q .objects) st x a b c d) z in
       let lt : a < 8 = row-used 2 8 (q .objects) a 0 (eqb-false (event (q .objects) a USED) 0 (object-used _ _ (ok .at3) (ok .at11))) in
       tested (eqb (Events.matched (event (q .objects) a BITS) b c) 0)
-      (tested (eqb d 0) (stays refl) (goes refl (waits-aside (queue q) rows _ (current st) _ (omega arith))))
+      (tested (eqb d 0) (stays refl) (goes refl (waits-aside (queue q) sx rows _ (current st) _ (omega arith))))
       (stays refl)
 
   event-post-leaves : (bits : ℕ) → eqb number 0x33 ≡ true → codeOf (Events.postCases (q .objects) a c d) ≡ 0 → LeavesBy 0x33 (Events.postedBits q a bits)
@@ -134,7 +134,7 @@ module _ (q : Served) (rows : Means (tasksRule (q .tasks))) (never : NeverWaits 
       let lt : a < 8 = row-used 2 8 (q .objects) a 0 (eqb-false (event (q .objects) a USED) 0 (object-used _ _ (ok .at3) (ok .at11))) in
       chosen (LeavesBy 0x33) (eqb (Events.waiterMatch (q .tasks) (q .lines) a bits) 0) _ _
       (λ _. stays refl)
-      (λ m. wakes-one q rows never (eventLine a) _ _ (λ i n. rw (e, n)) (omega arith) (match-waits (q .tasks) (q .lines) a bits m))
+      (λ m. wakes-one q sx rows never (eventLine a) _ _ (λ i n. rw (e, n)) (omega arith) (match-waits (q .tasks) (q .lines) a bits m))
 
   pub events-quiet : Quiet (λ (y : Served). y .lines) (q .lines) (waitsOrWakes 0x33 number) (Events.eventCall q st x number a b c d)
   unfolding Events.eventCall Events.createEffect Events.deleteEffect
@@ -148,7 +148,7 @@ module _ (q : Served) (rows : Means (tasksRule (q .tasks))) (never : NeverWaits 
 abbrev pub mailboxMoves : ℕ → ℕ → ℕ → Bool
 mailboxMoves number o v = if (eqb number 0x42) (eqb o nowWaiting || not (eqb v 0)) (eqb number 0x43 && not (eqb o notMet))
 
-module _ (q : Served) (rows : Means (tasksRule (q .tasks))) (never : NeverWaits 0 (q .lines)) (st : List ℕ) (x number a b c d : ℕ) where
+module _ (q : Served) (sx : List ℕ) (rows : Means (tasksRule (levels sx) (q .tasks))) (never : NeverWaits 0 (q .lines)) (st : List ℕ) (x number a b c d : ℕ) where
   abbrev LeavesMailbox : After Served → Type 0
   LeavesMailbox e = Leaves (λ (y : Served). y .lines) (q .lines) (mailboxMoves number) e
 
@@ -159,17 +159,17 @@ module _ (q : Served) (rows : Means (tasksRule (q .tasks))) (never : NeverWaits 
       let ok = accepted-is (Mailboxes.postCases (q .tasks) (q .lines) (q .objects) st x a c d) z in
       let lt : a < 8 = row-used 10 8 (q .objects) a 0 (eqb-false (mailbox (q .objects) a CAPACITY) 0 (object-used _ _ (ok .at3) (ok .at11))) in
       chosen LeavesMailbox (Mailboxes.waitsFirst (q .tasks) (q .lines) a reading) _ _
-      (λ w. wakes-one q rows never (mailboxLine a) b (q .objects) (λ i n. rw (e, n)) (omega arith) (first-waits (q .tasks) (q .lines) a reading w))
+      (λ w. wakes-one q sx rows never (mailboxLine a) b (q .objects) (λ i n. rw (e, n)) (omega arith) (first-waits (q .tasks) (q .lines) a reading w))
       (λ _.
       tested (Mailboxes.isFull (q .objects) a)
-      (tested (eqb c 0) (stays refl) (goes (rw e) (waits-aside (queue q) rows _ (current st) _ (omega arith))))
+      (tested (eqb c 0) (stays refl) (goes (rw e) (waits-aside (queue q) sx rows _ (current st) _ (omega arith))))
       (stays refl))
 
   taken-aside : SwisStay (q .lines) (Mailboxes.oldestTaken q a .lines)
   unfolding Mailboxes.oldestTaken
   taken-aside j low high =
       chosen (λ (y : Served). line (y .lines) j ≡ line (q .lines) j) (Mailboxes.waitsFirst (q .tasks) (q .lines) a writing) _ _
-      (λ _. woken-aside (queue q) rows _ 0 0 j low high) (λ _. refl)
+      (λ _. woken-aside (queue q) sx rows _ 0 0 j low high) (λ _. refl)
 
   mailbox-pend-leaves : eqb number 0x43 ≡ true → codeOf (Mailboxes.pendCases (q .objects) st x a b c d) ≡ 0
       → LeavesMailbox (Mailboxes.pendEffect q st a b)
@@ -178,7 +178,7 @@ module _ (q : Served) (rows : Means (tasksRule (q .tasks))) (never : NeverWaits 
       let ok = accepted-is (Mailboxes.pendCases (q .objects) st x a b c d) z in
       let lt : a < 8 = row-used 10 8 (q .objects) a 0 (eqb-false (mailbox (q .objects) a CAPACITY) 0 (object-used _ _ (ok .at3) (ok .at11))) in
       tested (eqb (mailbox (q .objects) a MESSAGES) 0)
-      (tested (eqb b 0) (stays refl) (goes (rw (eqb-true number 0x43 e)) (waits-aside (queue q) rows _ (current st) _ (omega arith))))
+      (tested (eqb b 0) (stays refl) (goes (rw (eqb-true number 0x43 e)) (waits-aside (queue q) sx rows _ (current st) _ (omega arith))))
       (goes (rw (eqb-true number 0x43 e)) taken-aside)
 
   pub mailboxes-quiet : Quiet (λ (y : Served). y .lines) (q .lines) (mailboxMoves number) (Mailboxes.mailboxCall q st x number a b c d)

@@ -12,13 +12,14 @@ use lib.Seq.{getD-set-same, getD-set-other}
 use Rattle.fold.specs.Rule.{Means}
 use Rattle.fold.proofs.Laws.{lt-or-le, count-first, length-without}
 use Rattle.fold.proofs.Finds.{IsHighest, high-is}
-use Rattle.rules.specs.Tables.{Typed, taskCount, levels, ready, task, swi, state, withState, PRIORITY, DEPTH, SWIS, TASKS, CURRENT}
+use Rattle.rules.specs.Tables.{Typed, taskCount, mostLevels, levels, ready, task, swi, state, withState, PRIORITY, DEPTH, SWIS, TASKS, CURRENT, LEVELS}
 use Rattle.rules.specs.Lines.{anyone, first, line, postedLine, activeLine, readyLine, swiHome, taskHome, homeBy}
 use Rattle.rules.specs.Swis.{Posts, posts, top}
 use Rattle.rules.specs.Dispatch.{dispatched, swiDispatched, swiDue, taskDispatched, taskDue, highestPosted, activeLevel, started, highestReady, front}
 use Rattle.rules.specs.Sound.{Sound, stateRule, dispatchRule}
 use Rattle.rules.specs.Step.{withPosts, withDispatched}
 use Rattle.rules.specs.declared.Tables.{Tables}
+use Rattle.laws.proofs.Levels.{levels-under, levels-some, levels-same}
 use Rattle.laws.proofs.Calls.{chosen}
 use Rattle.laws.proofs.InPlace.{length-snoc}
 use Rattle.keeps.proofs.Groups.{Settling, Almost, others-change, Ranges}
@@ -126,47 +127,47 @@ module _ (t : Tables) (a : Almost t) where
 
 -- the state that dispatch leaves
 record Stated (ts ws ls st : List ℕ) : Type 0 where
-  size : length st ≡ 5
+  size : length st ≡ 6
   state : Means (stateRule ts st)
   dispatch : Means (dispatchRule ws ls st)
 
 -- ---- tasks: the front of the highest non-empty ready queue is a ready task
 module _ (t : Tables) (a : Almost t) where
-  ready-high : IsHighest levels (λ p. anyone (t .lines) (readyLine p)) (highestReady levels (t .lines))
+  ready-high : IsHighest (levels (t .state)) (λ p. anyone (t .lines) (readyLine p)) (highestReady (levels (t .state)) (t .lines))
   unfolding highestReady
-  ready-high = high-is levels (λ p. anyone (t .lines) (readyLine p))
+  ready-high = high-is (levels (t .state)) (λ p. anyone (t .lines) (readyLine p))
 
   -- task 0 is always ready
   idle-home : taskHome (t .tasks) 0 ≡ readyLine 0
   unfolding homeBy
   idle-home = let r = a .tasks 0 (omega arith) .0 refl in rw (r .0, r .1 .0)
 
-  someone : 0 < highestReady levels (t .lines)
+  someone : 0 < highestReady (levels (t .state)) (t .lines)
   someone =
       ⊎-elim (λ h. h)
-      (λ (h : highestReady levels (t .lines) ≤ 0).
+      (λ (h : highestReady (levels (t .state)) (t .lines) ≤ 0).
       let once = a .standing .tasks 0 (readyLine 0) (inr (omega arith, omega arith)) ∙ bit-same _ _ idle-home in
       let n : 0 < length (line (t .lines) (readyLine 0)) = omega (arith, once, length-without 0 (line (t .lines) (readyLine 0))) in
-      absurd (true≢false (sym (lt-ltb _ _ n) ∙ ready-high .after 0 h (omega arith))))
-      (lt-or-le 0 (highestReady levels (t .lines)))
+      absurd (true≢false (sym (lt-ltb _ _ n) ∙ ready-high .after 0 h (omega (arith, levels-some (t .state))))))
+      (lt-or-le 0 (highestReady (levels (t .state)) (t .lines)))
 
-  front-ready : (front levels (t .lines) < taskCount) × (task (t .tasks) (front levels (t .lines)) .mode ≡ ready)
+  front-ready : (front (levels (t .state)) (t .lines) < taskCount) × (task (t .tasks) (front (levels (t .state)) (t .lines)) .mode ≡ ready)
   unfolding front
   front-ready =
-      let p : ℕ = highestReady levels (t .lines) - 1 in
-      let low : p < levels = omega (arith, ready-high .high, someone) in
+      let p : ℕ = highestReady (levels (t .state)) (t .lines) - 1 in
+      let low : p < mostLevels = omega (arith, ready-high .high, someone, levels-under (t .state)) in
       let q : 0 < length (line (t .lines) (readyLine p)) = ltb-true _ _ (ready-high .has someone) in
       let c = count-first (line (t .lines) (readyLine p)) q in
       let home = bit-eq _ _ (rw (a .standing .tasks _ (readyLine p) (inr (omega arith, omega arith))) at c) in
-      let r = in-ready (t .tasks) (a .tasks) _ p low home in
+      let r = in-ready _ (t .tasks) (a .tasks) _ p low home in
       (r .0, r .1)
 
   -- ---- the state after dispatch
   module _ (r : Ranges (t .state)) (quiet : swiDue (t .swis) (t .lines) (t .state) ≡ false) where
-    another : Stated (t .tasks) (t .swis) (t .lines) (withState (t .state) CURRENT (front levels (t .lines)))
+    another : Stated (t .tasks) (t .swis) (t .lines) (withState (t .state) CURRENT (front (levels (t .state)) (t .lines)))
     unfolding swiDue
     another =
-        let i : ℕ = front levels (t .lines) in
+        let i : ℕ = front (levels (t .state)) (t .lines) in
         let st : List ℕ = withState (t .state) CURRENT i in
         let same : (f : ℕ) → f ≢ CURRENT → state st f ≡ state (t .state) f = λ f n. getD-set-other (t .state) CURRENT f i 0 n in
         let now : state st CURRENT ≡ i = getD-set-same (t .state) CURRENT i 0 (omega (arith, a .typed .state)) in
@@ -178,10 +179,10 @@ module _ (t : Tables) (a : Almost t) where
             omega (arith, r .depth),
             (
               omega (arith, r .swis),
-              (omega (arith, r .tasks, same TASKS (λ e. omega arith)), (omega (arith, front-ready .0), rw now (front-ready .1))),
+              (omega (arith, r .tasks, same TASKS (λ e. omega arith)), (omega (arith, front-ready .0), (rw now (front-ready .1), rw (same LEVELS (λ e. omega arith)) (r .levels)))),
             ),
           );
-          dispatch = (rw (d, w, quiet), λ e. now);
+          dispatch = (rw (d, w, quiet), λ e. rw (levels-same (t .state) CURRENT i (λ e. omega arith)) now);
         }
 
     -- it was ready, or another was due
@@ -190,7 +191,7 @@ module _ (t : Tables) (a : Almost t) where
     same-current not-due is =
         record {
           size = a .typed .state;
-          state = (r .depth, (r .swis, (r .tasks, (r .current, is))));
+          state = (r .depth, (r .swis, (r .tasks, (r .current, (is, r .levels)))));
           dispatch = (rw quiet, λ e. absurd (true≢false (sym e ∙ not-due)));
         }
 
@@ -201,6 +202,11 @@ module _ (t : Tables) (a : Almost t) where
         chosen (λ (st : List ℕ). Stated (t .tasks) (t .swis) (t .lines) st) (taskDue (t .lines) (t .state)) _ _
         (λ e. another)
         (λ e. same-current e (is e))
+
+dispatched-levels : (ls st : List ℕ) → levels (taskDispatched ls st) ≡ levels st
+unfolding taskDispatched
+dispatched-levels ls st =
+    chosen (λ (su : List ℕ). levels su ≡ levels st) (taskDue ls st) _ _ (λ _. levels-same st CURRENT _ (λ e. omega arith)) (λ _. refl)
 
 module _ (t : Tables) (s : Settling t) where
   x : Posts
@@ -228,7 +234,7 @@ module _ (t : Tables) (s : Settling t) where
   after-dispatch =
       let a = now-almost in
       others-change (withPosts t x) a (t .semaphores) (t .events) (t .mailboxes) (t .clocks) (t .heap) _ refl refl refl refl refl
-      (settled .size ∙ sym (a .typed .state)) (a .semaphores) (a .events) (a .mailboxes) (a .clocks) (a .heap)
+      (settled .size ∙ sym (a .typed .state)) (dispatched-levels (x .lines) (t .state)) (a .semaphores) (a .events) (a .mailboxes) (a .clocks) (a .heap)
 
   pub settled-typed : Typed (withDispatched t (dispatched (t .swis) (t .lines) (t .state)))
   settled-typed = after-dispatch .typed
@@ -241,7 +247,7 @@ module _ (t : Tables) (s : Settling t) where
         state = settled .state;
         heap = a .heap;
         clocks = a .clocks;
-        tasks = a .tasks;
+        tasks = rw (dispatched-levels (swiDispatched (t .state) (posts (t .swis) (t .lines)) .lines) (t .state)) (a .tasks);
         lines = a .lines;
         members = members-is (withPosts t x) a;
         taskOnce = task-once (withPosts t x) a;

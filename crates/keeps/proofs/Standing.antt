@@ -11,7 +11,7 @@ use borrow.Author.Tests.{eq-eqb, ne-eqb, lt-ltb, le-ltb, le-leb, lt-leb, ltb-tru
 use Rattle.fold.specs.Lists.{bit, count}
 use Rattle.fold.specs.Rule.{Means, _is_, every}
 use Rattle.fold.proofs.Laws.{same?, lt-or-le, count-first}
-use Rattle.rules.specs.Tables.{Typed, taskCount, swiCount, swiWidth, ready, task, swi, levels, PRIORITY, POSTED}
+use Rattle.rules.specs.Tables.{Typed, taskCount, swiCount, swiWidth, ready, task, swi, mostLevels, levels, PRIORITY, POSTED}
 use Rattle.rules.specs.Lines.{lineCount, nowhere, readyLine, postedLine, activeLine, line, anyone, first, homeBy, taskHome, swiHome}
 use Rattle.rules.specs.Sound.{Sound, isPosted, homeIn, membersRule, onceRule, tasksRule, swiRule}
 use Rattle.rules.specs.declared.Tables.{Tables}
@@ -111,14 +111,14 @@ sound-almost t typed s =
     }
 
 -- a task's line is one of tasks, or it stands nowhere
-pub home-of-tasks : (ts : List ℕ) → Means (tasksRule ts) → (i : ℕ) → OfTasks (taskHome ts i) ⊎ (taskHome ts i ≡ nowhere)
-home-of-tasks ts rule i = stands-in (task ts i) (task-stands ts rule i)
+pub home-of-tasks : (st : List ℕ) (ts : List ℕ) → Means (tasksRule (levels st) ts) → (i : ℕ) → OfTasks (taskHome ts i) ⊎ (taskHome ts i ≡ nowhere)
+home-of-tasks st ts rule i = stands-in (task ts i) (task-stands _ ts rule i)
 
 -- who stands in a ready queue is ready, and a task of that priority
-pub in-ready : (ts : List ℕ) → Means (tasksRule ts) → (x p : ℕ) → p < levels → taskHome ts x ≡ readyLine p
+pub in-ready : (st : List ℕ) (ts : List ℕ) → Means (tasksRule (levels st) ts) → (x p : ℕ) → p < mostLevels → taskHome ts x ≡ readyLine p
     → (x < taskCount) × (task ts x .mode ≡ ready) × (task ts x .priority ≡ p)
-in-ready ts rule x p l e =
-    let row = ready-row (task ts x) (task-stands ts rule x) p l e in
+in-ready st ts rule x p l e =
+    let row = ready-row (task ts x) (task-stands _ ts rule x) p l e in
     (by-range x taskCount (λ h. h) (λ h. absurd (omega (arith, home-out ts x h))), row .0, row .1)
 
 -- and back
@@ -145,7 +145,7 @@ module _ (t : Tables) (a : Almost t) where
       ⊎-elim
       (λ (o : OfTasks (taskHome (t .tasks) i)). a .standing .tasks i (taskHome (t .tasks) i) o ∙ bit-same (taskHome (t .tasks) i) (taskHome (t .tasks) i) refl)
       (λ (e : taskHome (t .tasks) i ≡ nowhere). absurd (omega arith))
-      (home-of-tasks (t .tasks) (a .tasks) i)
+      (home-of-tasks _ (t .tasks) (a .tasks) i)
 
   pub swi-once : Means (onceRule swiCount (swiHome (t .swis)) (t .lines))
   unfolding swiRule

@@ -32,7 +32,7 @@ rule-used ws ls x u p o c = (omega arith, (λ z. absurd (omega arith), (p, (o, c
 -- ---- Swi i's row changes, it may come into a line of Swis or leave one, and nothing else is touched
 pub record SwiChanged (t : Tables) (i : ℕ) (p : Posts) : Type 0 where
   pub swisLength : length (p .swis) ≡ 96
-  pub linesLength : length (p .lines) ≡ 2145
+  pub linesLength : length (p .lines) ≡ 2673
   pub lines : Means (linesRule (p .lines))
   pub ofTasks : (j : ℕ) → OfTasks j → line (p .lines) j ≡ line (t .lines) j
   pub rows : (x f : ℕ) → x ≢ i → swi (p .swis) x f ≡ swi (t .swis) x f

@@ -8,10 +8,11 @@ use lib.ListN.{length}
 use borrow.Author.Tests.{ne-eqb}
 use Rattle.fold.specs.Rule.{Means}
 use Rattle.fold.proofs.Laws.{same?}
-use Rattle.rules.specs.Tables.{taskCount, taskWidth, levels, ready, atSemaphore, atEvent, reading, writing, inactive, notInUse, task, taskWords, withTask, noTask}
+use Rattle.rules.specs.Tables.{taskCount, taskWidth, mostLevels, levels, ready, atSemaphore, atEvent, reading, writing, inactive, notInUse, task, taskWords, withTask, noTask}
 use Rattle.rules.specs.Lines.{nowhere, semaphoreLine, mailboxLine, eventLine, readyLine, homeBy, homeOf, taskHome}
 use Rattle.rules.specs.Sound.{otherRule, taskRule, tasksRule}
 use Rattle.rules.specs.declared.Task.{Task}
+use Rattle.laws.proofs.Levels.{levels-under}
 use Rattle.laws.proofs.Rows.{by-range, field-out, row-same, row-other, length-withRow}
 use Rattle.keeps.proofs.Groups.{OfTasks}
 
@@ -48,9 +49,9 @@ module _ (ts : List ℕ) (i : ℕ) where
   in-use n = task-in (λ e. n (ap (λ (k : Task). k .mode) e))
 
 -- a row that its rule allows
-pub tasks-withTask : (ts : List ℕ) (i : ℕ) (k : Task) → length ts ≡ 256 → i < taskCount → Means (tasksRule ts) → Means (taskRule i k)
-    → Means (tasksRule (withTask ts i k))
-tasks-withTask ts i k all lt rule row x h =
+pub tasks-withTask : (st : List ℕ) (ts : List ℕ) (i : ℕ) (k : Task) → length ts ≡ 256 → i < taskCount → Means (tasksRule (levels st) ts) → Means (taskRule (levels st) i k)
+    → Means (tasksRule (levels st) (withTask ts i k))
+tasks-withTask st ts i k all lt rule row x h =
     ⊎-elim (λ (e : x ≡ i). rw (e, task-same ts i k all lt) row) (λ (n : x ≢ i). rw (task-other ts i k x n) (rule x h)) (same? x i)
 
 -- ---- the line of a row
@@ -67,17 +68,17 @@ home-out ts x h = ap homeOf (task-out ts x h)
 
 -- a row's line, with the mode that it has there and the range of what names it
 pub data Stands (k : Task) : Type 0 where
-  isReady : k .mode ≡ ready → k .priority < levels → homeOf k ≡ readyLine (k .priority) → Stands k
+  isReady : k .mode ≡ ready → k .priority < mostLevels → homeOf k ≡ readyLine (k .priority) → Stands k
   isAtSemaphore : k .mode ≡ atSemaphore → k .object < 16 → homeOf k ≡ semaphoreLine (k .object) → Stands k
   isAtEvent : k .mode ≡ atEvent → k .object < 8 → homeOf k ≡ eventLine (k .object) → Stands k
   isAtMailbox : (k .mode ≡ reading) ⊎ (k .mode ≡ writing) → k .object < 8 → homeOf k ≡ mailboxLine (k .object) → Stands k
   isNowhere : homeOf k ≡ nowhere → Stands k
 
-other-stands : (k : Task) → Means (otherRule k) → Stands k
+other-stands : (st : List ℕ) (k : Task) → Means (otherRule (levels st) k) → Stands k
 unfolding otherRule homeBy
-other-stands k (_, (_, (_, (_, (_, (_, (atS, (atE, (reads, (writes, (_, (_, range)))))))))))) =
+other-stands st k (_, (_, (_, (_, (_, (_, (atS, (atE, (reads, (writes, (_, (_, range)))))))))))) =
     ⊎-elim
-    (λ (e : k .mode ≡ ready). isReady e (range (λ (z : k .mode ≡ notInUse). omega arith, λ (z : k .mode ≡ inactive). omega arith) .1) (rw e))
+    (λ (e : k .mode ≡ ready). isReady e (omega (arith, range (λ (z : k .mode ≡ notInUse). omega arith, λ (z : k .mode ≡ inactive). omega arith) .1, levels-under st)) (rw e))
     (λ (a : k .mode ≢ ready).
     ⊎-elim
     (λ (e : k .mode ≡ atSemaphore). isAtSemaphore e (atS e .0 .0) (rw e))
@@ -98,16 +99,16 @@ other-stands k (_, (_, (_, (_, (_, (_, (atS, (atE, (reads, (writes, (_, (_, rang
     (same? (k .mode) ready)
 
 -- every row that its rule allows stands somewhere or nowhere; one that is not there stands nowhere
-pub row-stands : (i : ℕ) (k : Task) → Means (taskRule i k) → Stands k
+pub row-stands : (st : List ℕ) (i : ℕ) (k : Task) → Means (taskRule (levels st) i k) → Stands k
 unfolding homeBy
-row-stands i k (idle, other) =
+row-stands st i k (idle, other) =
     ⊎-elim
     (λ (e : i ≡ 0). let (m, (p, _)) = idle e in isReady m (omega arith) (rw m))
-    (λ (n : i ≢ 0). other-stands k (other n))
+    (λ (n : i ≢ 0). other-stands _ k (other n))
     (same? i 0)
 
-pub task-stands : (ts : List ℕ) → Means (tasksRule ts) → (x : ℕ) → Stands (task ts x)
-task-stands ts m x = by-range x taskCount (λ h. row-stands x (task ts x) (m x h)) (λ h. isNowhere (home-out ts x h))
+pub task-stands : (st : List ℕ) (ts : List ℕ) → Means (tasksRule (levels st) ts) → (x : ℕ) → Stands (task ts x)
+task-stands st ts m x = by-range x taskCount (λ h. row-stands _ x (task ts x) (m x h)) (λ h. isNowhere (home-out ts x h))
 
 -- ---- what the line says of the row
 pub stands-in : (k : Task) → Stands k → OfTasks (homeOf k) ⊎ (homeOf k ≡ nowhere)
@@ -117,7 +118,7 @@ stands-in k (isAtEvent m l e) = inl (inl (omega arith))
 stands-in k (isAtMailbox m l e) = inl (inl (omega arith))
 stands-in k (isNowhere e) = inr e
 
-pub ready-row : (k : Task) → Stands k → (p : ℕ) → p < levels → homeOf k ≡ readyLine p → (k .mode ≡ ready) × (k .priority ≡ p)
+pub ready-row : (k : Task) → Stands k → (p : ℕ) → p < mostLevels → homeOf k ≡ readyLine p → (k .mode ≡ ready) × (k .priority ≡ p)
 ready-row k (isReady m l e) p h q = (m, omega arith)
 ready-row k (isAtSemaphore m l e) p h q = absurd (omega arith)
 ready-row k (isAtEvent m l e) p h q = absurd (omega arith)

@@ -10,7 +10,7 @@ use lib.Dec.{eqb}
 use Rattle.fold.specs.Find.{rising}
 use Rattle.fold.specs.Rule.{Means}
 use Rattle.fold.proofs.Laws.{same?}
-use Rattle.rules.specs.Tables.{taskCount, clockCount, notInUse, ready, sleeping, terminated, inactive, task, clock, withClock, swi, tables, USED}
+use Rattle.rules.specs.Tables.{taskCount, clockCount, notInUse, ready, sleeping, terminated, inactive, task, clock, withClock, swi, tables, USED, levels}
 use Rattle.rules.specs.Lines.{Queued, queued}
 use Rattle.rules.specs.Swis.{Posts, posts, posted}
 use Rattle.rules.specs.Clocks.{withLeft}
@@ -100,10 +100,10 @@ clocks-tick t a =
 
 -- ---- the tasks
 -- ticks are left of a sleep or a limited wait only
-waits-of : (i : ℕ) (k : Task) → Means (taskRule i k) → k .left ≢ 0 → (i ≢ 0) × ((1 < k .mode) × (k .mode < 7))
-waits-of i k row some =
+waits-of : (st : List ℕ) (i : ℕ) (k : Task) → Means (taskRule (levels st) i k) → k .left ≢ 0 → (i ≢ 0) × ((1 < k .mode) × (k .mode < 7))
+waits-of st i k row some =
     let n : i ≢ 0 = λ z. some (row .0 z .1 .1 .0 .1 .0) in
-    let r = row-other i k n row in
+    let r = row-other _ i k n row in
     let a : k .mode ≢ notInUse = λ e. some (r .whenFree e .1 .0 .1 .0) in
     let b : k .mode ≢ ready = λ e. some (r .whenReady e .1 .0) in
     let c : k .mode ≢ terminated = λ e. some (r .whenTerminated e .1 .0) in
@@ -123,7 +123,7 @@ module _ (t : Tables) (x : ℕ) where
       ⊎-elim
       (λ (e : k .left ≡ 0). rw (eq-eqb (k .left) 0 e) (a, r))
       (λ (m : k .left ≢ 0).
-      let (n, (low, high)) = waits-of i k (a .tasks i lt) m in
+      let (n, (low, high)) = waits-of _ i k (a .tasks i lt) m in
       ⊎-elim
       (λ (e : k .left ≡ 1).
       let small = ended-small (k .mode) in
@@ -132,7 +132,7 @@ module _ (t : Tables) (x : ℕ) where
         woken-ready (withQueued t q) a i lt low high (endedWith (k .mode)) 0 small (λ _. refl) x r,
       ))
       (λ (o : k .left ≢ 1).
-      let row = still-waiting i k n (a .tasks i lt) low high (k .priority) (k .left - 1) (row-other i k n (a .tasks i lt) .level (used-at (k .mode) (omega arith) (omega arith))) (omega arith) (λ _ z. omega arith) in
+      let row = still-waiting _ i k n (a .tasks i lt) low high (k .priority) (k .left - 1) (row-other _ i k n (a .tasks i lt) .level (used-at (k .mode) (omega arith) (omega arith))) (omega arith) (λ _ z. omega arith) in
       let apart : x ≢ i = λ z. let q : k .mode ≡ ready = rw z at r in omega arith in
       rw (ne-eqb (k .left) 0 m, ne-eqb (k .left) 1 o) (
         row-keeps (withQueued t q) a i (oneLess k) lt row refl (λ _. (refl, refl, refl)),

@@ -34,7 +34,7 @@ pub both : (a b : Bool) → (a && b) ≡ true → (a ≡ true) × (b ≡ true)
 both a b = and-eq-true-iff a b .0
 
 -- ---- a row of a task other than task 0: the parts of its rule by name
-pub record Other (k : Task) : Type 0 where
+pub record Other (st : List ℕ) (k : Task) : Type 0 where
   pub range : k .mode < 9
   pub outcome : k .outcome < 2
   pub unmet : k .outcome ≡ 1 → k .value ≡ 0
@@ -48,11 +48,11 @@ pub record Other (k : Task) : Type 0 where
   pub whenWriting : k .mode ≡ writing → Means (waitRule k mailboxCount and (k .second is 0))
   pub whenTerminated : k .mode ≡ terminated → Means (noWait k)
   pub whenInactive : k .mode ≡ inactive → Means ((k .priority is minusOne) and noWait k)
-  pub level : (k .mode ≢ notInUse) × (k .mode ≢ inactive) → (0 < k .priority) × (k .priority < levels)
+  pub level : (k .mode ≢ notInUse) × (k .mode ≢ inactive) → (0 < k .priority) × (k .priority < levels st)
 
-pub other-parts : (k : Task) → Means (otherRule k) → Other k
+pub other-parts : (st : List ℕ) (k : Task) → Means (otherRule (levels st) k) → Other st k
 unfolding otherRule
-other-parts k m =
+other-parts st k m =
     let (a0, (a1, (a2, (a3, (a4, (a5, (a6, (a7, (a8, (a9, (a10, (a11, a12)))))))))))) = m in
     record {
       range = a0;
@@ -70,26 +70,26 @@ other-parts k m =
       level = a12;
     }
 
-pub other-of : (k : Task) → Other k → Means (otherRule k)
+pub other-of : (st : List ℕ) (k : Task) → Other st k → Means (otherRule (levels st) k)
 unfolding otherRule
-other-of k r =
+other-of st k r =
     (r .range, (r .outcome, (r .unmet, (r .whenFree, (r .whenReady, (r .whenSleeping, (r .whenAtSemaphore, (r .whenAtEvent, (r .whenReading, (r .whenWriting, (r .whenTerminated, (r .whenInactive, r .level))))))))))))
 
-pub other-row : (i : ℕ) (k : Task) → i ≢ 0 → Other k → Means (taskRule i k)
-other-row i k n r = (λ z. absurd (n z), λ _. other-of k r)
+pub other-row : (st : List ℕ) (i : ℕ) (k : Task) → i ≢ 0 → Other st k → Means (taskRule (levels st) i k)
+other-row st i k n r = (λ z. absurd (n z), λ _. other-of _ k r)
 
-pub row-other : (i : ℕ) (k : Task) → i ≢ 0 → Means (taskRule i k) → Other k
-row-other i k n m = other-parts k (m .1 n)
+pub row-other : (st : List ℕ) (i : ℕ) (k : Task) → i ≢ 0 → Means (taskRule (levels st) i k) → Other st k
+row-other st i k n m = other-parts _ k (m .1 n)
 
 -- a row with nothing of a wait: not in use, ready, terminated or inactive
-pub rest-row : (i : ℕ) (k : Task) → i ≢ 0 → Means (noWait k) → (k .mode < 2) ⊎ ((6 < k .mode) × (k .mode < 9)) → k .outcome < 2
+pub rest-row : (st : List ℕ) (i : ℕ) (k : Task) → i ≢ 0 → Means (noWait k) → (k .mode < 2) ⊎ ((6 < k .mode) × (k .mode < 9)) → k .outcome < 2
     → (k .outcome ≡ 1 → k .value ≡ 0)
     → (k .mode ≡ notInUse → Means ((k .priority is 0) and (k .outcome is 0) and (k .value is 0)))
     → (k .mode ≡ inactive → k .priority ≡ minusOne)
-    → ((k .mode ≢ notInUse) × (k .mode ≢ inactive) → (0 < k .priority) × (k .priority < levels))
-    → Means (taskRule i k)
-rest-row i k n clear m small unmet free low level =
-    other-row i k n
+    → ((k .mode ≢ notInUse) × (k .mode ≢ inactive) → (0 < k .priority) × (k .priority < levels st))
+    → Means (taskRule (levels st) i k)
+rest-row st i k n clear m small unmet free low level =
+    other-row _ i k n
     (record {
       range = ⊎-elim (λ (h : k .mode < 2). omega arith) (λ (h : (6 < k .mode) × (k .mode < 9)). h .1) m;
       outcome = small;
@@ -110,11 +110,11 @@ rest-row i k n clear m small unmet free low level =
     out x a b e = ⊎-elim (λ (h : k .mode < 2). omega arith) (λ (h : (6 < k .mode) × (k .mode < 9)). omega arith) m
 
 -- a row of a wait, but its priority and the ticks left of its limit
-pub still-waiting : (i : ℕ) (k : Task) → i ≢ 0 → Means (taskRule i k) → 1 < k .mode → k .mode < 7 → (p l : ℕ) → (0 < p) × (p < levels)
+pub still-waiting : (st : List ℕ) (i : ℕ) (k : Task) → i ≢ 0 → Means (taskRule (levels st) i k) → 1 < k .mode → k .mode < 7 → (p l : ℕ) → (0 < p) × (p < levels st)
     → l ≤ k .left
     → (k .mode ≡ sleeping → l ≢ 0)
     → Means
-    (taskRule i
+    (taskRule (levels st) i
     (record {
       mode = k .mode;
       priority = p;
@@ -125,9 +125,9 @@ pub still-waiting : (i : ℕ) (k : Task) → i ≢ 0 → Means (taskRule i k) �
       outcome = k .outcome;
       value = k .value;
     }))
-still-waiting i k n row low high p l level less some =
-    let r = row-other i k n row in
-    other-row i _ n
+still-waiting st i k n row low high p l level less some =
+    let r = row-other _ i k n row in
+    other-row _ i _ n
     (record {
       range = r .range;
       outcome = r .outcome;
@@ -158,12 +158,12 @@ unfolding ticksFor
 ticks-ended limit n = rw (ne-eqb limit forever n)
 
 -- ---- the rows of waits: a task in use, at its priority, with its last result
-module _ (i : ℕ) (k : Task) (n : i ≢ 0) (row : Means (taskRule i k)) (used : (k .mode ≢ notInUse) × (k .mode ≢ inactive)) where
+module _ (st : List ℕ) (i : ℕ) (k : Task) (n : i ≢ 0) (row : Means (taskRule (levels st) i k)) (used : (k .mode ≢ notInUse) × (k .mode ≢ inactive)) where
   -- once its wait has ended
-  pub readied-row : (o v : ℕ) → o < 2 → (o ≡ 1 → v ≡ 0) → Means (taskRule i (readied k o v))
+  pub readied-row : (o v : ℕ) → o < 2 → (o ≡ 1 → v ≡ 0) → Means (taskRule (levels st) i (readied k o v))
   readied-row o v small unmet =
-      rest-row i (readied k o v) n (refl, (refl, (refl, refl))) (inl (omega arith)) small unmet (λ e. absurd (omega arith)) (λ e. absurd (omega arith))
-      (λ _. row-other i k n row .level used)
+      rest-row _ i (readied k o v) n (refl, (refl, (refl, refl))) (inl (omega arith)) small unmet (λ e. absurd (omega arith)) (λ e. absurd (omega arith))
+      (λ _. row-other _ i k n row .level used)
 
   module _ (mode object limit x y : ℕ) (low : 1 < mode) (high : mode < 7) where
     abbrev w : Task
@@ -174,13 +174,13 @@ module _ (i : ℕ) (k : Task) (n : i ≢ 0) (row : Means (taskRule i k)) (used :
         → (mode ≡ atEvent → Means (waitRule w eventCount and (w .first isnt 0 or w .second isnt 0)))
         → (mode ≡ reading → Means (waitRule w mailboxCount and (w .first is 0) and (w .second is 0)))
         → (mode ≡ writing → Means (waitRule w mailboxCount and (w .second is 0)))
-        → Means (taskRule i w)
+        → Means (taskRule (levels st) i w)
     blocked-row ofSleep ofSemaphore ofEvent ofReader ofWriter =
-        other-row i w n
+        other-row _ i w n
         (record {
           range = omega arith;
-          outcome = row-other i k n row .outcome;
-          unmet = row-other i k n row .unmet;
+          outcome = row-other _ i k n row .outcome;
+          unmet = row-other _ i k n row .unmet;
           whenFree = λ (e : mode ≡ 0). absurd (omega arith);
           whenReady = λ (e : mode ≡ 1). absurd (omega arith);
           whenSleeping = ofSleep;
@@ -190,10 +190,10 @@ module _ (i : ℕ) (k : Task) (n : i ≢ 0) (row : Means (taskRule i k)) (used :
           whenWriting = ofWriter;
           whenTerminated = λ (e : mode ≡ 7). absurd (omega arith);
           whenInactive = λ (e : mode ≡ 8). absurd (omega arith);
-          level = λ _. row-other i k n row .level used;
+          level = λ _. row-other _ i k n row .level used;
         })
 
-  pub sleeping-row : (limit : ℕ) → limit ≢ 0 → limit < forever → Means (taskRule i (waiting k sleeping 0 limit 0 0))
+  pub sleeping-row : (limit : ℕ) → limit ≢ 0 → limit < forever → Means (taskRule (levels st) i (waiting k sleeping 0 limit 0 0))
   sleeping-row limit z h =
       let e : ticksFor limit ≡ limit = ticks-ended limit (λ (q : limit ≡ forever). omega arith) in
       blocked-row sleeping 0 limit 0 0 (omega arith) (omega arith)
@@ -201,25 +201,25 @@ module _ (i : ℕ) (k : Task) (n : i ≢ 0) (row : Means (taskRule i k)) (used :
       (λ q. absurd (omega arith)) (λ q. absurd (omega arith)) (λ q. absurd (omega arith)) (λ q. absurd (omega arith))
 
   module _ (object limit : ℕ) (word : limit < wordEnd) where
-    pub at-semaphore-row : object < semaphoreCount → Means (taskRule i (waiting k atSemaphore object limit 0 0))
+    pub at-semaphore-row : object < semaphoreCount → Means (taskRule (levels st) i (waiting k atSemaphore object limit 0 0))
     at-semaphore-row h =
         blocked-row atSemaphore object limit 0 0 (omega arith) (omega arith) (λ q. absurd (omega arith))
         (λ _. ((h, ticks-under limit word), (refl, refl)))
         (λ q. absurd (omega arith)) (λ q. absurd (omega arith)) (λ q. absurd (omega arith))
 
-    pub at-event-row : object < eventCount → (x y : ℕ) → (x ≢ 0) ⊎ (y ≢ 0) → Means (taskRule i (waiting k atEvent object limit x y))
+    pub at-event-row : object < eventCount → (x y : ℕ) → (x ≢ 0) ⊎ (y ≢ 0) → Means (taskRule (levels st) i (waiting k atEvent object limit x y))
     at-event-row h x y some =
         blocked-row atEvent object limit x y (omega arith) (omega arith) (λ q. absurd (omega arith)) (λ q. absurd (omega arith))
         (λ _. ((h, ticks-under limit word), some))
         (λ q. absurd (omega arith)) (λ q. absurd (omega arith))
 
-    pub reading-row : object < mailboxCount → Means (taskRule i (waiting k reading object limit 0 0))
+    pub reading-row : object < mailboxCount → Means (taskRule (levels st) i (waiting k reading object limit 0 0))
     reading-row h =
         blocked-row reading object limit 0 0 (omega arith) (omega arith) (λ q. absurd (omega arith)) (λ q. absurd (omega arith)) (λ q. absurd (omega arith))
         (λ _. ((h, ticks-under limit word), (refl, refl)))
         (λ q. absurd (omega arith))
 
-    pub writing-row : object < mailboxCount → (x : ℕ) → Means (taskRule i (waiting k writing object limit x 0))
+    pub writing-row : object < mailboxCount → (x : ℕ) → Means (taskRule (levels st) i (waiting k writing object limit x 0))
     writing-row h x =
         blocked-row writing object limit x 0 (omega arith) (omega arith) (λ q. absurd (omega arith)) (λ q. absurd (omega arith)) (λ q. absurd (omega arith)) (λ q. absurd (omega arith))
         (λ _. ((h, ticks-under limit word), refl))
@@ -236,7 +236,7 @@ current-in st h = rw (lt-ltb (state st CURRENT) taskCount h)
 module _ (t : Tables) (s : Sound t) where
   pub sound-ranges : Ranges (t .state)
   sound-ranges =
-      record { depth = s .state .0; swis = s .state .1 .0; tasks = s .state .1 .1 .0; current = s .state .1 .1 .1 .0 }
+      record { depth = s .state .0; swis = s .state .1 .0; tasks = s .state .1 .1 .0; current = s .state .1 .1 .1 .0; levels = s .state .1 .1 .1 .1 .1 }
 
   pub current-is : current (t .state) ≡ state (t .state) CURRENT
   current-is = current-in (t .state) (s .state .1 .1 .1 .0)
@@ -245,12 +245,12 @@ module _ (t : Tables) (s : Sound t) where
   current-under = rw current-is (s .state .1 .1 .1 .0)
 
   pub still-ready : task (t .tasks) (state (t .state) CURRENT) .mode ≡ ready
-  still-ready = s .state .1 .1 .1 .1
+  still-ready = s .state .1 .1 .1 .1 .0
 
   pub current-ready : task (t .tasks) (current (t .state)) .mode ≡ ready
   current-ready = rw current-is still-ready
 
-  pub current-row : Means (taskRule (current (t .state)) (task (t .tasks) (current (t .state))))
+  pub current-row : Means (taskRule (levels (t .state)) (current (t .state)) (task (t .tasks) (current (t .state))))
   current-row = s .tasks (current (t .state)) current-under
 
   pub current-used : (task (t .tasks) (current (t .state)) .mode ≢ notInUse) × (task (t .tasks) (current (t .state)) .mode ≢ inactive)
@@ -305,7 +305,7 @@ task-due ls st c off =
 
 -- ---- a wait begins: the current task leaves the ready ones, and dispatch will choose another
 pub waits-settle : (t : Tables) → Typed t → Sound t → context (t .lines) (t .state) ≡ T → switchOff (t .state) ≡ false
-    → (k : Task) → Means (taskRule (current (t .state)) k) → Welcome t (current (t .state)) k → (place : List ℕ → ℕ)
+    → (k : Task) → Means (taskRule (levels (t .state)) (current (t .state)) k) → Welcome t (current (t .state)) k → (place : List ℕ → ℕ)
     → Settling (withQueued t (moved place (current (t .state)) k (queued (t .tasks) (t .lines))))
 waits-settle t typed s c off k row welcome place =
     let a = sound-almost t typed s in
@@ -335,7 +335,7 @@ pub welcome-ready : (t : Tables) (i : ℕ) (k : Task) → k .mode ≡ ready → 
 welcome-ready t i k e = welcome-none t i k (inl (omega arith))
 
 -- who is ready stays so when any task moves to be ready
-pub moved-ready : (t : Tables) (a : Almost t) (place : List ℕ → ℕ) (i : ℕ) (k : Task) (lt : i < taskCount) (row : Means (taskRule i k))
+pub moved-ready : (t : Tables) (a : Almost t) (place : List ℕ → ℕ) (i : ℕ) (k : Task) (lt : i < taskCount) (row : Means (taskRule (levels (t .state)) i k))
     → k .mode ≡ ready → (x : ℕ) → task (t .tasks) x .mode ≡ ready
     → task (moved place i k (queued (t .tasks) (t .lines)) .tasks) x .mode ≡ ready
 moved-ready t a place i k lt row e x r =
@@ -350,8 +350,8 @@ module _ (t : Tables) (a : Almost t) (i : ℕ) (lt : i < taskCount) (low : ready
   waiter-other z = omega (arith, a .tasks i lt .0 z .0)
 
   module _ (o v : ℕ) (small : o < 2) (unmet : o ≡ 1 → v ≡ 0) where
-    pub woken-row : Means (taskRule i (readied (task (t .tasks) i) o v))
-    woken-row = readied-row i (task (t .tasks) i) waiter-other (a .tasks i lt) (used-at _ (omega arith) (omega arith)) o v small unmet
+    pub woken-row : Means (taskRule (levels (t .state)) i (readied (task (t .tasks) i) o v))
+    woken-row = readied-row _ i (task (t .tasks) i) waiter-other (a .tasks i lt) (used-at _ (omega arith) (omega arith)) o v small unmet
 
     pub woken-keeps : Almost (withQueued t (woken i o v (queued (t .tasks) (t .lines))))
     woken-keeps = moved-keeps t a atBack i _ lt woken-row (welcome-ready t i _ refl)

@@ -5,3 +5,4 @@ pub mod Lines
 pub mod Calls
 pub mod Effects
 pub mod Numbers
+pub mod Levels

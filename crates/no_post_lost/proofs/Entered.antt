@@ -3,13 +3,13 @@ use Prim.Native.Nat.{ℕ}
 use mathlib.Core.Path.{_≡_, refl, sym}
 use mathlib.Core.List.{List, [], _∷_, append-ne-nil-of-right-ne-nil, cons≢nil}
 use Rattle.rules.specs.Tables.{Typed}
-use Rattle.rules.specs.Fresh.{fresh}
+use Rattle.rules.specs.Fresh.{madeFresh}
 use Rattle.rules.specs.Sound.{Sound}
 use Rattle.rules.specs.declared.Tables.{Tables}
 use Rattle.runs.specs.Run.{after}
 use Rattle.demands.specs.Sequence.{Entered, Sequence, calls, tablesAfter}
 use Rattle.demands.proofs.Sequence.{as-entered}
-use Rattle.demands.proofs.Two.{fresh-is-sound}
+use Rattle.demands.proofs.Two.{made-fresh-safe}
 use Rattle.no_post_lost.specs.NoPostLost.{CallAndAnswer, history, LastSet, Counting, Balanced}
 use Rattle.no_post_lost.specs.Entered.{historyOf, NoPostLostEntered, NoPostLostEnteredFromFresh}
 use Rattle.no_post_lost.proofs.NoPostLost.{no-post-lost, no-post-lost-from-fresh}
@@ -36,6 +36,8 @@ no-post-lost-entered t sound [] row s now x = absurd (append-ne-nil-of-right-ne-
 no-post-lost-entered t sound (e ∷ es) row s now x = of-calls t sound (e ∷ es) row (row .0 .types sound .0) s now x
 
 pub no-post-lost-entered-from-fresh : NoPostLostEnteredFromFresh
-no-post-lost-entered-from-fresh es row s =
-    told fresh fresh-is-sound es row (λ h u. Counting s u → (x : LastSet s h) × Balanced s h x u)
-    (no-post-lost-from-fresh (calls es) (as-entered fresh fresh-is-sound es row .words) s)
+no-post-lost-entered-from-fresh n es row s =
+    let t : Tables = madeFresh n .tables in
+    let sound : Sound t = made-fresh-safe n .1 in
+    told t sound es row (λ h u. Counting s u → (x : LastSet s h) × Balanced s h x u)
+    (no-post-lost-from-fresh n (calls es) (as-entered t sound es row .words) s)

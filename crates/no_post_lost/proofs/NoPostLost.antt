@@ -8,14 +8,16 @@ use mathlib.Core.List.{List, [], _∷_, _++_, nil≢cons, head-eq-of-cons-eq, ta
 use native.Mathlib.Omega.{arith}
 use Rattle.fold.specs.Lists.{bit, zeros}
 use Rattle.rules.specs.Tables.{Typed, semaphoreWidth, semaphoreCount, semaphore, USED}
-use Rattle.rules.specs.Fresh.{fresh}
+use Rattle.rules.specs.Fresh.{freshWith, isLevels, madeFresh}
 use Rattle.rules.specs.Sound.{Sound}
 use Rattle.rules.specs.declared.Tables.{Tables}
+use Rattle.rules.specs.declared.Step.{Step}
+use Rattle.laws.proofs.Calls.{chosen}
 use Rattle.runs.specs.Run.{Asked, next, after, Each, AllWords}
 use Rattle.laws.proofs.Rows.{field-in, field-out, by-range}
 use Rattle.laws.proofs.Listed.{zero-at}
 use Rattle.turns.proofs.Made.{next-typed, next-sound}
-use Rattle.demands.proofs.Two.{fresh-typed, fresh-is-sound}
+use Rattle.demands.proofs.Two.{made-fresh-safe}
 use Rattle.no_post_lost.specs.NoPostLost.{CallAndAnswer, history, howMany, setsCount, isPost, takesUnit, Counting, NoPostLost, NoPostLostFromFresh}
 use Rattle.no_post_lost.proofs.LastSets.{last-or-none}
 use Rattle.no_post_lost.proofs.OneCall.{countNow, answered, one-call, count-set}
@@ -63,16 +65,22 @@ no-post-lost t typed sound qs words s now x =
     balanced s (x .call) (x .since) (x .sets) (omega (arith, x .noneSince)) (x .before) t typed sound qs words now (x .split)
 
 -- ---- from fresh tables on
-none-fresh : (s : ℕ) → semaphore (fresh .semaphores) s USED ≡ 0
-unfolding fresh
-none-fresh s =
+none-used : (s : ℕ) → semaphore (zeros 48) s USED ≡ 0
+none-used s =
     by-range s semaphoreCount
     (λ inside. field-in semaphoreWidth semaphoreCount (zeros 48) s USED inside (omega arith) ∙ zero-at 48 (s * semaphoreWidth + USED))
     (λ past. field-out semaphoreWidth semaphoreCount (zeros 48) s USED past)
 
+none-fresh : (n s : ℕ) → semaphore (madeFresh n .tables .semaphores) s USED ≡ 0
+unfolding madeFresh freshWith
+none-fresh n s =
+    chosen (λ (x : Step). semaphore (x .tables .semaphores) s USED ≡ 0) (isLevels n) _ _ (λ _. none-used s) (λ _. none-used s)
+
 pub no-post-lost-from-fresh : NoPostLostFromFresh
-no-post-lost-from-fresh qs words s now =
+no-post-lost-from-fresh n qs words s now =
+    let t : Tables = madeFresh n .tables in
+    let (typed, sound) = made-fresh-safe n in
     ⊎-elim
-    (λ x. (x, no-post-lost fresh fresh-typed fresh-is-sound qs words s now x))
-    (λ none. absurd (lasts fresh fresh-typed fresh-is-sound s qs words none now .before .used (none-fresh s)))
-    (last-or-none s (history fresh qs))
+    (λ x. (x, no-post-lost t typed sound qs words s now x))
+    (λ none. absurd (lasts t typed sound s qs words none now .before .used (none-fresh n s)))
+    (last-or-none s (history t qs))

@@ -1,7 +1,7 @@
 -- Request No. 12 of entry calls, as a caller sees them: the history is what was asked and answered, and the tables now are what the last call left.
 use Prim.Native.Nat.{ℕ}
 use mathlib.Core.List.{List, [], _∷_}
-use Rattle.rules.specs.Fresh.{fresh}
+use Rattle.rules.specs.Fresh.{madeFresh}
 use Rattle.rules.specs.Sound.{Sound}
 use Rattle.rules.specs.declared.Tables.{Tables}
 use Rattle.demands.specs.Sequence.{Entered, Sequence, tablesAfter}
@@ -18,8 +18,9 @@ NoPostLostEntered =
     (t : Tables) → Sound t → (es : List Entered) → Sequence t es → (s : ℕ) → Counting s (tablesAfter t es)
     → (x : LastSet s (historyOf es)) → Balanced s (historyOf es) x (tablesAfter t es)
 
--- from fresh tables on every counting semaphore has one
+-- from fresh tables on, with any number of levels, every counting semaphore has one
 abbrev pub NoPostLostEnteredFromFresh : Type 0
 NoPostLostEnteredFromFresh =
-    (es : List Entered) → Sequence fresh es → (s : ℕ) → Counting s (tablesAfter fresh es)
-    → (x : LastSet s (historyOf es)) × Balanced s (historyOf es) x (tablesAfter fresh es)
+    (levels : ℕ) → let t = madeFresh levels .tables in
+    (es : List Entered) → Sequence t es → (s : ℕ) → Counting s (tablesAfter t es)
+    → (x : LastSet s (historyOf es)) × Balanced s (historyOf es) x (tablesAfter t es)

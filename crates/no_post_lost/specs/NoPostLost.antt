@@ -9,7 +9,7 @@ use Rattle.fold.specs.Lists.{bit}
 use Rattle.rules.specs.Answer.{done}
 use Rattle.rules.specs.Tables.{Typed, semaphore, USED, KIND, COUNT}
 use Rattle.rules.specs.Semaphores.{isBinary}
-use Rattle.rules.specs.Fresh.{fresh}
+use Rattle.rules.specs.Fresh.{madeFresh}
 use Rattle.rules.specs.Sound.{Sound}
 use Rattle.rules.specs.declared.Answer.{Answer}
 use Rattle.rules.specs.declared.Tables.{Tables}
@@ -72,8 +72,9 @@ NoPostLost =
     (t : Tables) → Typed t → Sound t → (qs : List Asked) → AllWords t qs → (s : ℕ) → Counting s (after t qs)
     → (x : LastSet s (history t qs)) → Balanced s (history t qs) x (after t qs)
 
--- from fresh tables on every counting semaphore has one
+-- from fresh tables on, with any number of levels, every counting semaphore has one
 abbrev pub NoPostLostFromFresh : Type 0
 NoPostLostFromFresh =
-    (qs : List Asked) → AllWords fresh qs → (s : ℕ) → Counting s (after fresh qs)
-    → (x : LastSet s (history fresh qs)) × Balanced s (history fresh qs) x (after fresh qs)
+    (levels : ℕ) → let t = madeFresh levels .tables in
+    (qs : List Asked) → AllWords t qs → (s : ℕ) → Counting s (after t qs)
+    → (x : LastSet s (history t qs)) × Balanced s (history t qs) x (after t qs)

@@ -75,9 +75,9 @@ fn make_calls(
     sum
 }
 
-// All of them, from fresh tables.
-fn one_round(calls: &Calls, n: usize, from: u32) -> u32 {
-    let fresh = entries::fresh();
+// All of them, from fresh tables of so many levels.
+fn one_round(levels: u32, calls: &Calls, n: usize, from: u32) -> u32 {
+    let fresh = entries::fresh(levels).tables;
     let mut tasks = fresh.tasks;
     let mut lines = fresh.lines;
     let mut semaphores = fresh.semaphores;
@@ -134,10 +134,11 @@ fn main() {
     let n = read_log(&mut log) / 20;
     let mut calls = [0u32; 16380];
     pacing::as_calls(&log, &mut calls, n);
+    let levels = pacing::levels_of(&log);
     let mut sum = 0;
     let mut left = rounds();
     while 0 < left {
-        sum = one_round(&calls, n, sum);
+        sum = one_round(levels, &calls, n, sum);
         left -= 1;
     }
     print_sum(sum);

@@ -4,8 +4,8 @@ use text::Text;
 ghost use Rattle.io.specs.Counts.{Counts};
 
 // The calls in place on tables that are kept, from fresh ones.
-fn in_place(calls: &Calls, n: usize, from: u32) -> u32 {
-    let fresh = entries::fresh();
+fn in_place(levels: u32, calls: &Calls, n: usize, from: u32) -> u32 {
+    let fresh = entries::fresh(levels).tables;
     let mut tasks = fresh.tasks;
     let mut lines = fresh.lines;
     let mut semaphores = fresh.semaphores;
@@ -46,8 +46,8 @@ fn in_place(calls: &Calls, n: usize, from: u32) -> u32 {
 }
 
 // The calls on tables by value.
-fn by_value(calls: &Calls, n: usize, from: u32) -> u32 {
-    let mut tables = entries::fresh();
+fn by_value(levels: u32, calls: &Calls, n: usize, from: u32) -> u32 {
+    let mut tables = entries::fresh(levels).tables;
     let mut sum = from;
     let mut k = 0;
     while k < 3276 {
@@ -102,14 +102,15 @@ fn main() {
     let n = read_log(&mut log) / 20;
     let mut calls = [0u32; 16380];
     pacing::as_calls(&log, &mut calls, n);
+    let levels = pacing::levels_of(&log);
     let kept = os::arg_count() < 3;
     let mut sum = 0;
     let mut left = rounds();
     while 0 < left {
         if kept {
-            sum = in_place(&calls, n, sum);
+            sum = in_place(levels, &calls, n, sum);
         } else {
-            sum = by_value(&calls, n, sum);
+            sum = by_value(levels, &calls, n, sum);
         }
         left -= 1;
     }

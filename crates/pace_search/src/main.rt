@@ -1,13 +1,14 @@
 // Searches for the highest of sixteen queues again and again, and prints a sum over what was found: for measuring. The search for posted
-// Swis walks through the queues, the search for ready tasks makes a word of them.
+// Swis walks through the queues, the search for ready tasks makes a word of them, and with 32 levels one of 32 queues.
 //
-// The arguments: `posted`, `ready`, or another for one look at one queue; how often, as for `pace`; and `best` where queue 15 is the filled
-// one, a walk's best case, `worst` where it is queue 0, or another for each queue in turn. Of the first and the third only the first letter
-// counts.
+// The arguments: `posted`, `ready`, `wide` for ready tasks with 32 levels, or another for one look at one queue; how often, as for `pace`; and
+// `best` where queue 15 is the filled one, a walk's best case, `worst` where it is queue 0, or another for each queue in turn. Of the first and
+// the third only the first letter counts.
 //
 // The stored run makes 100 searches, with each queue filled in turn. One that finds queue p adds p + 1: six times all sixteen make
 // 6 * 136, and the last four 1 + 2 + 3 + 4, together 826.
 use rules::Lines;
+use rules::State;
 use text::Text;
 ghost use Prim.Native.Nat.{_≤_};
 
@@ -53,6 +54,14 @@ fn queues_for(letter: u8) -> Filled {
     }
 }
 
+// How many levels the chosen search looks through.
+fn levels_for(search: u8) -> u32 {
+    if search == b'w' {
+        return rules::MOST_LEVELS;
+    }
+    rules::FEW_LEVELS
+}
+
 // 1 where somebody stands in the ready queue of priority p, else 0.
 fn look(lines: &Lines, p: usize) -> usize
     ensures { λ r. ⌜ r ≤ 1 ⌝ }
@@ -64,19 +73,20 @@ fn look(lines: &Lines, p: usize) -> usize
 }
 
 // What the chosen search found.
-fn found_at(lines: &Lines, search: u8, p: usize) -> usize
-    ensures { λ r. ⌜ r ≤ 16 ⌝ }
+fn found_at(lines: &Lines, state: &State, search: u8, p: usize) -> usize
+    ensures { λ r. ⌜ r ≤ 32 ⌝ }
 {
     match search {
         b'p' => due::highest_posted(lines),
-        b'r' => due::highest_ready(lines),
+        b'r' => due::highest_ready(lines, state),
+        b'w' => due::highest_ready(lines, state),
         _ => look(lines, p),
     }
 }
 
 // The same as a number to be added.
-fn found(lines: &Lines, search: u8, p: usize) -> u32 {
-    found_at(lines, search, p) as u32
+fn found(lines: &Lines, state: &State, search: u8, p: usize) -> u32 {
+    found_at(lines, state, search, p) as u32
 }
 
 // Makes n the number of those who stand in the two queues of priority p, of posted Swis and of ready tasks.
@@ -86,13 +96,13 @@ fn set(lines: &mut Lines, p: usize, n: u8) {
 }
 
 // n searches. Before each somebody joins the queues of one priority, and after it they are empty again.
-fn searches(lines: &mut Lines, search: u8, filled: Filled, n: u32) -> u32 {
+fn searches(lines: &mut Lines, state: &State, search: u8, filled: Filled, n: u32) -> u32 {
     let mut sum = 0;
     let mut p = filled.first;
     let mut left = n;
     while 0 < left {
         set(lines, p, 1);
-        sum = std::num::wrapping_add_u32(sum, found(lines, search, filled.first));
+        sum = std::num::wrapping_add_u32(sum, found(lines, state, search, filled.first));
         set(lines, p, 0);
         p = std::num::wrapping_add_usize(p, filled.step);
         left -= 1;
@@ -112,8 +122,10 @@ fn print_sum(sum: u32) {
 }
 
 fn main() {
-    let mut lines = [0u8; 2145];
+    let mut lines = [0u8; 2673];
     let search = letter(1);
+    let mut state = [0u32; 6];
+    state[words::LEVELS] = levels_for(search);
     let filled = queues_for(letter(3));
-    print_sum(searches(&mut lines, search, filled, rounds()));
+    print_sum(searches(&mut lines, &state, search, filled, rounds()));
 }

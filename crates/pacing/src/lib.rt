@@ -6,6 +6,7 @@ ghost use mathlib.Core.Path.{_≡_};
 ghost use mathlib.Core.List.{_++_};
 ghost use Prim.Native.Nat.{min};
 ghost use lib.Seq.{sets};
+ghost use Rattle.rules.specs.Log.{versionOf, levelsFor};
 ghost use Rattle.rules.specs.Text.{wordText, lineFeed};
 ghost use Rattle.text.specs.Put.{Put};
 ghost use Rattle.pacing.specs.Pace.{callWords, threadWord, added, roundsFor, sumWord};
@@ -20,6 +21,13 @@ fn wide(b: u8) -> u32
     ensures { λ r. ⌜ r ≡ b ⌝ }
 {
     b as u32
+}
+
+// How many levels the log's version means.
+pub fn levels_of(log: &Log) -> u32
+    ensures { λ r. ⌜ r ≡ levelsFor (versionOf (now (log .entry))) ⌝ }
+{
+    calllog::levels_for(calllog::version_of(log))
 }
 
 // The first n records as words.

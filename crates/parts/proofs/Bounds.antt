@@ -7,7 +7,7 @@ use native.Mathlib.Omega.{arith}
 use lib.Dec.{leb}
 use lib.ListN.{length, length-append, length-drop}
 use borrow.Author.Tests.{leb-false}
-use Rattle.rules.specs.Log.{readAt, argumentBytes}
+use Rattle.rules.specs.Log.{readIn, argumentBytes}
 use Rattle.rules.specs.Text.{lineText, lineFeed, endWord, cutWord, lengthWord, versionWord}
 use Rattle.rules.specs.Replay.{recordCall}
 use Rattle.rules.specs.declared.Read.{Read}
@@ -15,7 +15,7 @@ use Rattle.rules.specs.declared.Read.the-variants.{Record, End, Cut, Length, Ve
 use Rattle.rules.specs.declared.Tables.{Tables}
 use Rattle.calllog.proofs.Records.{record-fits}
 use Rattle.text.proofs.Lengths.{line-most, word-most}
-use Rattle.parts.specs.Part.{kept, Left, waiting, lastText, over, partFor, readable, partOf}
+use Rattle.parts.specs.Part.{kept, Left, waiting, lastText, over, versionBy, partFor, readable, partOf}
 use Rattle.parts.proofs.Steps.{one-less, partAt, part-whole, part-step}
 
 -- of m records
@@ -44,17 +44,17 @@ module _ (last : Bool) (s : List ℕ) (o : ℕ) where
   over-bounded : (f : Read) (m n : ℕ) (t : Tables) → Bounded last m (over f s o n t)
   over-bounded f m n t = record { text = omega (arith, last-most f o n); rest = omega arith; ends = λ h. refl }
 
-  read-bounded : (at n : ℕ) (t : Tables) (r : Read) → readAt s at ≡ r
+  read-bounded : (at n : ℕ) (t : Tables) (r : Read) → readIn (versionBy (t .state)) s at ≡ r
       → ((next m : ℕ) (u : Tables) → next ≡ at + 20 → next ≤ length s → Bounded last ((length s - next) / 20) (partAt last s o next m u))
       → Bounded last ((length s - at) / 20) (partFor r s o at n t (λ next m u. partAt last s o next m u))
   read-bounded at n t (Record number begin) e ih =
-      let f = record-fits s at number begin e in
+      let f = record-fits _ s at number begin e in
       let c = recordCall t number (argumentBytes s begin) in
       let h = ih (begin + 16) (kept (n + 1)) (c .tables) (omega arith) (omega arith) in
       let l = line-most (kept (n + 1)) (c .answer) (c .thread) in
       record {
         text =
-            rw (one-less s at number begin e)
+            rw (one-less _ s at number begin e)
             (omega (
               arith,
               length-append
@@ -71,8 +71,8 @@ module _ (last : Bool) (s : List ℕ) (o : ℕ) where
 
   test-bounded : (at n : ℕ) (t : Tables) (b : Bool) → readable last s at ≡ b
       → ((next m : ℕ) (u : Tables) → next ≡ at + 20 → next ≤ length s → Bounded last ((length s - next) / 20) (partAt last s o next m u))
-      → Bounded last ((length s - at) / 20) (if b (partFor (readAt s at) s o at n t (λ next m u. partAt last s o next m u)) (waiting s o at n t))
-  test-bounded at n t true e ih = read-bounded at n t (readAt s at) refl ih
+      → Bounded last ((length s - at) / 20) (if b (partFor (readIn (versionBy (t .state)) s at) s o at n t (λ next m u. partAt last s o next m u)) (waiting s o at n t))
+  test-bounded at n t true e ih = read-bounded at n t (readIn (versionBy (t .state)) s at) refl ih
   test-bounded at n t false e ih =
       let f = leb-false 20 (length s - at) (later last (leb 20 (length s - at)) e) in
       record { text = omega arith; rest = omega (arith, length-drop at s); ends = λ h. absurd (no-test last (leb 20 (length s - at)) e h) }

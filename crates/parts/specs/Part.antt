@@ -1,11 +1,12 @@
 -- The replay of one part of a log, and of a log that comes part by part.
 use Prim.Native.Nat.{ℕ, zero, suc, _+_, _-_, _/_, _%_, _^_}
-use mathlib.Core.Bool.{Bool, true, false, _||_, cond as if}
+use mathlib.Core.Bool.{Bool, true, false, _&&_, _||_, cond as if}
 use mathlib.Core.List.{List, [], _∷_, _++_}
 use lib.Dec.{leb, eqb}
 use lib.ListN.{length, drop}
 use Rattle.rules.specs.Fresh.{fresh}
-use Rattle.rules.specs.Log.{readAt, argumentBytes}
+use Rattle.rules.specs.Tables.{mostLevels, tables, withState, LEVELS, levels}
+use Rattle.rules.specs.Log.{versionOf, readIn, argumentBytes}
 use Rattle.rules.specs.Text.{lineText, lineFeed, wordText, endWord, cutWord, lengthWord, versionWord}
 use Rattle.rules.specs.Replay.{recordCall}
 use Rattle.rules.specs.declared.Read.{Read}
@@ -60,6 +61,10 @@ partFor (Cut k) s o at n t rest = over (Cut k) s o n t
 partFor (Length k) s o at n t rest = over (Length k) s o n t
 partFor (Version k) s o at n t rest = over (Version k) s o n t
 
+-- No. 14: "The first record decides for the whole log": once it is read, the tables' levels tell its version
+unfoldable pub versionBy : List ℕ → ℕ
+versionBy st = if (eqb (levels st) mostLevels) 2 1
+
 -- a record needs twenty bytes; where nothing follows the part, what is there is looked at
 abbrev pub readable : Bool → List ℕ → ℕ → Bool
 readable last s at = last || leb 20 (length s - at)
@@ -68,21 +73,31 @@ readable last s at = last || leb 20 (length s - at)
 unfoldable pub partFrom : ℕ → Bool → List ℕ → ℕ → ℕ → ℕ → Tables → Left
 partFrom zero last s o at n t = waiting s o at n t
 partFrom (suc k) last s o at n t =
-    if (readable last s at) (partFor (readAt s at) s o at n t (λ next m u. partFrom k last s o next m u)) (waiting s o at n t)
+    if (readable last s at) (partFor (readIn (versionBy (t .state)) s at) s o at n t (λ next m u. partFrom k last s o next m u)) (waiting s o at n t)
 
 -- a part whole: it has no more records than this
 unfoldable pub partOf : Bool → List ℕ → ℕ → ℕ → Tables → Left
 partOf last s o n t = partFrom (suc (length s / 20)) last s o 0 n t
 
+-- No. 14: "Log version 2 .. means 32 levels": until a record is read, a log that begins with these bytes sets the levels, as soon as its version is there
+unfoldable pub begunState : ℕ → List ℕ → List ℕ → List ℕ
+begunState n s st = if (eqb n 0 && eqb (versionOf s) 2) (withState st LEVELS mostLevels) st
+
+abbrev pub begun : ℕ → List ℕ → Tables → Tables
+begun n s t =
+    tables (t .tasks) (t .lines) (t .semaphores) (t .events) (t .mailboxes) (t .swis) (t .clocks) (t .heap) (begunState n s (t .state))
+
 -- ---- part by part: the bytes that waited, and those that came
 abbrev pub turn : Bool → List ℕ → Left → Left
-turn last came l = partOf last (l .rest ++ came) (l .offset) (l .count) (l .tables)
+turn last came l =
+    let s : List ℕ = l .rest ++ came in
+    partOf last s (l .offset) (l .count) (begun (l .count) s (l .tables))
 
 -- a replay that begins with tables t: nothing is read yet
 abbrev pub begins : Tables → Left
 begins t = record { text = []; rest = []; offset = 0; count = 0; tables = t; ended = false }
 
--- "Replay starts fresh"
+-- "Replay starts fresh": with 16 levels, until the log's version is there
 abbrev pub start : Left
 start = begins fresh
 

@@ -1,11 +1,11 @@
--- The worked example, computed from the definitions: 01's records 'create at 5' and 'pend on 0 without end', and its 'post 0' with version 2.
+-- The worked example, computed from the definitions: 01's records 'create at 5' and 'pend on 0 without end', and its 'post 0' with version 2, which the first record's is not.
 use Prim.Native.Nat.{ℕ}
 use mathlib.Core.Path.{_≡_, refl}
 use mathlib.Core.Bool.{Bool, true, _&&_}
 use mathlib.Core.List.{List, _∷_, _++_}
 use lib.Dec.{eqb}
 use Rattle.fold.specs.Lists.{zeros}
-use Rattle.rules.specs.Log.{readAt, argumentBytes, handedOut, moveTo}
+use Rattle.rules.specs.Log.{readIn, argumentBytes, handedOut, moveTo}
 use Rattle.rules.specs.declared.Read.the-variants.{Record, Version}
 use Rattle.reader_walk.specs.declared.Walked.{Walked}
 use Rattle.reader_walk.specs.Walk.{startOf, walked, isRecord, isVersion, areIn}
@@ -26,7 +26,7 @@ pub two-and-a-fault : walked example
       third = Version 40;
       at = 40;
     }
-unfolding walked readAt handedOut argumentBytes moveTo
+unfolding walked readIn handedOut argumentBytes moveTo
 two-and-a-fault = refl
 
 pub as-expected : {w : Walked} → w ≡ walked example → {first one second two third : Bool}

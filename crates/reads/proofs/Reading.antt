@@ -6,7 +6,7 @@ use mathlib.Core.List.{List, [], _∷_, _++_}
 use types.Run.{OneOf, miss}
 use denote.Enum.Declared.{tagOf}
 use lib.ListN.{length}
-use Rattle.rules.specs.Log.{readAt, argumentBytes, handedOut, argument, moveTo}
+use Rattle.rules.specs.Log.{readIn, argumentBytes, handedOut, argument, moveTo}
 use Rattle.rules.specs.Text.{lineText, lineFeed}
 use Rattle.rules.specs.Step.{step, stepOf}
 use Rattle.rules.specs.Replay.{recordCall}
@@ -45,11 +45,11 @@ one-last (Cut k) s o n t h = refl
 one-last (Length k) s o n t h = refl
 one-last (Version k) s o n t h = refl
 
-module _ (s : List ℕ) (o : ℕ) (t : Tables) (p : Ran) {f : Read} (found : f ≡ readAt s (p .at)) {xs ys : List ℕ} where
+module _ (v : ℕ) (s : List ℕ) (o : ℕ) (t : Tables) (p : Ran) {f : Read} (found : f ≡ readIn v s (p .at)) {xs ys : List ℕ} where
   -- the end or a fault
   pub went-last : OneOf (1 ∷ 2 ∷ 3 ∷ 4 ∷ []) (tagOf R.the-type f) → {r : Ran}
       → Put xs (p .len) (lastText f o (p .count)) ys (r .len) × (r ≡ ranTo (length s) (p .count) (r .len) true)
-      → Went (oneFor (readAt s (p .at)) s o (p .count) t) t xs (p .len) ys r
+      → Went (oneFor (readIn v s (p .at)) s o (p .count) t) t xs (p .len) ys r
   went-last h e =
       rw (← found, one-last f s o (p .count) t h)
       (record { line = e .0; tables = refl; at = ap (λ (r : Ran). r .at) (e .1); count = ap (λ (r : Ran). r .count) (e .1); ended = ap (λ (r : Ran). r .ended) (e .1) })
@@ -59,10 +59,10 @@ module _ (s : List ℕ) (o : ℕ) (t : Tables) (p : Ran) {f : Read} (found : f �
       → {u : Tables} {a : Answer} {x : Thread} → stepOf u a x ≡ step t (q .number) (q .a) (q .b) (q .c) (q .d)
       → {n len next : ℕ} → n ≡ kept (p .count + 1) → Put xs (p .len) (lineText n a x ++ lineFeed) ys len → next ≡ moveTo f (p .at)
       → {r : Ran} → r ≡ ranTo next n len false
-      → Went (oneFor (readAt s (p .at)) s o (p .count) t) u xs (p .len) ys r
+      → Went (oneFor (readIn v s (p .at)) s o (p .count) t) u xs (p .len) ys r
   unfolding oneFor moveTo
   went-record safe number begin e {q} asked {u} {a} {x} said {n} {len} {next} up line moved r-is =
-      let sixteen = handed-out s (p .at) number begin (sym found ∙ e) .0 in
+      let sixteen = handed-out v s (p .at) number begin (sym found ∙ e) .0 in
       let gave : stepOf u a x ≡ recordCall t number (argumentBytes s begin) =
       said ∙ safe-call t safe (q .number) (q .a) (q .b) (q .c) (q .d) ∙ rw (asked, sixteen) in
       let next-is : next ≡ begin + 16 = rw e at moved in

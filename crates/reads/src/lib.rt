@@ -18,13 +18,33 @@ ghost use mathlib.Core.Path.{_≡_};
 ghost use mathlib.Core.Bool.{true};
 ghost use mathlib.Core.List.{_++_};
 ghost use lib.ListN.{length};
-ghost use Rattle.rules.specs.Log.{readAt, handedOut};
+ghost use Rattle.rules.specs.Log.{readIn, handedOut};
 ghost use Rattle.rules.specs.Tables.{tables};
 ghost use Rattle.rules.specs.Text.{lineText, lineFeed};
 ghost use Rattle.text.specs.Put.{Put};
-ghost use Rattle.parts.specs.Part.{lastText};
+ghost use Rattle.parts.specs.Part.{versionBy, begunState, lastText};
 ghost use Rattle.kernel.specs.Safe.{Safe};
 ghost use Rattle.reads.specs.Done.{callIn, ranTo, oneFor, Went};
+
+// No. 14: 'The first record decides for the whole log': until a record is read, a log that begins
+// with these bytes sets the levels of its tables, as soon as its version is there.
+pub fn begin(state: &mut State, log: &[u8], count: u64)
+    ensures { λ _. ⌜ now (state .exit) ≡ begunState count (now (log .entry)) (now (state .entry)) ⌝ }
+{
+    if (count == 0) & (calllog::version_of(log) == 2) {
+        state[words::LEVELS] = rules::MOST_LEVELS;
+    }
+}
+
+// The version that the records of a log have, by the levels of its tables.
+pub fn version_by(state: &State) -> u8
+    ensures { λ r. ⌜ r ≡ versionBy (now (state .entry)) ⌝ }
+{
+    if rows::answers::levels(state) == rules::MOST_LEVELS {
+        return 2;
+    }
+    1
+}
 
 // The call of a record, by where its argument bytes start and its number.
 fn record_call(log: &[u8], start: usize, number: u8) -> Call
@@ -93,10 +113,10 @@ pub fn next_line(
     out: &mut Text,
 ) -> Ran
     requires { ⌜ Safe (tables (now tasks) (now lines) (now semaphores) (now events) (now mailboxes) (now swis) (now clocks) (now heap) (now state)) ⌝ }
-    ensures { λ r. ⌜ Went (oneFor (readAt (now (log .entry)) (ran .at)) (now (log .entry)) offset (ran .count) (tables (now (tasks .entry)) (now (lines .entry)) (now (semaphores .entry)) (now (events .entry)) (now (mailboxes .entry)) (now (swis .entry)) (now (clocks .entry)) (now (heap .entry)) (now (state .entry)))) (tables (now (tasks .exit)) (now (lines .exit)) (now (semaphores .exit)) (now (events .exit)) (now (mailboxes .exit)) (now (swis .exit)) (now (clocks .exit)) (now (heap .exit)) (now (state .exit))) (now (out .entry)) (ran .len) (now (out .exit)) r ⌝ }
+    ensures { λ r. ⌜ Went (oneFor (readIn (versionBy (now (state .entry))) (now (log .entry)) (ran .at)) (now (log .entry)) offset (ran .count) (tables (now (tasks .entry)) (now (lines .entry)) (now (semaphores .entry)) (now (events .entry)) (now (mailboxes .entry)) (now (swis .entry)) (now (clocks .entry)) (now (heap .entry)) (now (state .entry)))) (tables (now (tasks .exit)) (now (lines .exit)) (now (semaphores .exit)) (now (events .exit)) (now (mailboxes .exit)) (now (swis .exit)) (now (clocks .exit)) (now (heap .exit)) (now (state .exit))) (now (out .entry)) (ran .len) (now (out .exit)) r ⌝ }
     ensures { λ _. ⌜ Safe (tables (now (tasks .exit)) (now (lines .exit)) (now (semaphores .exit)) (now (events .exit)) (now (mailboxes .exit)) (now (swis .exit)) (now (clocks .exit)) (now (heap .exit)) (now (state .exit))) ⌝ }
 {
-    let step = calllog::reader::read_next(log, ran.at);
+    let step = calllog::reader::step_in(log, ran.at, version_by(state));
     let found = step.found;
     let Read::Record { number, start } = found else {
         return ended_at(log, found, offset, ran, out);

@@ -169,8 +169,8 @@ badSwitches which = eqb which 0 || ltb 3 which
 -- to its size"; No. 10: 77, 78 "4 for 0, for values above 3, or for key bits not named"
 unfoldable pub badValue : Tables → Asked → Bool
 badValue t q =
-    if (among (0x00 ∷ []) q) (not (isPriority levels (q .a)))
-    (if (among (0x02 ∷ []) q) (not (isPriority levels (q .b)))
+    if (among (0x00 ∷ []) q) (not (isPriority (levels (t .state)) (q .a)))
+    (if (among (0x02 ∷ []) q) (not (isPriority (levels (t .state)) (q .b)))
     (if (among (0x05 ∷ []) q) (eqb (q .a) forever)
     (if (among (0x10 ∷ []) q) (not (ltb (q .a) 16))
     (if (among (0x20 ∷ []) q) (not (ltb (q .a) 4) || not (leb (q .b) (most (q .a))))

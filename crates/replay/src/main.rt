@@ -187,7 +187,7 @@ fn all_turns(
 fn replay_all(fd: i32, name: &[u8]) -> Tables
     ensures { λ r. ⌜ Replayed fresh r ⌝ }
 {
-    let fresh = entries::fresh();
+    let fresh = entries::fresh(rules::FEW_LEVELS).tables;
     let mut tasks = fresh.tasks;
     let mut lines = fresh.lines;
     let mut semaphores = fresh.semaphores;

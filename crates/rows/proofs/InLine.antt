@@ -15,23 +15,23 @@ use Rattle.laws.proofs.Lines.{line-in, line-out, line-le, withLine-in, left-out
 
 module _ (ls : List ℕ) (j : ℕ) where
   -- how many stand there
-  pub len-in : j < 65 → {n : ℕ} → n ≡ min (getD ls (j * 33) 0) 32 → n ≡ length (line ls j)
+  pub len-in : j < 81 → {n : ℕ} → n ≡ min (getD ls (j * 33) 0) 32 → n ≡ length (line ls j)
   len-in h e = e ∙ sym (length-listed 32 ls (j * 33)) ∙ ap length (sym (line-in ls j h))
 
-  pub len-out : 65 ≤ j → 0 ≡ length (line ls j)
+  pub len-out : 81 ≤ j → 0 ≡ length (line ls j)
   len-out h = sym (ap length (line-out ls j h))
 
   -- who has a member has a row
-  pub in-row : {k n : ℕ} → n ≡ length (line ls j) → k < n → (j < 65) × (k < 32)
-  in-row e h = by-range j 65 (λ p. (p, omega (arith, line-le ls j))) (λ p. absurd (omega (arith, len-out p)))
+  pub in-row : {k n : ℕ} → n ≡ length (line ls j) → k < n → (j < 81) × (k < 32)
+  in-row e h = by-range j 81 (λ p. (p, omega (arith, line-le ls j))) (λ p. absurd (omega (arith, len-out p)))
 
   pub member-is : (k : ℕ) {n : ℕ} → n ≡ length (line ls j) → k < n → getD ls (j * 33 + 1 + k) 0 ≡ getD (line ls j) k 0
   member-is k e h =
-      let p : j < 65 = in-row e h .0 in
+      let p : j < 81 = in-row e h .0 in
       let q : k < length (listed 32 ls (j * 33)) = omega (arith, ap length (line-in ls j p)) in
       at-listed 32 ls (j * 33) k q ∙ ap (λ (l : List ℕ). getD l k 0) (sym (line-in ls j p))
 
-  module _ (h : j < 65) where
+  module _ (h : j < 81) where
     -- the same of the list in the line's row
     pub listed-len : {n : ℕ} → n ≡ length (line ls j) → n ≡ length (listed 32 ls (j * 33))
     listed-len e = e ∙ ap length (line-in ls j h)
@@ -72,8 +72,8 @@ module _ (ls : List ℕ) (j : ℕ) where
             → set (set now (j * 33 + 1 + k) carry) (j * 33) (n + 1) ≡ entered (λ xs. place) j x ls
         insert-is place x carry k inv q = shifted-all 32 ls (j * 33) place x k inv room-length q ∙ sym (entered-is (λ xs. place) x)
 
-  pub left-past : (x : ℕ) → 65 ≤ j → ls ≡ left j x ls
+  pub left-past : (x : ℕ) → 81 ≤ j → ls ≡ left j x ls
   left-past x h = sym (left-out ls j x h)
 
-  pub entered-past : (place : List ℕ → ℕ) (x : ℕ) → 65 ≤ j → ls ≡ entered place j x ls
+  pub entered-past : (place : List ℕ → ℕ) (x : ℕ) → 81 ≤ j → ls ≡ entered place j x ls
   entered-past place x h = sym (entered-out ls j x place h)

@@ -3,7 +3,7 @@ use rules::Answer;
 use rules::State;
 ghost use mathlib.Core.Path.{_≡_};
 ghost use Rattle.rules.specs.Answer.{answer, absentCode, unused, named, tableOf};
-ghost use Rattle.rules.specs.Tables.{current};
+ghost use Rattle.rules.specs.Tables.{current, levels};
 
 // A refusal: its code, outcome 0 and value 0; `named` puts in the value that codes 3 and 11 have.
 pub fn refused(code: u32) -> Answer
@@ -82,4 +82,14 @@ pub fn current(state: &State) -> u8
         return i as u8;
     }
     0
+}
+
+// How many levels of priority the tasks have: 16 or 32; another number counts as 16.
+pub fn levels(state: &State) -> u32
+    ensures { λ r. ⌜ r ≡ levels (now (state .entry)) ⌝ }
+{
+    if state[words::LEVELS] == rules::MOST_LEVELS {
+        return rules::MOST_LEVELS;
+    }
+    rules::FEW_LEVELS
 }

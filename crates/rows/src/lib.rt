@@ -15,19 +15,20 @@ use rules::Swis;
 use rules::Tables;
 use rules::Tasks;
 ghost use mathlib.Core.Path.{_≡_};
-ghost use Rattle.rules.specs.Fresh.{fresh};
+ghost use Rattle.rules.specs.Fresh.{freshWith};
 
-// Fresh tables: task 0 only, both switches on, depth 0, tick 0, heap free.
-pub fn fresh() -> Tables
-    ensures { λ r. ⌜ r ≡ fresh ⌝ }
+// Fresh tables of so many levels: task 0 only, both switches on, depth 0, tick 0, heap free.
+pub fn fresh(levels: u32) -> Tables
+    ensures { λ r. ⌜ r ≡ freshWith levels ⌝ }
 {
     let mut tasks = [0u32; 256];
     tasks[0] = 1;
-    let mut lines = [0u8; 2145];
+    let mut lines = [0u8; 2673];
     lines[1617] = 1;
-    let mut state = [0u32; 5];
-    state[1] = 1;
-    state[2] = 1;
+    let mut state = [0u32; 6];
+    state[words::SWIS] = 1;
+    state[words::TASKS] = 1;
+    state[words::LEVELS] = levels;
     Tables {
         tasks,
         lines,

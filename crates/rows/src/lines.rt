@@ -19,7 +19,7 @@ pub fn least(a: usize, b: usize) -> usize
 pub fn len(lines: &Lines, j: usize) -> usize
     ensures { λ r. ⌜ r ≡ length (line (now (lines .entry)) j) ⌝ }
 {
-    if j < 65 {
+    if j < 81 {
         return least(fold::wide(lines[j * 33]), 32);
     }
     0
@@ -46,7 +46,7 @@ pub fn first(lines: &Lines, j: usize) -> u8
 pub fn leave(lines: &mut Lines, j: usize, x: u8)
     ensures { λ _. ⌜ now (lines .exit) ≡ left j x (now (lines .entry)) ⌝ }
 {
-    if j < 65 {
+    if j < 81 {
         let at = j * 33;
         let n = len(lines, j);
         let mut m: u8 = 0;
@@ -68,7 +68,7 @@ pub fn leave(lines: &mut Lines, j: usize, x: u8)
 pub fn join(lines: &mut Lines, j: usize, x: u8)
     ensures { λ _. ⌜ now (lines .exit) ≡ joined j x (now (lines .entry)) ⌝ }
 {
-    if j < 65 {
+    if j < 81 {
         let at = j * 33;
         let n = lines[at];
         if n < 32 {
@@ -82,7 +82,7 @@ pub fn join(lines: &mut Lines, j: usize, x: u8)
 pub fn insert(lines: &mut Lines, j: usize, place: usize, x: u8)
     ensures { λ _. ⌜ now (lines .exit) ≡ entered (λ xs. place) j x (now (lines .entry)) ⌝ }
 {
-    if j < 65 {
+    if j < 81 {
         let at = j * 33;
         let n = lines[at];
         if n < 32 {

@@ -3,7 +3,7 @@ use mathlib.Core.Path.{_≡_}
 use mathlib.Core.Logic.{_↔_, Iff·and, Iff·trans}
 use mathlib.Core.Bool.{Bool, true, _&&_, and-eq-true-iff}
 use Rattle.fold.proofs.Rules.{agree}
-use Rattle.rules.specs.Tables.{taskCount, swiCount}
+use Rattle.rules.specs.Tables.{taskCount, swiCount, levels}
 use Rattle.rules.specs.Lines.{taskHome, swiHome}
 use Rattle.rules.specs.Sound.{sound, Sound, stateRule, heapRule, clocksRule, tasksRule, linesRule, membersRule, onceRule}
 use Rattle.rules.specs.Sound.{semaphoresRule, eventsRule, mailboxesRule, swisRule, activeRule, dispatchRule}
@@ -24,7 +24,7 @@ sound-agrees t =
     agree (stateRule (t .tasks) (t .state))
     both agree (heapRule (t .heap))
     both agree (clocksRule (t .clocks) (t .swis))
-    both agree (tasksRule (t .tasks))
+    both agree (tasksRule (levels (t .state)) (t .tasks))
     both agree (linesRule (t .lines))
     both agree (membersRule (t .tasks) (t .swis) (t .lines))
     both agree (onceRule taskCount (taskHome (t .tasks)) (t .lines))

@@ -3,7 +3,7 @@ use Prim.Native.Nat.{ℕ}
 use Rattle.fold.specs.Lists.{count, without, putAt, firstWhere, allOf, firsts, reads}
 use Rattle.fold.specs.Find.{allBelow, firstFrom, firstBelow, highestBelow, rising}
 use Rattle.rules.specs.Rows.{field, withField, withRow, listed, withListed, behind}
-use Rattle.rules.specs.Tables.{task, withTask, messages, withMessages, clock, withClock, current}
+use Rattle.rules.specs.Tables.{task, withTask, messages, withMessages, clock, withClock, current, levels}
 use Rattle.rules.specs.Lines.{line, withLine, left, entered, homeBy, swiHome, moved}
 use Rattle.rules.specs.Answer.{firstGiven, unused, tableOf, named}
 use Rattle.rules.specs.Waits.{outside, switchOff, idle, ticksFor}
@@ -19,11 +19,11 @@ use Rattle.rules.specs.Tick.{aged, clockTick, taskTick, ticked, switchCa
 use Rattle.rules.specs.Dispatch.{running, context, highestPosted, activeLevel, swiDue, started, swiDispatched, highestReady, front, taskDue, taskDispatched, dispatched}
 use Rattle.rules.specs.Sound.{otherRule, semaphoreRule, eventRule, mailboxRule, swiRule, clockRule, sound}
 use Rattle.rules.specs.Step.{callOf, finished, step, call}
-use Rattle.rules.specs.Fresh.{fresh}
-use Rattle.rules.specs.Log.{readAt, argumentBytes, moveTo}
+use Rattle.rules.specs.Fresh.{freshWith, madeFresh}
+use Rattle.rules.specs.Log.{readIn, argumentBytes, moveTo}
 use Rattle.rules.specs.Text.{digits, decimal, threadText, lineText, textOf}
 use Rattle.rules.specs.Replay.{linesFrom, replayLines, replayText}
 
 unfoldable pub computed : ℕ
-unfolding count without putAt firstWhere allOf firsts reads allBelow firstFrom firstBelow highestBelow rising field withField withRow listed withListed behind task withTask messages withMessages clock withClock current line withLine left entered homeBy swiHome moved firstGiven unused tableOf named outside switchOff idle ticksFor isPriority freeTask createCases createEffect deleteCases deleteEffect setPriorityCases reprioritized setPriorityEffect yieldCases yieldEffect endCases endEffect sleepCases sleepEffect lastResultCases lastResultEffect taskCall top isActive isNamed freeSwi posted swis-createCases swis-createEffect swis-deleteCases swis-deleteEffect postCases maskCases postEffect changeEffect zeroEffect swis-endCases swis-endEffect takenCases takenEffect swiCall freeSemaphore most semaphores-createCases semaphores-createEffect semaphores-deleteCases semaphores-deleteEffect resetCases resetEffect waits pendCases pendEffect semaphores-postCases countUp semaphores-postEffect semaphoreCall freeEvent matched events-createCases events-createEffect events-deleteCases events-deleteEffect events-waits events-pendCases events-pendEffect events-postCases waiterMatch postedBits eventCall freeMailbox waitsFirst isFull mailboxes-createCases mailboxes-createEffect mailboxes-deleteCases mailboxes-deleteEffect postWaits mailboxes-postCases mailboxes-postEffect pendWaits mailboxes-pendCases oldestTaken mailboxes-pendEffect mailboxCall freeClock clocks-createCases clocks-createEffect clocks-deleteCases clocks-deleteEffect startStopCases startEffect stopEffect clockCall isRun lowestRun blockSize takeCases takeEffect isBlock giveCases giveEffect heapCall offCases offEffect restoreCases restoreEffect inCases inEffect interruptCases outEffect aged clockTick taskTick ticked switchCall running context highestPosted activeLevel swiDue started swiDispatched highestReady front taskDue taskDispatched dispatched otherRule semaphoreRule eventRule mailboxRule swiRule clockRule sound callOf finished step call fresh readAt argumentBytes moveTo digits decimal threadText lineText textOf linesFrom replayLines replayText
+unfolding count without putAt firstWhere allOf firsts reads allBelow firstFrom firstBelow highestBelow rising field withField withRow listed withListed behind task withTask messages withMessages clock withClock current levels line withLine left entered homeBy swiHome moved firstGiven unused tableOf named outside switchOff idle ticksFor isPriority freeTask createCases createEffect deleteCases deleteEffect setPriorityCases reprioritized setPriorityEffect yieldCases yieldEffect endCases endEffect sleepCases sleepEffect lastResultCases lastResultEffect taskCall top isActive isNamed freeSwi posted swis-createCases swis-createEffect swis-deleteCases swis-deleteEffect postCases maskCases postEffect changeEffect zeroEffect swis-endCases swis-endEffect takenCases takenEffect swiCall freeSemaphore most semaphores-createCases semaphores-createEffect semaphores-deleteCases semaphores-deleteEffect resetCases resetEffect waits pendCases pendEffect semaphores-postCases countUp semaphores-postEffect semaphoreCall freeEvent matched events-createCases events-createEffect events-deleteCases events-deleteEffect events-waits events-pendCases events-pendEffect events-postCases waiterMatch postedBits eventCall freeMailbox waitsFirst isFull mailboxes-createCases mailboxes-createEffect mailboxes-deleteCases mailboxes-deleteEffect postWaits mailboxes-postCases mailboxes-postEffect pendWaits mailboxes-pendCases oldestTaken mailboxes-pendEffect mailboxCall freeClock clocks-createCases clocks-createEffect clocks-deleteCases clocks-deleteEffect startStopCases startEffect stopEffect clockCall isRun lowestRun blockSize takeCases takeEffect isBlock giveCases giveEffect heapCall offCases offEffect restoreCases restoreEffect inCases inEffect interruptCases outEffect aged clockTick taskTick ticked switchCall running context highestPosted activeLevel swiDue started swiDispatched highestReady front taskDue taskDispatched dispatched otherRule semaphoreRule eventRule mailboxRule swiRule clockRule sound callOf finished step call freshWith madeFresh readIn argumentBytes moveTo digits decimal threadText lineText textOf linesFrom replayLines replayText
 computed = 0

@@ -13,13 +13,13 @@ use Rattle.fold.specs.Lists.{allOf, reads}
 use Rattle.fold.specs.Find.{allBelow}
 use Rattle.fold.specs.Rule.{holds}
 use Rattle.rules.specs.Rows.{behind}
-use Rattle.rules.specs.Tables.{taskCount, swiCount}
+use Rattle.rules.specs.Tables.{taskCount, swiCount, levels}
 use Rattle.rules.specs.Lines.{taskHome, swiHome, lineCount, lineMost, lineWidth}
 use Rattle.rules.specs.Sound.{sound, stateRule, heapRule, clocksRule, tasksRule, linesRule, membersRule, onceRule, semaphoresRule, eventsRule}
 use Rattle.rules.specs.Sound.{mailboxesRule, swisRule, activeRule, dispatchRule}
 use Rattle.rules.specs.Step.{step, call}
-use Rattle.rules.specs.Fresh.{fresh}
-use Rattle.rules.specs.Log.{readAt, argumentBytes, argument}
+use Rattle.rules.specs.Fresh.{fresh, freshWith}
+use Rattle.rules.specs.Log.{versionOf, levelsFor, readAt, argumentBytes, argument}
 use Rattle.rules.specs.Replay.{lineFirst, linesFor, linesFrom, replayLines}
 use Rattle.rules.specs.declared.Read.{Read}
 use Rattle.rules.specs.declared.Read.the-variants.{Record, End, Cut, Length, Version}
@@ -128,7 +128,7 @@ stillSound t u =
     (tasks && state || holds (stateRule (u .tasks) (u .state)))
     && (heap || holds (heapRule (u .heap)))
     && (clocks && swis || holds (clocksRule (u .clocks) (u .swis)))
-    && (tasks || holds (tasksRule (u .tasks)))
+    && (tasks && state || holds (tasksRule (levels (u .state)) (u .tasks)))
     && (lines || rowsPass lineCount fits (u .lines))
     && (tasks && swis && lines || holds (membersRule (u .tasks) (u .swis) (u .lines)))
     && (tasks && lines || holds (onceRule taskCount (taskHome (u .tasks)) (u .lines)))
@@ -163,7 +163,7 @@ still-sound t u h =
     (kept₂ (λ a b. holds (stateRule a b)) (t .tasks) (u .tasks) (t .state) (u .state) (h2 .0))
     (kept₁ (λ a. holds (heapRule a)) (t .heap) (u .heap) (h2 .1)))
     (kept₂ (λ a b. holds (clocksRule a b)) (t .clocks) (u .clocks) (t .swis) (u .swis) (h3 .1)))
-    (kept₁ (λ a. holds (tasksRule a)) (t .tasks) (u .tasks) (h4 .1)))
+    (kept₂ (λ a b. holds (tasksRule (levels b) a)) (t .tasks) (u .tasks) (t .state) (u .state) (h4 .1)))
     (kept₁ (λ a. holds (linesRule a)) (t .lines) (u .lines) (h5 .1) ∙ ap (λ b. same (t .lines) (u .lines) || b) (lines-by-rows (u .lines))))
     (kept₃ (λ a b c. holds (membersRule a b c)) (t .tasks) (u .tasks) (t .swis) (u .swis) (t .lines) (u .lines) (h6 .1)))
     (kept₂ (λ a b. holds (onceRule taskCount (taskHome a) b)) (t .tasks) (u .tasks) (t .lines) (u .lines) (h7 .1)))
@@ -267,14 +267,26 @@ unfoldable pub quickly : ℕ
 unfolding computed rowsPass same stillSound saysAfter saidFrom stepLines linesAfter
 quickly = 0
 
--- "Fresh tables are sound"
+-- "Fresh tables are sound": with 16 levels, and with 32
 pub fresh-sound : sound fresh ≡ true
 unfolding computed
 fresh-sound = refl
 
-pub faster-replay : (s : List ℕ) → replayLines s ≡ linesAfter fresh (suc (length s / 20)) s 0 0 fresh
+either-sound : (b : Bool) → sound (freshWith (if b 32 16)) ≡ true
+unfolding computed
+either-sound true = refl
+either-sound false = refl
+
+pub fresh-for-sound : (v : ℕ) → sound (freshWith (levelsFor v)) ≡ true
+fresh-for-sound v = either-sound (eqb v 2)
+
+pub faster-replay : (s : List ℕ)
+    → replayLines s
+    ≡ linesAfter (freshWith (levelsFor (versionOf s))) (suc (length s / 20)) s 0 0 (freshWith (levelsFor (versionOf s)))
 unfolding replayLines
-faster-replay s = lines-after fresh (suc (length s / 20)) s 0 0 fresh fresh-sound
+faster-replay s =
+    let t = freshWith (levelsFor (versionOf s)) in
+    lines-after t (suc (length s / 20)) s 0 0 t (fresh-for-sound (versionOf s))
 
 -- tables are sound, by a test of what differs from fresh ones
 pub faster-sound : (t : Tables) → stillSound fresh t ≡ true → sound t ≡ true

@@ -182,8 +182,8 @@ pub record Sentences : Type 0 where
   -- "fields without meaning at the time (.., the taken trigger of a Swi not active)" are 0: a Swi that ends has none
   pub ends : endEffect (posts (taking 2) (linesWith (activeLine has (0 ∷ []) ∷ []))) .next .swis ≡ taking 0
   -- "fields without meaning at the time (.., an ended wait's data, ..)" are 0: a ready task has no ticks left
-  pub ended-wait : holds (otherRule (task (ready ∷ 5 ∷ 0 ∷ 1 ∷ zeros 4) 0)) ≡ false
-  pub no-wait : holds (otherRule (task (ready ∷ 5 ∷ zeros 6) 0)) ≡ true
+  pub ended-wait : holds (otherRule 16 (task (ready ∷ 5 ∷ 0 ∷ 1 ∷ zeros 4) 0)) ≡ false
+  pub no-wait : holds (otherRule 16 (task (ready ∷ 5 ∷ zeros 6) 0)) ≡ true
 
 pub sentences : Sentences
 unfolding computed linesWith

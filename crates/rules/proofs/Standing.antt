@@ -11,5 +11,5 @@ pub data Standing : Type 0 where
 
 -- the lines in which these stand, and nobody else
 unfoldable pub linesWith : List Standing → List ℕ
-linesWith [] = zeros 2145
+linesWith [] = zeros 2673
 linesWith (j has xs ∷ rest) = withLine (linesWith rest) j xs

@@ -60,7 +60,7 @@ unfoldable pub taskDue : List ℕ → List ℕ → Bool
 taskDue ls st = eqb (state st DEPTH) 0 && not (anyone ls activeLine) && not (eqb (state st SWIS) 0) && not (eqb (state st TASKS) 0)
 
 unfoldable pub taskDispatched : List ℕ → List ℕ → List ℕ
-taskDispatched ls st = if (taskDue ls st) (withState st CURRENT (front levels ls)) st
+taskDispatched ls st = if (taskDue ls st) (withState st CURRENT (front (levels st) ls)) st
 
 -- ---- the whole rule
 pub record Dispatched : Type 0 where

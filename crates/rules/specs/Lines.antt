@@ -6,7 +6,7 @@ use lib.Dec.{eqb, ltb}
 use lib.ListN.{length, getD}
 use Rattle.fold.specs.Lists.{without, putAt, firstWhere}
 use Rattle.rules.specs.Rows.{listed, withListed}
-use Rattle.rules.specs.Tables.{taskCount, levels, task, withTask, swi, PRIORITY, POSTED, ready, atSemaphore, atEvent, reading, writing}
+use Rattle.rules.specs.Tables.{taskCount, mostLevels, task, withTask, swi, PRIORITY, POSTED, ready, atSemaphore, atEvent, reading, writing}
 use Rattle.rules.specs.declared.Task.{Task}
 
 -- ---- which line is whose: "one queue for each priority", a line for each semaphore and mailbox, "the one waiter of an event"
@@ -32,7 +32,7 @@ abbrev pub readyLine : ℕ → ℕ
 readyLine p = 49 + p
 
 abbrev pub lineCount : ℕ
-lineCount = 49 + levels
+lineCount = 49 + mostLevels
 
 -- a line has room for 32
 abbrev pub lineMost : ℕ

@@ -1,9 +1,10 @@
--- 01, 'The call log': what stands at a position of a log, and a record's arguments.
+-- 01, 'The call log', and No. 14: what stands at a position of a log, and a record's arguments.
 use Prim.Native.Nat.{ℕ, _+_, _-_, _*_}
-use mathlib.Core.Bool.{cond as if}
+use mathlib.Core.Bool.{Bool, _&&_, _||_, cond as if}
 use mathlib.Core.List.{List, []}
 use lib.ListN.{length, getD, take, drop}
 use lib.Dec.{ltb, eqb}
+use Rattle.rules.specs.Tables.{fewLevels, mostLevels}
 use Rattle.rules.specs.declared.Read.{Read}
 use Rattle.rules.specs.declared.Read.the-variants.{Record, End, Cut, Length, Version}
 
@@ -14,18 +15,35 @@ halfAt s at = getD s at 0 * 256 + getD s (at + 1) 0
 abbrev pub wordAt : List ℕ → ℕ → ℕ
 wordAt s at = halfAt s at * 65536 + halfAt s (at + 2)
 
+-- No. 14: "The first record decides for the whole log": by its version, the third byte of the log whatever stands around it; 0 where there is none
+abbrev pub versionOf : List ℕ → ℕ
+versionOf s = getD s 2 0
+
+-- No. 14: "Log version 2 has the same layout and means 32 levels; a version 1 log replays with 16 as today."
+abbrev pub levelsFor : ℕ → ℕ
+levelsFor v = if (eqb v 2) mostLevels fewLevels
+
+-- No. 14: "neither 1 nor 2" is no version
+abbrev pub isVersion : ℕ → Bool
+isVersion v = eqb v 1 || eqb v 2
+
 -- "A record is 20 bytes: length 00 12, big-endian, counting what follows; version 01; call number; four arguments of four big-endian bytes."
 -- "None left is the end, a position past the log `cut`". "Faults, first found first: exactly 1 byte left, `cut`; length not 18, `length`; fewer
 -- than 18 after it, `cut`; version not 1, `version`; each with the record's byte offset from 0."
-unfoldable pub readAt : List ℕ → ℕ → Read
-readAt s at =
+-- No. 14: "a record whose version differs from the first record's, or is neither 1 nor 2, is the fault `version`"; v is the first record's.
+unfoldable pub readIn : ℕ → List ℕ → ℕ → Read
+readIn v s at =
     if (ltb (length s) at) (Cut at)
     (if (eqb (length s) at) End
     (if (eqb (length s - at) 1) (Cut at)
     (if (eqb (halfAt s at) 18)
     (if (ltb (length s - at) 20) (Cut at)
-    (if (eqb (getD s (at + 2) 0) 1) (Record (getD s (at + 3) 0) (at + 4)) (Version at)))
+    (if (isVersion v && eqb (getD s (at + 2) 0) v) (Record (getD s (at + 3) 0) (at + 4)) (Version at)))
     (Length at))))
+
+-- what stands at a position of a log that is whole
+abbrev pub readAt : List ℕ → ℕ → Read
+readAt s at = readIn (versionOf s) s at
 
 -- "it hands out each record's sixteen argument bytes as that part of the log"
 unfoldable pub argumentBytes : List ℕ → ℕ → List ℕ

@@ -1,10 +1,10 @@
--- 01, 'The call log': "Replay starts fresh and stops at a fault."
+-- 01, 'The call log': "Replay starts fresh and stops at a fault." No. 14: with the levels that the log's version means.
 use Prim.Native.Nat.{ℕ, zero, suc, _+_, _/_}
 use mathlib.Core.List.{List, [], _∷_}
 use lib.ListN.{length}
-use Rattle.rules.specs.Fresh.{fresh}
+use Rattle.rules.specs.Fresh.{freshWith}
 use Rattle.rules.specs.Step.{call}
-use Rattle.rules.specs.Log.{readAt, argumentBytes, argument}
+use Rattle.rules.specs.Log.{versionOf, levelsFor, readAt, argumentBytes, argument}
 use Rattle.rules.specs.Text.{lineText, wordText, textOf, endWord, cutWord, lengthWord, versionWord}
 use Rattle.rules.specs.declared.Tables.{Tables}
 use Rattle.rules.specs.declared.Step.{Step}
@@ -34,7 +34,7 @@ linesFrom (suc k) s at n t = linesFor (readAt s at) s n t (λ next u. linesFrom 
 
 -- a log of this many bytes has no more records than a twentieth of it, and one line more ends it
 unfoldable pub replayLines : List ℕ → List (List ℕ)
-replayLines s = linesFrom (suc (length s / 20)) s 0 0 fresh
+replayLines s = linesFrom (suc (length s / 20)) s 0 0 (freshWith (levelsFor (versionOf s)))
 
 unfoldable pub replayText : List ℕ → List ℕ
 replayText s = textOf (replayLines s)

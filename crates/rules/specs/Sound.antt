@@ -7,7 +7,7 @@ use lib.ListN.{length, getD}
 use Rattle.fold.specs.Lists.{count}
 use Rattle.fold.specs.Rule.{Rule, _is_, _isnt_, _under_, test, _and_, _or_, _gives_, each, every, holds, Means}
 use Rattle.rules.specs.Rows.{behind}
-use Rattle.rules.specs.Tables.{taskCount, swiCount, semaphoreCount, eventCount, mailboxCount, mailboxWidth, mailboxMost, clockCount, heapUnits, levels, minusOne, forever, notInUse, ready, sleeping, atSemaphore, atEvent, reading, writing, terminated, inactive, task, semaphore, event, mailbox, swi, clock, state, USED, KIND, COUNT, BITS, CAPACITY, MESSAGES, PRIORITY, INITIAL, TRIGGER, POSTED, TAKEN, DEPTH, SWIS, TASKS, CURRENT}
+use Rattle.rules.specs.Tables.{taskCount, swiCount, semaphoreCount, eventCount, mailboxCount, mailboxWidth, mailboxMost, clockCount, heapUnits, fewLevels, mostLevels, levels, minusOne, forever, notInUse, ready, sleeping, atSemaphore, atEvent, reading, writing, terminated, inactive, task, semaphore, event, mailbox, swi, clock, state, USED, KIND, COUNT, BITS, CAPACITY, MESSAGES, PRIORITY, INITIAL, TRIGGER, POSTED, TAKEN, DEPTH, SWIS, TASKS, CURRENT, LEVELS}
 use Rattle.rules.specs.Lines.{lineCount, lineMost, lineWidth, semaphoreLine, mailboxLine, eventLine, postedLine, activeLine, line, first, taskHome, swiHome}
 use Rattle.rules.specs.Semaphores.{most}
 use Rattle.rules.specs.Events.{matched}
@@ -30,8 +30,8 @@ idleRule k = (k .mode is ready) and (k .priority is 0) and noWait k and (k .outc
 abbrev pub waitRule : Task → ℕ → Rule
 waitRule k n = (k .object under n) and (k .left under forever)
 
-unfoldable pub otherRule : Task → Rule
-otherRule k =
+unfoldable pub otherRule : ℕ → Task → Rule
+otherRule n k =
     (k .mode under 9)
     and (k .outcome under 2)
     and (k .outcome is 1 gives k .value is 0)
@@ -44,13 +44,13 @@ otherRule k =
     and (k .mode is writing gives waitRule k mailboxCount and (k .second is 0))
     and (k .mode is terminated gives noWait k)
     and (k .mode is inactive gives (k .priority is minusOne) and noWait k)
-    and (k .mode isnt notInUse and k .mode isnt inactive gives (0 under k .priority) and (k .priority under levels))
+    and (k .mode isnt notInUse and k .mode isnt inactive gives (0 under k .priority) and (k .priority under n))
 
-abbrev pub taskRule : ℕ → Task → Rule
-taskRule i k = (i is 0 gives idleRule k) and (i isnt 0 gives otherRule k)
+abbrev pub taskRule : ℕ → ℕ → Task → Rule
+taskRule n i k = (i is 0 gives idleRule k) and (i isnt 0 gives otherRule n k)
 
-abbrev pub tasksRule : List ℕ → Rule
-tasksRule ts = each taskCount (λ i. taskRule i (task ts i))
+abbrev pub tasksRule : ℕ → List ℕ → Rule
+tasksRule n ts = each taskCount (λ i. taskRule n i (task ts i))
 
 -- ---- lines: no more than 32 in a line, and zeros behind them
 abbrev pub linesRule : List ℕ → Rule
@@ -152,10 +152,11 @@ stateRule ts st =
     and (state st TASKS under 2)
     and (state st CURRENT under taskCount)
     and (task ts (state st CURRENT) .mode is ready)
+    and (state st LEVELS is fewLevels or state st LEVELS is mostLevels)
 
 -- "and the dispatch rule has nothing left to do"
 abbrev pub dispatchRule : List ℕ → List ℕ → List ℕ → Rule
-dispatchRule ws ls st = test (not (swiDue ws ls st)) and (test (taskDue ls st) gives state st CURRENT is front levels ls)
+dispatchRule ws ls st = test (not (swiDue ws ls st)) and (test (taskDue ls st) gives state st CURRENT is front (levels st) ls)
 
 -- ---- all of them
 unfoldable pub sound : Tables → Bool
@@ -163,7 +164,7 @@ sound t =
     holds (stateRule (t .tasks) (t .state))
     && holds (heapRule (t .heap))
     && holds (clocksRule (t .clocks) (t .swis))
-    && holds (tasksRule (t .tasks))
+    && holds (tasksRule (levels (t .state)) (t .tasks))
     && holds (linesRule (t .lines))
     && holds (membersRule (t .tasks) (t .swis) (t .lines))
     && holds (onceRule taskCount (taskHome (t .tasks)) (t .lines))
@@ -179,7 +180,7 @@ pub record Sound (t : Tables) : Type 0 where
   pub state : Means (stateRule (t .tasks) (t .state))
   pub heap : Means (heapRule (t .heap))
   pub clocks : Means (clocksRule (t .clocks) (t .swis))
-  pub tasks : Means (tasksRule (t .tasks))
+  pub tasks : Means (tasksRule (levels (t .state)) (t .tasks))
   pub lines : Means (linesRule (t .lines))
   pub members : Means (membersRule (t .tasks) (t .swis) (t .lines))
   pub taskOnce : Means (onceRule taskCount (taskHome (t .tasks)) (t .lines))

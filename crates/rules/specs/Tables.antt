@@ -3,7 +3,7 @@ use Prim.Native.Nat.{ℕ, _+_, _*_, _^_}
 use mathlib.Core.Path.{_≡_}
 use mathlib.Core.Bool.{_&&_, cond as if}
 use mathlib.Core.List.{List, [], _∷_}
-use lib.Dec.{ltb, leb}
+use lib.Dec.{eqb, ltb, leb}
 use lib.ListN.{length, getD, set}
 use Rattle.rules.specs.Rows.{field, withField, withRow, listed, withListed}
 use Rattle.rules.specs.declared.Tables.{Tables}
@@ -51,8 +51,12 @@ abbrev pub clockWidth : ℕ
 clockWidth = 5
 
 -- "Task priorities -1 and 1 to 15. Task 0 is the idle task, priority 0": sixteen levels
-abbrev pub levels : ℕ
-levels = 16
+abbrev pub fewLevels : ℕ
+fewLevels = 16
+
+-- No. 14: "With 32, priorities run to 31": a ready queue is kept for each of so many
+abbrev pub mostLevels : ℕ
+mostLevels = 32
 
 -- "One heap of 256 units of 8 bytes"
 abbrev pub heapUnits : ℕ
@@ -251,6 +255,13 @@ TICK = 3
 abbrev pub CURRENT : ℕ
 CURRENT = 4
 
+abbrev pub LEVELS : ℕ
+LEVELS = 5
+
+-- No. 14: "The number of levels, 16 or 32, becomes part of the tables"; another number counts as 16
+unfoldable pub levels : List ℕ → ℕ
+levels st = if (eqb (state st LEVELS) mostLevels) mostLevels fewLevels
+
 -- the current task; a number that is no task's counts as 0
 unfoldable pub current : List ℕ → ℕ
 current st = if (ltb (state st CURRENT) taskCount) (state st CURRENT) 0
@@ -260,15 +271,20 @@ abbrev pub tables : List ℕ → List ℕ → List ℕ → List ℕ → List ℕ
 tables ts ls ss es ms ws cs h st =
     record { tasks = ts; lines = ls; semaphores = ss; events = es; mailboxes = ms; swis = ws; clocks = cs; heap = h; state = st }
 
+-- the same tables with the most levels
+abbrev pub raised : Tables → Tables
+raised t =
+    tables (t .tasks) (t .lines) (t .semaphores) (t .events) (t .mailboxes) (t .swis) (t .clocks) (t .heap) (withState (t .state) LEVELS mostLevels)
+
 -- what their types say of them: each array's length. That a word is below 4,294,967,296 and a byte below 256 is said by its type too, and
 -- no rule repeats it.
 pub record Typed (t : Tables) : Type 0 where
   pub tasks : length (t .tasks) ≡ 256
-  pub lines : length (t .lines) ≡ 2145
+  pub lines : length (t .lines) ≡ 2673
   pub semaphores : length (t .semaphores) ≡ 48
   pub events : length (t .events) ≡ 16
   pub mailboxes : length (t .mailboxes) ≡ 80
   pub swis : length (t .swis) ≡ 96
   pub clocks : length (t .clocks) ≡ 80
   pub heap : length (t .heap) ≡ 256
-  pub state : length (t .state) ≡ 5
+  pub state : length (t .state) ≡ 6

@@ -36,10 +36,10 @@ placedAt k p =
     }
 
 -- ---- "00 create (priority; T): value its number; ready at once unless -1."
-unfoldable pub createCases : List ℕ → ℕ → ℕ → ℕ → ℕ → ℕ → Cases
-createCases ts x a b c d =
+unfoldable pub createCases : List ℕ → List ℕ → ℕ → ℕ → ℕ → ℕ → ℕ → Cases
+createCases ts st x a b c d =
     given 2 (notT x)
-    (given 4 (not (isPriority levels a) || unused 0 b c d)
+    (given 4 (not (isPriority (levels st) a) || unused 0 b c d)
     (given 6 (eqb (freeTask ts) taskCount) never))
 
 unfoldable pub createEffect : Queued → ℕ → After Queued
@@ -61,7 +61,7 @@ unfoldable pub setPriorityCases : List ℕ → List ℕ → ℕ → ℕ → ℕ 
 setPriorityCases ts st x a b c d =
     given 2 (notTS x)
     (onObject taskCount a (task ts a .mode)
-    (given 4 (not (isPriority levels b) || unused 0 0 c d)
+    (given 4 (not (isPriority (levels st) b) || unused 0 0 c d)
     (given 5 (eqb a 0 || eqb (task ts a .mode) terminated || (eqb b minusOne && (eqb a (current st) || blocked (task ts a .mode)))) never)))
 
 abbrev pub withPriority : Task → ℕ → Task
@@ -129,7 +129,7 @@ lastResultEffect q a = accepted (task (q .tasks) a .outcome) (task (q .tasks) a 
 -- ---- the calls by number
 unfoldable pub taskCall : Queued → List ℕ → ℕ → ℕ → ℕ → ℕ → ℕ → ℕ → Call Queued
 taskCall q st x number a b c d =
-    if (eqb number 0x00) (called (createCases (q .tasks) x a b c d) (createEffect q a))
+    if (eqb number 0x00) (called (createCases (q .tasks) st x a b c d) (createEffect q a))
     (if (eqb number 0x01) (called (deleteCases (q .tasks) x a b c d) (deleteEffect q a))
     (if (eqb number 0x02) (called (setPriorityCases (q .tasks) st x a b c d) (setPriorityEffect q a b))
     (if (eqb number 0x03) (called (yieldCases st x a b c d) (yieldEffect q st))

@@ -14,11 +14,16 @@ pub const MAILBOX_COUNT: u32 = 8;
 
 pub const CLOCK_COUNT: u32 = 16;
 
+// How many levels of priority tasks have: few, or most.
+pub const FEW_LEVELS: u32 = 16;
+
+pub const MOST_LEVELS: u32 = 32;
+
 // 32 rows of 8: mode, priority, object, left, first, second, outcome, value.
 pub type Tasks = [u32; 256];
 
-// 65 rows of 33: how many stand in the line, who, the one at the front first, and zeros.
-pub type Lines = [u8; 2145];
+// 81 rows of 33: how many stand in the line, who, the one at the front first, and zeros.
+pub type Lines = [u8; 2673];
 
 // 16 rows of 3: used, kind, count.
 pub type Semaphores = [u32; 48];
@@ -38,8 +43,8 @@ pub type Clocks = [u32; 80];
 // An entry for each of the 256 units: 0 free, 1 first of a block, 2 later in one.
 pub type Heap = [u8; 256];
 
-// One row of 5: depth, Swis on, tasks on, tick, current.
-pub type State = [u32; 5];
+// One row of 6: depth, Swis on, tasks on, tick, current, levels.
+pub type State = [u32; 6];
 
 // All tables by value: what goes in with a call, and what comes out.
 pub struct Tables {

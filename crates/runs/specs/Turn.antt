@@ -74,7 +74,7 @@ Gone p x t (q ∷ qs) = (count x (queue p t) ≡ 0) ⊎ (Yields x t q ⊎ Gone p
 
 -- ---- it may run: no task of a higher priority is ready, no interrupt is open, no Swi active, and both switches are on
 pub record Unhindered (p : ℕ) (t : Tables) : Type 0 where
-  pub higher : (r : ℕ) → p < r → r < levels → queue r t ≡ []
+  pub higher : (r : ℕ) → p < r → r < levels (t .state) → queue r t ≡ []
   pub depth : state (t .state) DEPTH ≡ 0
   pub active : line (t .lines) activeLine ≡ []
   pub swis : state (t .state) SWIS ≢ 0

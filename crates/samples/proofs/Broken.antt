@@ -11,7 +11,7 @@ use lib.ListN.{getD}
 use Rattle.fold.specs.Find.{allBelow}
 use Rattle.fold.specs.Rule.{Rule, _is_, _isnt_, _under_, test, _and_, _or_, _gives_, each, every, holds}
 use Rattle.rules.specs.Answer.{answer}
-use Rattle.rules.specs.Tables.{taskCount, swiCount}
+use Rattle.rules.specs.Tables.{taskCount, swiCount, levels}
 use Rattle.rules.specs.Lines.{taskHome, swiHome}
 use Rattle.rules.specs.Sound.{sound, stateRule, heapRule, clocksRule, tasksRule, linesRule, membersRule, onceRule, semaphoresRule, eventsRule}
 use Rattle.rules.specs.Sound.{mailboxesRule, swisRule, activeRule, dispatchRule}
@@ -34,7 +34,7 @@ abbrev pub ruleOf : Name → Tables → Rule
 ruleOf of-state t = stateRule (t .tasks) (t .state)
 ruleOf of-heap t = heapRule (t .heap)
 ruleOf of-clocks t = clocksRule (t .clocks) (t .swis)
-ruleOf of-tasks t = tasksRule (t .tasks)
+ruleOf of-tasks t = tasksRule (levels (t .state)) (t .tasks)
 ruleOf of-lines t = linesRule (t .lines)
 ruleOf of-members t = membersRule (t .tasks) (t .swis) (t .lines)
 ruleOf of-task-once t = onceRule taskCount (taskHome (t .tasks)) (t .lines)

@@ -62,7 +62,7 @@ busy =
     -- a block of three units, a free one, a block of one
     (1 ∷ 2 ∷ 2 ∷ 0 ∷ 1 ∷ zeros 251)
     -- depth, Swis on, tasks on, tick, current
-    (0 ∷ 1 ∷ 1 ∷ 7 ∷ 1 ∷ [])
+    (0 ∷ 1 ∷ 1 ∷ 7 ∷ 1 ∷ 16 ∷ [])
 
 pub busy-sound : sound busy ≡ true
 unfolding quickly linesWith busy
@@ -75,7 +75,7 @@ held =
     tables (ready ∷ 0 ∷ 0 ∷ 0 ∷ 0 ∷ 0 ∷ 0 ∷ 0 ∷ ready ∷ 5 ∷ zeros 246)
     (linesWith (readyLine 0 has (0 ∷ []) ∷ readyLine 5 has (1 ∷ []) ∷ []))
     (zeros 48) (zeros 16) (zeros 80) (zeros 96) (zeros 80) (zeros 256)
-    (0 ∷ 1 ∷ 0 ∷ 0 ∷ 0 ∷ [])
+    (0 ∷ 1 ∷ 0 ∷ 0 ∷ 0 ∷ 16 ∷ [])
 
 pub held-sound : sound held ≡ true
 unfolding quickly linesWith held

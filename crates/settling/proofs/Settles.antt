@@ -54,26 +54,26 @@ module _ (t : Tables) (s : Sound t) where
         ranged (inRange number 0x00)
         (record {
           rule = λ z.
-              let l = tasks-quiet (queued (t .tasks) (t .lines)) (s .tasks) (t .state) x number a b c d .leaves z in
+              let l = tasks-quiet (queued (t .tasks) (t .lines)) (t .state) (s .tasks) (t .state) x number a b c d .leaves z in
               of-tasks _ _ (l .swis) (l .none);
         })
         (ranged (inRange number 0x10) whole
         (ranged (inRange number 0x20)
         (record {
           rule = λ z.
-              let l = semaphores-quiet (served (t .tasks) (t .lines) (t .semaphores)) (s .tasks) (task-0-never-waits t s) (t .state) x number a b c d .leaves z in
+              let l = semaphores-quiet (served (t .tasks) (t .lines) (t .semaphores)) (t .state) (s .tasks) (task-0-never-waits t s) (t .state) x number a b c d .leaves z in
               of-tasks _ _ (l .swis) (l .none);
         })
         (ranged (inRange number 0x30)
         (record {
           rule = λ z.
-              let l = events-quiet (served (t .tasks) (t .lines) (t .events)) (s .tasks) (task-0-never-waits t s) (t .state) x number a b c d .leaves z in
+              let l = events-quiet (served (t .tasks) (t .lines) (t .events)) (t .state) (s .tasks) (task-0-never-waits t s) (t .state) x number a b c d .leaves z in
               of-tasks _ _ (l .swis) (l .none);
         })
         (ranged (inRange number 0x40)
         (record {
           rule = λ z.
-              let l = mailboxes-quiet (served (t .tasks) (t .lines) (t .mailboxes)) (s .tasks) (task-0-never-waits t s) (t .state) x number a b c d .leaves z in
+              let l = mailboxes-quiet (served (t .tasks) (t .lines) (t .mailboxes)) (t .state) (s .tasks) (task-0-never-waits t s) (t .state) x number a b c d .leaves z in
               of-tasks _ _ (l .swis) (l .none);
         })
         (ranged (inRange number 0x50) (record { rule = λ _. nothing })

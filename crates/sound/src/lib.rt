@@ -21,7 +21,7 @@ pub fn dispatch_sound(swis: &Swis, lines: &Lines, state: &State) -> bool
         dispatchRule (now (swis .entry)) (now (lines .entry)) (now (state .entry))) ⌝ }
 {
     let current = fold::index(state[words::CURRENT]);
-    let front = fold::wide(due::front(lines));
+    let front = fold::wide(due::front(lines, state));
     !due::swi_due(swis, lines, state) & (!due::task_due(lines, state) | (current == front))
 }
 
@@ -45,7 +45,7 @@ pub fn is_sound(
     records::state_sound(tasks, state)
         & records::heap_sound(heap)
         & records::clocks_sound(clocks, swis)
-        & records::tasks_sound(tasks)
+        & records::tasks_sound(tasks, rows::answers::levels(state))
         & standing::lines_sound(lines)
         & standing::members_sound(tasks, swis, lines)
         & standing::task_once(tasks, lines)

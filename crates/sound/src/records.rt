@@ -8,7 +8,7 @@ use rules::Task;
 use rules::Tasks;
 ghost use mathlib.Core.Path.{_≡_};
 ghost use Rattle.fold.specs.Rule.{holds, _is_, _isnt_, _under_, _and_, _gives_};
-ghost use Rattle.rules.specs.Tables.{levels, task};
+ghost use Rattle.rules.specs.Tables.{task};
 ghost use Rattle.rules.specs.Heap.{free, laterIn};
 ghost use Rattle.rules.specs.Sound.{stateRule, heapRule, clockRule, clocksRule};
 ghost use Rattle.rules.specs.Sound.{noWait, idleRule, waitRule, otherRule, taskRule, tasksRule};
@@ -26,6 +26,7 @@ pub fn state_sound(tasks: &Tasks, state: &State) -> bool
         & (state[words::TASKS] < 2)
         & (current < 32)
         & (k.mode == 1)
+        & ((state[5] == 16) | (state[5] == 32))
 }
 
 // ---- the heap
@@ -103,11 +104,11 @@ fn result_sound(k: Task) -> bool
     (k.outcome < 2) & ((k.outcome != 1) | (k.value == 0))
 }
 
-// A priority from 1 to 15.
-fn level_sound(k: Task) -> bool
-    ensures { λ r. ⌜ r ≡ holds ((0 under k .priority) and (k .priority under levels)) ⌝ }
+// A priority from 1 to n - 1.
+fn level_sound(k: Task, n: u32) -> bool
+    ensures { λ r. ⌜ r ≡ holds ((0 under k .priority) and (k .priority under n)) ⌝ }
 {
-    (0 < k.priority) & (k.priority < 16)
+    (0 < k.priority) & (k.priority < n)
 }
 
 // A wait at one of n objects, limited or without end.
@@ -119,11 +120,11 @@ fn wait_sound(k: Task, n: u32) -> bool
 
 // Any other task than task 0, by its mode: not in use, ready, sleeping, at a semaphore, at an
 // event, reading, writing, terminated, inactive.
-fn other_sound(k: Task) -> bool
-    ensures { λ r. ⌜ r ≡ holds (otherRule k) ⌝ }
+fn other_sound(k: Task, n: u32) -> bool
+    ensures { λ r. ⌜ r ≡ holds (otherRule n k) ⌝ }
 {
     let result = result_sound(k);
-    let level = level_sound(k);
+    let level = level_sound(k, n);
     let clear = no_wait(k);
     let mode = k.mode;
     match mode {
@@ -149,24 +150,24 @@ fn other_sound(k: Task) -> bool
 }
 
 // Task i's row is as its number and mode say.
-fn task_sound(tasks: &Tasks, i: usize) -> bool
-    ensures { λ r. ⌜ r ≡ holds (taskRule i (task (now (tasks .entry)) i)) ⌝ }
+fn task_sound(tasks: &Tasks, i: usize, n: u32) -> bool
+    ensures { λ r. ⌜ r ≡ holds (taskRule n i (task (now (tasks .entry)) i)) ⌝ }
 {
     let k = words::task(tasks, i);
     if i == 0 {
         return idle_sound(k);
     }
-    other_sound(k)
+    other_sound(k, n)
 }
 
 // The same of each task.
-pub fn tasks_sound(tasks: &Tasks) -> bool
-    ensures { λ r. ⌜ r ≡ holds (tasksRule (now (tasks .entry))) ⌝ }
+pub fn tasks_sound(tasks: &Tasks, n: u32) -> bool
+    ensures { λ r. ⌜ r ≡ holds (tasksRule n (now (tasks .entry))) ⌝ }
 {
     let mut ok = true;
     let mut i = 0;
     while i < 32 {
-        ok = ok & task_sound(tasks, i);
+        ok = ok & task_sound(tasks, i, n);
         i += 1;
     }
     ok

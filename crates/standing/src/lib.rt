@@ -24,7 +24,7 @@ fn zeros_behind(lines: &Lines, j: usize) -> bool
     ensures { λ r. ⌜ r ≡ (ltb j lineCount
         && allOf (λ x. eqb x 0) (behind lineMost (now (lines .entry)) (j * lineWidth))) ⌝ }
 {
-    if j < 65 {
+    if j < 81 {
         let at = j * 33;
         let mut k = rows::lines::least(fold::wide(lines[at]), 32);
         let mut ok = true;
@@ -43,7 +43,7 @@ fn line_sound(lines: &Lines, j: usize) -> bool
         (getD (now (lines .entry)) (j * lineWidth) 0 under suc lineMost)
         and every (behind lineMost (now (lines .entry)) (j * lineWidth)) (λ x. x is 0))) ⌝ }
 {
-    if j < 65 {
+    if j < 81 {
         let n = lines[j * 33];
         return (n < 33) & zeros_behind(lines, j);
     }
@@ -56,7 +56,7 @@ pub fn lines_sound(lines: &Lines) -> bool
 {
     let mut ok = true;
     let mut j = 0;
-    while j < 65 {
+    while j < 81 {
         ok = ok & line_sound(lines, j);
         j += 1;
     }
@@ -117,7 +117,7 @@ pub fn members_sound(tasks: &Tasks, swis: &Swis, lines: &Lines) -> bool
 {
     let mut ok = true;
     let mut j = 0;
-    while j < 65 {
+    while j < 81 {
         ok = ok & ((j == 48) | at_home(tasks, swis, lines, j));
         j += 1;
     }
@@ -155,7 +155,7 @@ fn stands_once(lines: &Lines, home: usize, x: usize) -> bool
     ensures { λ r. ⌜ r ≡ holds (
         home under lineCount gives count x (line (now (lines .entry)) home) is 1) ⌝ }
 {
-    !(home < 65) | (times(lines, home, x) == 1)
+    !(home < 81) | (times(lines, home, x) == 1)
 }
 
 // Each ready task stands once in its priority's queue, each that waits at an object once in its

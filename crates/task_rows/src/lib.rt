@@ -6,7 +6,7 @@ ghost use mathlib.Core.Path.{_≡_};
 ghost use mathlib.Core.Bool.{cond as if};
 ghost use lib.Dec.{eqb};
 ghost use Prim.Native.Nat.{_≤_};
-ghost use Rattle.rules.specs.Tables.{levels, minusOne, ready, inactive, noTask, current};
+ghost use Rattle.rules.specs.Tables.{minusOne, ready, inactive, noTask, current};
 ghost use Rattle.rules.specs.Tasks.{isPriority, freeTask, blocked, placedAt};
 ghost use Rattle.rules.specs.Tasks.{withPriority};
 ghost use Rattle.rules.specs.Tasks.{ended};
@@ -37,11 +37,11 @@ pub const FOREVER: u32 = 4294967295;
 
 // ---- what several calls look at
 
-// A priority that a task may have: -1, or 1 to 15.
-pub fn is_priority(p: u32) -> bool
-    ensures { λ r. ⌜ r ≡ isPriority levels p ⌝ }
+// A priority that a task may have with n levels: -1, or 1 to n - 1.
+pub fn is_priority(n: u32, p: u32) -> bool
+    ensures { λ r. ⌜ r ≡ isPriority n p ⌝ }
 {
-    (p == MINUS_ONE) | ((0 < p) & (p < 16))
+    (p == MINUS_ONE) | ((0 < p) & (p < n))
 }
 
 // The lowest free number; 32 where none is free.

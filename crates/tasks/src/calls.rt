@@ -30,13 +30,13 @@ ghost use Rattle.rules.specs.Tasks.{lastResultCases, lastResultEffect};
 // ---- 00 create (priority; T)
 
 // 4 for a bad priority, 6 where no number is free.
-pub fn create_code(tasks: &Tasks, x: u32, a: u32, b: u32, c: u32, d: u32) -> u32
-    ensures { λ r. ⌜ r ≡ codeOf (createCases (now (tasks .entry)) x a b c d) ⌝ }
+pub fn create_code(tasks: &Tasks, state: &State, x: u32, a: u32, b: u32, c: u32, d: u32) -> u32
+    ensures { λ r. ⌜ r ≡ codeOf (createCases (now (tasks .entry)) (now (state .entry)) x a b c d) ⌝ }
 {
     if x != 0 {
         return 2;
     }
-    if !is_priority(a) | rows::answers::unused(0, b, c, d) {
+    if !is_priority(rows::answers::levels(state), a) | rows::answers::unused(0, b, c, d) {
         return 4;
     }
     if free_task(tasks) == 32 {
@@ -59,6 +59,7 @@ pub fn create_effect(tasks: &mut Tasks, lines: &mut Lines, a: u32) -> Answer
 pub fn create(
     tasks: &mut Tasks,
     lines: &mut Lines,
+    state: &State,
     x: u32,
     a: u32,
     b: u32,
@@ -67,10 +68,10 @@ pub fn create(
 ) -> Answer
     ensures { λ r. ⌜ after r (queued (now (tasks .exit)) (now (lines .exit)))
         ≡ answered (queued (now (tasks .entry)) (now (lines .entry)))
-        (called (createCases (now (tasks .entry)) x a b c d)
+        (called (createCases (now (tasks .entry)) (now (state .entry)) x a b c d)
         (createEffect (queued (now (tasks .entry)) (now (lines .entry))) a)) ⌝ }
 {
-    let code = create_code(tasks, x, a, b, c, d);
+    let code = create_code(tasks, state, x, a, b, c, d);
     if code != 0 {
         return rows::answers::refused(code);
     }
@@ -144,7 +145,7 @@ pub fn set_priority_code(
     if mode == NOT_IN_USE {
         return rows::answers::absent_code(a, rules::TASK_COUNT);
     }
-    if !is_priority(b) | rows::answers::unused(0, 0, c, d) {
+    if !is_priority(rows::answers::levels(state), b) | rows::answers::unused(0, 0, c, d) {
         return 4;
     }
     if (a == 0) | (mode == TERMINATED) {

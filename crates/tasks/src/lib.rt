@@ -28,7 +28,7 @@ pub fn task_call(
         (now (state .entry)) x number a b c d) ⌝ }
 {
     match number {
-        0x00 => calls::create(tasks, lines, x, a, b, c, d),
+        0x00 => calls::create(tasks, lines, state, x, a, b, c, d),
         0x01 => calls::delete(tasks, x, a, b, c, d),
         0x02 => calls::set_priority(tasks, lines, state, x, a, b, c, d),
         0x03 => running_task::yield_task(tasks, lines, state, x, a, b, c, d),

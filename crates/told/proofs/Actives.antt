@@ -11,7 +11,7 @@ use lib.ListN.{length}
 use lib.Seq.{length-take-le}
 use Rattle.fold.specs.Lists.{bit}
 use Rattle.fold.specs.Rule.{Means}
-use Rattle.rules.specs.Tables.{Typed, swiCount, taskCount, clockCount, swi, task, clock, state, PRIORITY, TRIGGER, POSTED, CURRENT}
+use Rattle.rules.specs.Tables.{Typed, swiCount, taskCount, clockCount, swi, task, clock, state, levels, PRIORITY, TRIGGER, POSTED, CURRENT}
 use Rattle.rules.specs.Lines.{line, left, Queued, queued, atBack, postedLine, activeLine}
 use Rattle.rules.specs.Answer.{Cases, After, Call, called, codeOf, unknown}
 use Rattle.rules.specs.Dispatch.{context}
@@ -33,6 +33,7 @@ use Rattle.keeps.proofs.Standing.{sound-almost, task-0-never-waits}
 use Rattle.keeps.proofs.Ticking.{rising-keeps, withClocked, clocks-tick, Ready, task-ticks}
 use Rattle.keeps.proofs.OfSwis.{context-S}
 use Rattle.keeps.proofs.SwiTables.{swi-other, priority-below}
+use Rattle.keeps.proofs.Waiting.{still-ready}
 use Rattle.keeps.proofs.Quiet.{tasks-quiet, semaphores-quiet, events-quiet, mailboxes-quiet}
 
 -- as many are active as before a call with this number, and one fewer after call 17
@@ -142,14 +143,14 @@ module _ (t : Tables) (typed : Typed t) (s : Sound t) where
         (λ _. so-far))
         before .same
 
-    task-same : (q : Queued) (i : ℕ) → Means (tasksRule (q .tasks)) → line (Tick.taskTick q i .lines) activeLine ≡ line (q .lines) activeLine
+    task-same : (q : Queued) (i : ℕ) → Means (tasksRule (levels (t .state)) (q .tasks)) → line (Tick.taskTick q i .lines) activeLine ≡ line (q .lines) activeLine
     unfolding Tick.taskTick
     task-same q i rows =
         chosen (λ (y : Queued). line (y .lines) activeLine ≡ line (q .lines) activeLine) (eqb (task (q .tasks) i .left) 0) _ _
         (λ _. refl)
         (λ _.
         chosen (λ (y : Queued). line (y .lines) activeLine ≡ line (q .lines) activeLine) (eqb (task (q .tasks) i .left) 1) _ _
-        (λ _. woken-aside q rows i _ 0 activeLine (omega arith) (omega arith))
+        (λ _. woken-aside q (t .state) rows i _ 0 activeLine (omega arith) (omega arith))
         (λ _. refl))
 
     ticked-same : line (Tick.ticked (Tick.tickedOf (t .tasks) (t .lines) (t .swis) (t .clocks) (t .state)) .lines) activeLine ≡ line (t .lines) activeLine
@@ -160,7 +161,7 @@ module _ (t : Tables) (typed : Typed t) (s : Sound t) where
         let i = state (t .state) CURRENT in
         rising-keeps (λ (q : Queued). Ready u i q × (line (q .lines) activeLine ≡ line (u .lines) activeLine)) Tick.taskTick (queued (u .tasks) (u .lines)) taskCount
         (λ q n h so-far. (task-ticks u i q n h (so-far .0), task-same q n (so-far .0 .0 .tasks) ∙ so-far .1))
-        ((almost, s .state .1 .1 .1 .1), refl) .1
+        ((almost, still-ready t s), refl) .1
         ∙ clocks-same
 
     switches-active : Leaves (λ (x : Tick.Ticked). x .lines) number (t .lines)
@@ -195,14 +196,14 @@ module _ (t : Tables) (typed : Typed t) (s : Sound t) where
     unfolding callOf
     effect-active =
         numbered (inRange number 0x00) (λ e. other-kind (withQueued t) _ (λ z. omega (arith, within 0x00 e .1))
-        (λ z. tasks-quiet (queued (t .tasks) (t .lines)) (s .tasks) (t .state) who number a b c d .leaves z .swis activeLine (omega arith) (omega arith)))
+        (λ z. tasks-quiet (queued (t .tasks) (t .lines)) (t .state) (s .tasks) (t .state) who number a b c d .leaves z .swis activeLine (omega arith) (omega arith)))
         (numbered (inRange number 0x10) (λ e. of-kind (withPosts t) _ (λ x. refl) swis-active)
         (numbered (inRange number 0x20) (λ e. other-kind (withSemaphores t) _ (λ z. omega (arith, within 0x20 e .0))
-        (λ z. semaphores-quiet (served (t .tasks) (t .lines) (t .semaphores)) (s .tasks) never (t .state) who number a b c d .leaves z .swis activeLine (omega arith) (omega arith)))
+        (λ z. semaphores-quiet (served (t .tasks) (t .lines) (t .semaphores)) (t .state) (s .tasks) never (t .state) who number a b c d .leaves z .swis activeLine (omega arith) (omega arith)))
         (numbered (inRange number 0x30) (λ e. other-kind (withEvents t) _ (λ z. omega (arith, within 0x30 e .0))
-        (λ z. events-quiet (served (t .tasks) (t .lines) (t .events)) (s .tasks) never (t .state) who number a b c d .leaves z .swis activeLine (omega arith) (omega arith)))
+        (λ z. events-quiet (served (t .tasks) (t .lines) (t .events)) (t .state) (s .tasks) never (t .state) who number a b c d .leaves z .swis activeLine (omega arith) (omega arith)))
         (numbered (inRange number 0x40) (λ e. other-kind (withMailboxes t) _ (λ z. omega (arith, within 0x40 e .0))
-        (λ z. mailboxes-quiet (served (t .tasks) (t .lines) (t .mailboxes)) (s .tasks) never (t .state) who number a b c d .leaves z .swis activeLine (omega arith) (omega arith)))
+        (λ z. mailboxes-quiet (served (t .tasks) (t .lines) (t .mailboxes)) (t .state) (s .tasks) never (t .state) who number a b c d .leaves z .swis activeLine (omega arith) (omega arith)))
         (numbered (inRange number 0x50) (λ e. other-kind (withClocks t) _ (λ z. omega (arith, within 0x50 e .0)) (λ z. refl))
         (numbered (inRange number 0x60) (λ e. other-kind (withHeap t) _ (λ z. omega (arith, within 0x60 e .0)) (λ z. refl))
         (numbered (inRange number 0x70) (λ e. of-kind (withTicked t) _ (λ x. refl) switches-active) (nothing t))))))))

@@ -38,7 +38,7 @@ use Rattle.told.specs.Told.{givenOf, effectOf, StartTold}
 use Rattle.told.proofs.Actives.{Active, effect-active}
 
 -- ---- a Swi that starts is the top active one
-module _ (ls : List ℕ) (full : length ls ≡ 2145) (room : length (line ls activeLine) < 32) (i j : ℕ) (other : activeLine ≢ j) where
+module _ (ls : List ℕ) (full : length ls ≡ 2673) (room : length (line ls activeLine) < 32) (i j : ℕ) (other : activeLine ≢ j) where
   now-active : line (joined activeLine i (left j i ls)) activeLine ≡ line ls activeLine ++ (i ∷ [])
   now-active =
       let same = left-other ls j i activeLine other in
@@ -58,7 +58,7 @@ dispatch-full ws ls st =
     (λ _. refl)
 
 -- ---- by the number of active ones: tables with lines ls, the call's effect with vs, and dispatch
-module _ (number : ℕ) (ls ws vs st : List ℕ) (full : length vs ≡ 2145) (room : length (line vs activeLine) < 32) (active : Active number ls vs) where
+module _ (number : ℕ) (ls ws vs st : List ℕ) (full : length vs ≡ 2673) (room : length (line vs activeLine) < 32) (active : Active number ls vs) where
   abbrev i : ℕ
   i = first vs (nextLine vs)
 
@@ -100,7 +100,7 @@ module _ (t : Tables) (typed : Typed t) (s : Sound t) (q : Asked) (w : Words q) 
       let left = effect-leaves (q .number) (callFor t q .effect) (effect-code t x (q .number) (q .a) (q .b) (q .c) (q .d)) in
       ap (λ (x : Step). x .tables .lines) done ∙ ap (λ (u : Tables). u .lines) left
 
-  still-full : length (effectOf t q .lines) ≡ 2145
+  still-full : length (effectOf t q .lines) ≡ 2673
   still-full =
       let v = effectOf t q in
       let words : Groups.Words (q .a) (q .b) (q .c) (q .d) = record { first = w .first; second = w .second; third = w .third; fourth = w .fourth } in

@@ -196,7 +196,8 @@ fn read_one(log: &[u8], at: usize, carried: Carried, out: &mut Text) -> Carried 
     if !c.going {
         return c;
     }
-    let found = calllog::read_at(log, at);
+    let state = c.tables.state;
+    let found = calllog::read_in(log, at, reads::version_by(&state));
     let Read::Record { number, start } = found else {
         let mut over = c;
         over.len = put_last(out, c.len, found, c.offset, c.count);
@@ -217,9 +218,20 @@ fn read_whole(log: &[u8], carried: Carried, out: &mut Text) -> Carried {
     c
 }
 
+// The tables of a log that begins with this part, or goes on with it.
+fn begun(log: &[u8], carried: Carried) -> Carried {
+    let mut c = carried;
+    let mut tables = c.tables;
+    let mut state = tables.state;
+    reads::begin(&mut state, log, c.count);
+    tables.state = state;
+    c.tables = tables;
+    c
+}
+
 // Those, and what ends the log where nothing follows.
 fn read_part(log: &[u8], last: bool, carried: Carried, out: &mut Text) -> Carried {
-    let c = read_whole(log, carried, out);
+    let c = read_whole(log, begun(log, carried), out);
     if last {
         let at = log.len() - log.len() % 20;
         return written(read_one(log, at, c, out), out);
@@ -292,8 +304,10 @@ fn read_then_turn(fd: i32, name: &[u8], part: &mut Part, c: Carried, out: &mut T
 fn trace_all(fd: i32, name: &[u8]) {
     let mut part = [0u8; 2560];
     let mut out = [0u8; 16384];
+    let fresh = entries::fresh(rules::FEW_LEVELS);
+    let tables = fresh.tables;
     let mut c = Carried {
-        tables: entries::fresh(),
+        tables,
         count: 0,
         offset: 0,
         held: 0,

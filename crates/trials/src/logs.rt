@@ -76,7 +76,8 @@ fn print_last(found: Read, n: u64) {
 
 // The records of a log, of which it has no more than bytes, and its last line.
 fn try_records(log: &[u8]) {
-    let mut t = entries::fresh();
+    let levels = calllog::levels_for(calllog::version_of(log));
+    let mut t = entries::fresh(levels).tables;
     let mut tasks = t.tasks;
     let mut lines = t.lines;
     let mut semaphores = t.semaphores;

@@ -11,7 +11,7 @@ use Rattle.fold.specs.Lists.{count, ahead}
 use Rattle.fold.specs.Rule.{Means}
 use Rattle.fold.proofs.Laws.{putAt-back, without-absent}
 use Rattle.rules.specs.Answer.{nowWaiting}
-use Rattle.rules.specs.Tables.{Typed, forever, atSemaphore, semaphoreCount, semaphoreWidth, task, current, semaphore, USED, KIND, COUNT}
+use Rattle.rules.specs.Tables.{Typed, forever, atSemaphore, semaphoreCount, semaphoreWidth, task, current, semaphore, USED, KIND, COUNT, levels}
 use Rattle.rules.specs.Lines.{line, semaphoreLine, homeBy, taskHome, queued, moved}
 use Rattle.rules.specs.Waits.{ticksFor, waiting}
 use Rattle.rules.specs.Semaphores as Semaphores
@@ -71,8 +71,8 @@ module _ (t : Tables) (typed : Typed t) (sound : Sound t) (s : ℕ) (word : s < 
       let none : semaphore (t .semaphores) s COUNT ≡ 0 = omega (arith, ltb-false 0 (semaphore (t .semaphores) s COUNT) none-left) in
       not-idle t sound (rw none at (accepted-is (Semaphores.pendCases (t .semaphores) (t .state) _ s forever 0 0) (ok .cases) .at5))
 
-  row : Means (taskRule i k)
-  row = at-semaphore-row i (task (t .tasks) i) other (current-row t sound) (current-used t sound) s forever (omega arith) here
+  row : Means (taskRule (levels (t .state)) i k)
+  row = at-semaphore-row _ i (task (t .tasks) i) other (current-row t sound) (current-used t sound) s forever (omega arith) here
 
   almost : Almost t
   almost = sound-almost t typed sound

@@ -62,11 +62,11 @@ module _ (t : Tables) (typed : Typed t) (s : Sound t) (p i : ℕ) (is : ReadyAt 
         ne-eqb (state (t .state) TASKS) 0 (free .tasks),
       )
 
-  highest : highestReady levels (t .lines) ≡ suc p
+  highest : highestReady (levels (t .state)) (t .lines) ≡ suc p
   unfolding highestReady
   highest =
-      high-one levels (λ r. anyone (t .lines) (readyLine r)) (highestBelow levels (λ r. anyone (t .lines) (readyLine r))) (suc p)
-      (high-is levels (λ r. anyone (t .lines) (readyLine r)))
+      high-one (levels (t .state)) (λ r. anyone (t .lines) (readyLine r)) (highestBelow (levels (t .state)) (λ r. anyone (t .lines) (readyLine r))) (suc p)
+      (high-is (levels (t .state)) (λ r. anyone (t .lines) (readyLine r)))
       record {
         high = ready-level t typed s p i is;
         has = λ l.

@@ -104,7 +104,7 @@ module _ (i : ℕ) (A : ℕ → Type 0) where
 
   -- ---- another task moves: at the back, or at any place into a line that lacks A
   module _ (w : ℕ) (other : w ≢ i) where
-    pub left-place : (ls : List ℕ) → length ls ≡ 2145 → (h j : ℕ) → SamePlace i (line ls j) (line (left h w ls) j)
+    pub left-place : (ls : List ℕ) → length ls ≡ 2673 → (h j : ℕ) → SamePlace i (line ls j) (line (left h w ls) j)
     left-place ls all h j =
         ⊎-elim
         (λ (e : j ≡ h).
@@ -114,7 +114,7 @@ module _ (i : ℕ) (A : ℕ → Type 0) where
         (λ (n : j ≢ h). place-same i _ _ (left-other ls h w j n))
         (same? j h)
 
-    pub entered-place : (ls : List ℕ) → length ls ≡ 2145 → (place : List ℕ → ℕ) (h j : ℕ) → (j ≡ h → (xs : List ℕ) → place xs ≡ length xs)
+    pub entered-place : (ls : List ℕ) → length ls ≡ 2673 → (place : List ℕ → ℕ) (h j : ℕ) → (j ≡ h → (xs : List ℕ) → place xs ≡ length xs)
         → SamePlace i (line ls j) (line (entered place h w ls) j)
     entered-place ls all place h j back =
         ⊎-elim
@@ -128,7 +128,7 @@ module _ (i : ℕ) (A : ℕ → Type 0) where
         (λ (n : j ≢ h). place-same i _ _ (entered-other ls h w place j n))
         (same? j h)
 
-    module _ (x : Queued) (all : length (x .lines) ≡ 2145) (place : List ℕ → ℕ) (k : Task)
+    module _ (x : Queued) (all : length (x .lines) ≡ 2673) (place : List ℕ → ℕ) (k : Task)
         (back : A (homeOf k) → (xs : List ℕ) → place xs ≡ length xs) where
       -- the lines once it has left its own
       abbrev mid : List ℕ

@@ -28,7 +28,7 @@ less : (k : Task) → k .left ≢ 0 → SameRow k (oneLess k)
 less k n = record { mode = refl; object = refl; priority = λ _. refl; endless = λ z. absurd (n z); result = (refl, refl) }
 
 -- ---- the tasks' ticks, in rising number
-module _ (i : ℕ) (A : ℕ → Type 0) (x : Queued) (tasks : length (x .tasks) ≡ 256) (lines : length (x .lines) ≡ 2145)
+module _ (i : ℕ) (A : ℕ → Type 0) (x : Queued) (tasks : length (x .tasks) ≡ 256) (lines : length (x .lines) ≡ 2673)
     (lasts : task (x .tasks) i .left ≢ 1) where
   -- those below n have had theirs, and where i is not among them it has the ticks that it had
   record Ticking (n : ℕ) (y : Queued) : Type 0 where

@@ -24,6 +24,7 @@ use Rattle.rules.specs.declared.Thread.the-variants as Threads
 use Rattle.runs.specs.Run.{Asked, next}
 use Rattle.runs.specs.Turn.{BlockedOn, beforeAt, isPost, ReadyAt, queue, Undisturbed, Yields}
 use Rattle.refusals.proofs.Known.{callFor}
+use Rattle.laws.proofs.Levels.{levels-some, levels-under}
 use Rattle.keeps.proofs.Groups.{OfTasks, Almost}
 use Rattle.keeps.proofs.Members.{bit-same}
 use Rattle.keeps.proofs.TaskRows.{task-same, in-use}
@@ -60,26 +61,26 @@ module _ (t : Tables) (typed : Typed t) (s : Sound t) (p i : ℕ) (is : ReadyAt 
   pub low : i < taskCount
   low = in-use (t .tasks) i (λ e. omega (arith, is .0))
 
-  pub ready-level : p < levels
+  pub ready-level : p < levels (t .state)
   ready-level =
       let row = s .tasks i low in
       rw (← is .1)
       (⊎-elim
-      (λ (e : i ≡ 0). omega (arith, row .0 e .1 .0))
-      (λ (n : i ≢ 0). row-other i _ n row .level (used-at _ (omega (arith, is .0)) (omega (arith, is .0))) .1)
+      (λ (e : i ≡ 0). omega (arith, row .0 e .1 .0, levels-some (t .state)))
+      (λ (n : i ≢ 0). row-other _ i _ n row .level (used-at _ (omega (arith, is .0)) (omega (arith, is .0))) .1)
       (same? i 0))
 
   ready-left : task (t .tasks) i .left ≡ 0
   ready-left =
       let row = s .tasks i low in
-      ⊎-elim (λ (e : i ≡ 0). row .0 e .1 .1 .0 .1 .0) (λ (n : i ≢ 0). row-other i _ n row .whenReady (is .0) .1 .0) (same? i 0)
+      ⊎-elim (λ (e : i ≡ 0). row .0 e .1 .1 .0 .1 .0) (λ (n : i ≢ 0). row-other _ i _ n row .whenReady (is .0) .1 .0) (same? i 0)
 
   ready-home : taskHome (t .tasks) i ≡ readyLine p
   unfolding homeBy
   ready-home = rw (is .0, is .1)
 
   of-queue : OfTasks (readyLine p)
-  of-queue = let h = ready-level in inr (omega arith, omega arith)
+  of-queue = let h = ready-level in inr (omega arith, omega (arith, levels-under (t .state)))
 
   pub in-queue : 0 < count i (queue p t)
   in-queue =
@@ -118,7 +119,7 @@ module _ (t : Tables) (typed : Typed t) (s : Sound t) (p i : ℕ) (is : ReadyAt 
           stays = λ e a. omega (arith, is .0);
           behind =
               not-first (t .tasks) (t .swis) (t .lines) (sound-almost t typed s .standing) i q r
-              (λ e. ⊎-elim (λ l. omega arith) (λ l. let low = ready-level in omega arith) (reached-line q r));
+              (λ e. ⊎-elim (λ l. omega arith) (λ l. let low = ready-level in omega (arith, levels-under (t .state))) (reached-line q r));
           lasts = λ e. omega (arith, ready-left);
         }
 
@@ -188,7 +189,7 @@ module _ (t : Tables) (typed : Typed t) (sound : Sound t) (s i : ℕ) (w : Waite
   object-in =
       let row = sound .tasks i waiter-in in
       let n : i ≢ 0 = λ e. omega (arith, row .0 e .0, w .blocked .0) in
-      rw (← w .blocked .1) (row-other i _ n row .whenAtSemaphore (w .blocked .0) .0 .0)
+      rw (← w .blocked .1) (row-other _ i _ n row .whenAtSemaphore (w .blocked .0) .0 .0)
 
   waiter-home : taskHome (t .tasks) i ≡ semaphoreLine s
   unfolding homeBy

@@ -13,7 +13,7 @@ use Rattle.fold.specs.Lists.{count, without}
 use Rattle.fold.specs.Rule.{Means}
 use Rattle.fold.proofs.Laws.{without-absent}
 use Rattle.rules.specs.Answer.{done}
-use Rattle.rules.specs.Tables.{Typed, taskCount, task}
+use Rattle.rules.specs.Tables.{Typed, taskCount, task, levels}
 use Rattle.rules.specs.Lines.{line, anyone, first, postedLine, queued, taskHome, atBack}
 use Rattle.rules.specs.Waits.{readied, woken}
 use Rattle.rules.specs.Sound.{Sound, taskRule}
@@ -71,7 +71,7 @@ module _ (t : Tables) (typed : Typed t) (sound : Sound t) (q : Asked) (ok : Acce
   pub foremost-not-0 : foremost ≢ 0
   foremost-not-0 = let (low, high) = first-blocked t almost j (w .waiters) someone in waiter-other t almost foremost foremost-in low high
 
-  foremost-row : Means (taskRule foremost (readied (task (t .tasks) foremost) done v))
+  foremost-row : Means (taskRule (levels (t .state)) foremost (readied (task (t .tasks) foremost) done v))
   foremost-row =
       let (low, high) = first-blocked t almost j (w .waiters) someone in
       woken-row t almost foremost foremost-in low high done v (omega arith) (λ e. absurd (omega arith))

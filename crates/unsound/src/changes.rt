@@ -50,7 +50,7 @@ fn set_unit(heap: &mut Heap, u: usize, x: u8) {
 }
 
 fn set_byte(lines: &mut Lines, j: usize, k: usize, x: u8) {
-    if j < 65 {
+    if j < 81 {
         if k < 33 {
             lines[j * 33 + k] = x;
         }

@@ -92,7 +92,7 @@ fn busy_tasks() -> Tasks {
 }
 
 fn busy_lines() -> Lines {
-    let mut lines = [0u8; 2145];
+    let mut lines = [0u8; 2673];
     set_line(&mut lines, READY_LINES, 1, 0, 0, 0);
     set_line(&mut lines, READY_LINES + 5, 1, 1, 0, 0);
     set_line(&mut lines, READY_LINES + 3, 1, 9, 0, 0);
@@ -209,7 +209,7 @@ pub(crate) fn busy() -> Tables {
         swis: busy_swis(),
         clocks: busy_clocks(),
         heap: busy_heap(),
-        state: [0, 1, 1, 7, 1],
+        state: [0, 1, 1, 7, 1, 16],
     }
 }
 
@@ -218,7 +218,7 @@ pub(crate) fn held() -> Tables {
     let mut tasks = [0u32; 256];
     set_task(&mut tasks, 0, task(READY, 0, 0, 0, 0, 0, 0, 0));
     set_task(&mut tasks, 1, task(READY, 5, 0, 0, 0, 0, 0, 0));
-    let mut lines = [0u8; 2145];
+    let mut lines = [0u8; 2673];
     set_line(&mut lines, READY_LINES, 1, 0, 0, 0);
     set_line(&mut lines, READY_LINES + 5, 1, 1, 0, 0);
     Tables {
@@ -230,6 +230,6 @@ pub(crate) fn held() -> Tables {
         swis: [0u32; 96],
         clocks: [0u32; 80],
         heap: [0u8; 256],
-        state: [0, 1, 0, 0, 0],
+        state: [0, 1, 0, 0, 0, 16],
     }
 }

@@ -17,7 +17,7 @@ use Rattle.rules.specs.Replay.{replayText}
 use Rattle.rules.specs.declared.Tables.{Tables}
 use Rattle.text.specs.Put.{fitting, PutIn}
 use Rattle.text.proofs.Puts.{put-none, put-more}
-use Rattle.parts.specs.Part.{Left, turn, start, written}
+use Rattle.parts.specs.Part.{Left, begun, turn, start, written}
 use Rattle.parts.proofs.Bounds.{Bounded, part-bounded}
 use Rattle.parts.proofs.Whole.{parts-are-whole}
 use Rattle.desk.specs.declared.Progress.{Progress}
@@ -127,7 +127,9 @@ module _ (w xs : List ℕ) where
           )
 
       bounded : Bounded (eqb more 0) (length (take (p .held) ps ++ take more (drop from w)) / 20) next
-      bounded = part-bounded (eqb more 0) (take (p .held) ps ++ take more (drop from w)) (p .offset) (p .count) t
+      bounded =
+          let s : List ℕ = take (p .held) ps ++ take more (drop from w) in
+          part-bounded (eqb more 0) s (p .offset) (p .count) (begun (p .count) s t)
 
       some : more ≤ length w - from
       some = omega (arith, more-few ps (p .held) (drop from w) qs more n (v .size) room, length-drop from w)

@@ -37,7 +37,7 @@ fn put_turn(out: &mut [u8], at: usize, text: &Text, len: usize) -> usize
 pub fn replay_log(log: &[u8], out: &mut [u8]) -> usize
     ensures { λ r. ⌜ Printed (now (log .entry)) (now (out .entry)) (now (out .exit)) r ⌝ }
 {
-    let fresh = entries::fresh();
+    let fresh = entries::fresh(rules::FEW_LEVELS).tables;
     let mut tasks = fresh.tasks;
     let mut lines = fresh.lines;
     let mut semaphores = fresh.semaphores;

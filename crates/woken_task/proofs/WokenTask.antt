@@ -73,7 +73,7 @@ module _ (t : Tables) (typed : Typed t) (sound : Sound t) (q : Asked) (ok : Acce
       (λ some.
       let w = semaphore-wakes t q ok number some in
       woke semaphorePost w some
-      (semaphore-row _ (task-stands (t .tasks) (sound .tasks) _) (q .a) (of-post t q (ok .cases) number)
+      (semaphore-row _ (task-stands _ (t .tasks) (sound .tasks) _) (q .a) (of-post t q (ok .cases) number)
       (foremost-home t typed sound q ok (semaphoreLine (q .a)) 0 w)))
       (λ none. unmoved semaphorePost none (counts-value t q ok number none) (counts-tasks t q ok number none))
 
@@ -84,7 +84,7 @@ module _ (t : Tables) (typed : Typed t) (sound : Sound t) (q : Asked) (ok : Acce
       (λ some.
       let w = event-wakes t q ok number some in
       woke eventPost w (rw some)
-      (event-row _ (task-stands (t .tasks) (sound .tasks) _) (q .a) (of-event t q (ok .cases) number)
+      (event-row _ (task-stands _ (t .tasks) (sound .tasks) _) (q .a) (of-event t q (ok .cases) number)
       (foremost-home t typed sound q ok (eventLine (q .a)) (match t q) w)))
 
   -- the first at a mailbox whom a post wakes reads
@@ -97,7 +97,7 @@ module _ (t : Tables) (typed : Typed t) (sound : Sound t) (q : Asked) (ok : Acce
       by-bool (waitsFirst (t .tasks) (t .lines) (q .a) reading)
       (λ some.
       let w = mailbox-wakes t q ok number some in
-      let row = mailbox-row _ (task-stands (t .tasks) (sound .tasks) _) (q .a) (of-mailbox t q (ok .cases) (inl number))
+      let row = mailbox-row _ (task-stands _ (t .tasks) (sound .tasks) _) (q .a) (of-mailbox t q (ok .cases) (inl number))
       (foremost-home t typed sound q ok (mailboxLine (q .a)) (q .b) w) in
       woke mailboxPost w some (reads some, row .1))
       (λ none. inr record { none = stores-value t q ok number none; due = none; rows = stores-rows t q ok number none typed })

@@ -49,6 +49,8 @@ pub const TICK: usize = 3;
 
 pub const CURRENT: usize = 4;
 
+pub const LEVELS: usize = 5;
+
 // ---- tasks
 
 pub fn task_word(tasks: &Tasks, i: usize, f: usize) -> u32

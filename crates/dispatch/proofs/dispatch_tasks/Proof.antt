@@ -11,5 +11,5 @@ dispatch-tasks-spec =
     (λ c κs. search needs)
     (λ c κs. search needs)
     (λ c. search needs)
-    (λ c. let b = c .before .before .before .before .before in task-chosen (b .args .lines .now) (b .args .state .now) (c .before .before .before .task-due .ensures) (c .before .before .if1 .taken) (c .before .front .ensures) (c .number .ensures))
+    (λ c. let b = c .before .before .before .before .before .before in task-chosen (b .args .lines .now) (b .args .state .now) (c .before .before .before .before .task-due .ensures) (c .before .before .before .if1 .taken) (c .before .front .ensures) (c .number .ensures))
     (λ c. let b = c .before .before .before in task-stays (b .args .lines .now) (b .args .state .now) (c .before .task-due .ensures) (c .if1 .left)))

@@ -4,10 +4,10 @@ use Rattle.pace_entries.proofs.main.Statement.{statement}
 use Rattle.pace_entries.proofs.main.Tie as tie
 
 abbrev Inv-loop : tie.InvT-loop
-Inv-loop n calls kept sum₀ left₀ sum left = 0 ≤ left
+Inv-loop n calls levels kept sum₀ left₀ sum left = 0 ≤ left
 
 abbrev μ-loop : tie.MeasureT-loop
-μ-loop n calls kept sum₀ left₀ sum left = left
+μ-loop n calls levels kept sum₀ left₀ sum left = left
 
 pub main-spec : {M : Type 1} → statement M
 main-spec =
@@ -16,6 +16,7 @@ main-spec =
     Inv-loop
     μ-loop
     (λ c. search needs)
+    (λ c κs. search needs)
     (λ c κs. search needs)
     (λ c κs. search needs)
     (λ c κs. search needs)

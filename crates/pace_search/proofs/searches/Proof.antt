@@ -5,10 +5,10 @@ use Rattle.pace_search.proofs.searches.Statement.{statement}
 use Rattle.pace_search.proofs.searches.Tie as tie
 
 abbrev Inv-loop : tie.InvT-loop
-Inv-loop lines₀ search filled n sum₀ p₀ left₀ lines sum p left = 0 ≤ left
+Inv-loop lines₀ state search filled n sum₀ p₀ left₀ lines sum p left = 0 ≤ left
 
 abbrev μ-loop : tie.MeasureT-loop
-μ-loop lines₀ search filled n sum₀ p₀ left₀ lines sum p left = left
+μ-loop lines₀ state search filled n sum₀ p₀ left₀ lines sum p left = left
 
 pub searches-spec : {M : Type 1} → statement M
 searches-spec =

@@ -1,14 +1,15 @@
 use mathlib.Core.Path.{refl}
-use Rattle.rules.specs.Fresh.{fresh}
+use Rattle.rules.specs.Fresh.{freshWith}
 use borrow.Author.Needs.{needs}
 use Rattle.rows.proofs.fresh.Statement.{statement}
 use Rattle.rows.proofs.fresh.Tie as tie
 
 pub fresh-spec : {M : Type 1} → statement M
-unfolding fresh
+unfolding freshWith
 fresh-spec =
     tie.close
     (tie.spec
+    (λ c. search needs)
     (λ c. search needs)
     (λ c. search needs)
     (λ c. search needs)

@@ -22,4 +22,5 @@ is-sound-spec =
     (λ c κs. search needs)
     (λ c κs. search needs)
     (λ c κs. search needs)
-    (λ c. rw (c .before .before .before .before .before .before .before .before .before .before .before .before .before .state-sound .ensures, c .before .before .before .before .before .before .before .before .before .before .before .before .heap-sound .ensures, c .before .before .before .before .before .before .before .before .before .before .before .clocks-sound .ensures, c .before .before .before .before .before .before .before .before .before .before .tasks-sound .ensures, c .before .before .before .before .before .before .before .before .before .lines-sound .ensures, c .before .before .before .before .before .before .before .before .members-sound .ensures, c .before .before .before .before .before .before .before .task-once .ensures, c .before .before .before .before .before .before .swi-once .ensures, c .before .before .before .before .before .semaphores-sound .ensures, c .before .before .before .before .events-sound .ensures, c .before .before .before .mailboxes-sound .ensures, c .before .before .swis-sound .ensures, c .before .active-sound .ensures, c .dispatch-sound .ensures)))
+    (λ c κs. search needs)
+    (λ c. rw (c .before .before .before .before .before .before .before .before .before .before .before .before .before .before .state-sound .ensures, c .before .before .before .before .before .before .before .before .before .before .before .before .before .heap-sound .ensures, c .before .before .before .before .before .before .before .before .before .before .before .before .clocks-sound .ensures, c .before .before .before .before .before .before .before .before .before .before .tasks-sound .ensures, c .before .before .before .before .before .before .before .before .before .before .before .levels .ensures, c .before .before .before .before .before .before .before .before .before .lines-sound .ensures, c .before .before .before .before .before .before .before .before .members-sound .ensures, c .before .before .before .before .before .before .before .task-once .ensures, c .before .before .before .before .before .before .swi-once .ensures, c .before .before .before .before .before .semaphores-sound .ensures, c .before .before .before .before .events-sound .ensures, c .before .before .before .mailboxes-sound .ensures, c .before .before .swis-sound .ensures, c .before .active-sound .ensures, c .dispatch-sound .ensures)))

@@ -11,10 +11,10 @@ use Rattle.standing.proofs.lines_sound.Statement.{statement}
 use Rattle.standing.proofs.lines_sound.Tie as tie
 
 abbrev Inv-loop : tie.InvT-loop
-Inv-loop lines ok₀ j₀ ok j = (j ≤ 65) × (ok ≡ allBelow j (λ i. holds ((getD lines (i * 33) 0 under 33) and every (behind 32 lines (i * 33)) (λ x. x is 0))))
+Inv-loop lines ok₀ j₀ ok j = (j ≤ 81) × (ok ≡ allBelow j (λ i. holds ((getD lines (i * 33) 0 under 33) and every (behind 32 lines (i * 33)) (λ x. x is 0))))
 
 abbrev μ-loop : tie.MeasureT-loop
-μ-loop lines ok₀ j₀ ok j = 65 - j
+μ-loop lines ok₀ j₀ ok j = 81 - j
 
 pub lines-sound-spec : {M : Type 1} → statement M
 lines-sound-spec =
@@ -27,4 +27,4 @@ lines-sound-spec =
     (λ c. search needs)
     (λ c. search needs)
     (λ c. (search needs, all-step _ _ (c .before .before .loop .inv .1) (in-range _ _ (c .before .loop-test .taken) (c .line-sound .ensures))))
-    (λ c. all-end _ (c .before .loop .j) 65 (c .before .loop .inv .0) (c .loop-test .left) (c .before .loop .inv .1)))
+    (λ c. all-end _ (c .before .loop .j) 81 (c .before .loop .inv .0) (c .loop-test .left) (c .before .loop .inv .1)))

@@ -11,10 +11,10 @@ use Rattle.standing.proofs.members_sound.Statement.{statement}
 use Rattle.standing.proofs.members_sound.Tie as tie
 
 abbrev Inv-loop : tie.InvT-loop
-Inv-loop tasks swis lines ok₀ j₀ ok j = (j ≤ 65) × (ok ≡ allBelow j (λ i. holds (i isnt 48 gives every (line lines i) (λ x. homeIn tasks swis i x is i))))
+Inv-loop tasks swis lines ok₀ j₀ ok j = (j ≤ 81) × (ok ≡ allBelow j (λ i. holds (i isnt 48 gives every (line lines i) (λ x. homeIn tasks swis i x is i))))
 
 abbrev μ-loop : tie.MeasureT-loop
-μ-loop tasks swis lines ok₀ j₀ ok j = 65 - j
+μ-loop tasks swis lines ok₀ j₀ ok j = 81 - j
 
 pub members-sound-spec : {M : Type 1} → statement M
 members-sound-spec =
@@ -27,4 +27,4 @@ members-sound-spec =
     (λ c. search needs)
     (λ c. search needs)
     (λ c. (search needs, all-step _ _ (c .before .before .loop .inv .1) (rw (c .at-home .ensures, Bool·not-not))))
-    (λ c. all-end _ (c .before .loop .j) 65 (c .before .loop .inv .0) (c .loop-test .left) (c .before .loop .inv .1)))
+    (λ c. all-end _ (c .before .loop .j) 81 (c .before .loop .inv .0) (c .loop-test .left) (c .before .loop .inv .1)))

@@ -10,7 +10,7 @@ use Rattle.standing.proofs.task_once.Statement.{statement}
 use Rattle.standing.proofs.task_once.Tie as tie
 
 abbrev Inv-loop : tie.InvT-loop
-Inv-loop tasks lines ok₀ i₀ ok i = (i ≤ 32) × (ok ≡ allBelow i (λ k. holds (taskHome tasks k under 65 gives count k (line lines (taskHome tasks k)) is 1)))
+Inv-loop tasks lines ok₀ i₀ ok i = (i ≤ 32) × (ok ≡ allBelow i (λ k. holds (taskHome tasks k under 81 gives count k (line lines (taskHome tasks k)) is 1)))
 
 abbrev μ-loop : tie.MeasureT-loop
 μ-loop tasks lines ok₀ i₀ ok i = 32 - i

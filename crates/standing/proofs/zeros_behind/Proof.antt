@@ -7,7 +7,7 @@ use Rattle.standing.proofs.zeros_behind.Statement.{statement}
 use Rattle.standing.proofs.zeros_behind.Tie as tie
 
 abbrev Inv-loop : tie.InvT-loop
-Inv-loop lines j at k₀ ok₀ k ok = (at ≡ j * 33) × (j < 65) × Zeros 32 lines (j * 33) k ok
+Inv-loop lines j at k₀ ok₀ k ok = (at ≡ j * 33) × (j < 81) × Zeros 32 lines (j * 33) k ok
 
 abbrev μ-loop : tie.MeasureT-loop
 μ-loop lines j at k₀ ok₀ k ok = 32 - k

@@ -9,6 +9,7 @@ use borrow.Author.Tests.{not-true, not-false}
 use Rattle.fold.specs.Lists.{bit}
 use Rattle.rules.specs.Tables.{tables}
 use Rattle.kernel.specs.Safe.{Safe}
+use Rattle.entries.proofs.Starts.{few-fresh}
 use Rattle.whole.proofs.Parts.{Sofar, sofar-none, sofar-next, sofar-less, sofar-size, sofar-all, further}
 use Rattle.whole.proofs.replay_log.Statement.{statement}
 use Rattle.whole.proofs.replay_log.Tie as tie
@@ -39,7 +40,7 @@ abbrev at-loop : Done → tie.At-loop Inv-loop μ-loop
 at-loop c = at-part c .before .before .before .before
 
 abbrev at-start : tie.At-loop Inv-loop μ-loop → tie.Start Inv-loop μ-loop
-at-start c = c .before .before .before .before .before .before .before .before .before .before .before .before .before .before
+at-start c = c .before .before .before .before .before .before .before .before .before .before .before .before .before .before .before
 
 -- a log in memory is short enough
 short : (s : tie.Start Inv-loop μ-loop) → length (s .args .log .now) < 2 ^ 64
@@ -51,9 +52,9 @@ not-ended c = not-true _ (at-part c .before .before .if1 .taken)
 -- ---- the needs
 loop-holds : tie.Need-loop-holds Inv-loop μ-loop
 loop-holds c =
-    let f : tie.After-fresh Inv-loop μ-loop = c .before .before .before .before .before .before .before .before .before .before in
+    let f : tie.After-fresh Inv-loop μ-loop = c .before .before .before .before .before .before .before .before .before .before .before in
     let s : tie.Start Inv-loop μ-loop = f .before .before .before in
-    (sofar-none (s .args .log .now) (s .args .out .now) _ _ (f .fresh .ensures .0) refl (c .begun .ensures) (short s), f .fresh .ensures .1)
+    (sofar-none (s .args .log .now) (s .args .out .now) _ _ (few-fresh (f .fresh .ensures .0)) refl (c .begun .ensures) (short s), f .fresh .ensures .1)
 
 replay-part-requires : tie.Need-replay-part-requires Inv-loop μ-loop
 replay-part-requires c κs =

@@ -1,5 +1,4 @@
-use native.Mathlib.Omega.{arith}
-use Rattle.calllog.proofs.Records.{step-is}
+-- `step_at` meets its contract: a step with the version of the log's first record
 use borrow.Author.Needs.{needs}
 use Rattle.calllog.proofs.reader.step_at.Statement.{statement}
 use Rattle.calllog.proofs.reader.step_at.Tie as tie
@@ -10,4 +9,4 @@ step-at-spec =
     (tie.spec
     (λ c κs. search needs)
     (λ c κs. search needs)
-    (λ c. let b = c .before .before .before in step-is (b .args .log .now) (b .args .at) (omega arith) (omega arith) (c .before .read-at .ensures) (c .move-to .ensures)))
+    (λ c. rw (← (c .before .version-of .ensures)) (c .step-in .ensures)))

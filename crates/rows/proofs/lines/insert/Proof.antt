@@ -10,7 +10,7 @@ use Rattle.rows.proofs.lines.insert.Statement.{statement}
 use Rattle.rows.proofs.lines.insert.Tie as tie
 
 abbrev Inv-loop : tie.InvT-loop
-Inv-loop lines₀ j place x at n end carry₀ k₀ lines carry k = (end ≡ length (listed 32 lines₀ (j * 33))) × (j < 65) × (end < 32) × Shifted 32 lines₀ (j * 33) place x carry k lines
+Inv-loop lines₀ j place x at n end carry₀ k₀ lines carry k = (end ≡ length (listed 32 lines₀ (j * 33))) × (j < 81) × (end < 32) × Shifted 32 lines₀ (j * 33) place x carry k lines
 
 abbrev μ-loop : tie.MeasureT-loop
 μ-loop lines₀ j place x at n end carry₀ k₀ lines carry k = end - k

@@ -12,7 +12,7 @@ use Rattle.rows.proofs.lines.leave.Statement.{statement}
 use Rattle.rows.proofs.lines.leave.Tie as tie
 
 abbrev Inv-loop : tie.InvT-loop
-Inv-loop lines₀ j x at n m₀ k₀ lines m k = (n ≡ length (listed 32 lines₀ (j * 33))) × (j < 65) × (n ≤ 32) × Kept 32 lines₀ (j * 33) x k m lines
+Inv-loop lines₀ j x at n m₀ k₀ lines m k = (n ≡ length (listed 32 lines₀ (j * 33))) × (j < 81) × (n ≤ 32) × Kept 32 lines₀ (j * 33) x k m lines
 
 abbrev μ-loop : tie.MeasureT-loop
 μ-loop lines₀ j x at n m₀ k₀ lines m k = n - k

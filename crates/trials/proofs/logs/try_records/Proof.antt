@@ -4,11 +4,11 @@ use Rattle.trials.proofs.logs.try_records.Statement.{statement}
 use Rattle.trials.proofs.logs.try_records.Tie as tie
 
 abbrev Inv-loop : tie.InvT-loop
-Inv-loop log t₀ tasks₀ lines₀ semaphores₀ events₀ mailboxes₀ swis₀ clocks₀ heap₀ state₀ at₀ n₀ left₀ t tasks lines semaphores events mailboxes swis clocks heap state at n left =
+Inv-loop log levels t₀ tasks₀ lines₀ semaphores₀ events₀ mailboxes₀ swis₀ clocks₀ heap₀ state₀ at₀ n₀ left₀ t tasks lines semaphores events mailboxes swis clocks heap state at n left =
     Unit {0}
 
 abbrev μ-loop : tie.MeasureT-loop
-μ-loop log t₀ tasks₀ lines₀ semaphores₀ events₀ mailboxes₀ swis₀ clocks₀ heap₀ state₀ at₀ n₀ left₀ t tasks lines semaphores events mailboxes swis clocks heap state at n left =
+μ-loop log levels t₀ tasks₀ lines₀ semaphores₀ events₀ mailboxes₀ swis₀ clocks₀ heap₀ state₀ at₀ n₀ left₀ t tasks lines semaphores events mailboxes swis clocks heap state at n left =
     left
 
 pub try-records-spec : {M : Type 1} → statement M
@@ -17,6 +17,8 @@ try-records-spec =
     (tie.spec
     Inv-loop
     μ-loop
+    (λ c κs. tt)
+    (λ c κs. tt)
     (λ c κs. tt)
     (λ c. tt)
     (λ c κs. tt)

@@ -1,0 +1,132 @@
+-- No. 14, both sides of each line that it draws: with 16 levels and with 32. Each case is computed from the definitions.
+use Prim.Native.Nat.{ℕ}
+use mathlib.Core.Path.{_≡_, refl}
+use mathlib.Core.Bool.{true, false}
+use mathlib.Core.List.{List, [], _∷_}
+use Rattle.rules.specs.Answer.{answer}
+use Rattle.rules.specs.Fresh.{fresh, freshWith, madeFresh}
+use Rattle.rules.specs.Sound.{sound}
+use Rattle.rules.specs.Step.{stepOf}
+use Rattle.rules.proofs.Computed.{computed}
+use Rattle.rules.proofs.Runs.{Line, says, _runs_, AllRun, _⇒_, said, saw, T, S, I, createTask, setPriority, yield, end, createSwi, postSwi, createSemaphore, pend, post}
+use Rattle.rules.proofs.Faster.{faster, quickly, fresh-sound, fresh-for-sound}
+
+-- "With 32, priorities run to 31": (i) for 32 levels: priority 31 is made, 32 is code 4; so is 16, which with 16 levels is 4
+abbrev pub case-i-32 : List Line
+case-i-32 =
+    createTask 16 ⇒ said 0 0 1 (T 1)
+    ∷ createTask 31 ⇒ said 0 0 2 (T 2)
+    ∷ createTask 32 ⇒ said 4 0 0 (T 2)
+    ∷ createTask 4294967295 ⇒ said 0 0 3 (T 2)
+    ∷ createTask 0 ⇒ said 4 0 0 (T 2)
+    ∷ []
+
+-- the same of call 02
+abbrev pub set-32 : List Line
+set-32 =
+    createTask 15 ⇒ said 0 0 1 (T 1)
+    ∷ setPriority 1 16 ⇒ said 0 0 15 (T 1)
+    ∷ setPriority 1 31 ⇒ said 0 0 16 (T 1)
+    ∷ setPriority 1 32 ⇒ said 4 0 0 (T 1)
+    ∷ []
+
+abbrev pub set-16 : List Line
+set-16 =
+    createTask 15 ⇒ said 0 0 1 (T 1)
+    ∷ setPriority 1 16 ⇒ said 4 0 0 (T 1)
+    ∷ setPriority 1 31 ⇒ said 4 0 0 (T 1)
+    ∷ []
+
+-- Swis keep 16 levels: priority 15 is made, 16 and 31 are code 4
+abbrev pub swis-32 : List Line
+swis-32 =
+    createSwi 15 0 ⇒ said 0 0 0 (T 0)
+    ∷ createSwi 16 0 ⇒ said 4 0 0 (T 0)
+    ∷ createSwi 31 0 ⇒ said 4 0 0 (T 0)
+    ∷ []
+
+-- dispatch looks at every queue: 31 before 16, 16 before 15, and in its queue by turns
+abbrev pub dispatch-32 : List Line
+dispatch-32 =
+    createTask 15 ⇒ said 0 0 1 (T 1)
+    ∷ createTask 16 ⇒ said 0 0 2 (T 2)
+    ∷ createTask 31 ⇒ said 0 0 3 (T 3)
+    ∷ createTask 16 ⇒ said 0 0 4 (T 3)
+    ∷ end ⇒ said 0 0 0 (T 2)
+    ∷ yield ⇒ said 0 0 0 (T 4)
+    ∷ end ⇒ said 0 0 0 (T 2)
+    ∷ end ⇒ said 0 0 0 (T 1)
+    ∷ []
+
+-- a woken task of priority 31 runs before one of 15, and a Swi of priority 0 before both
+abbrev pub wakes-32 : List Line
+wakes-32 =
+    createSemaphore 0 0 ⇒ said 0 0 0 (T 0)
+    ∷ createTask 31 ⇒ said 0 0 1 (T 1)
+    ∷ pend 0 4294967295 ⇒ said 0 2 0 (T 0)
+    ∷ createTask 15 ⇒ said 0 0 2 (T 2)
+    ∷ post 0 ⇒ said 0 0 1 (T 1)
+    ∷ createSwi 0 0 ⇒ said 0 0 0 (T 1)
+    ∷ postSwi 0 ⇒ said 0 0 0 (S 0)
+    ∷ []
+
+-- a call on tables of neither number of levels
+abbrev pub refused-10 : List Line
+refused-10 =
+    createTask 5 ⇒ said 10 0 0 (T 0)
+    ∷ []
+
+pub record Levels : Type 0 where
+  pub i-32 : freshWith 32 runs case-i-32
+  pub set : freshWith 32 runs set-32
+  pub dispatch : freshWith 32 runs dispatch-32
+  pub wakes : freshWith 32 runs wakes-32
+  pub swis : freshWith 32 runs swis-32
+  pub set-with-16 : fresh runs set-16
+  -- "set when they are made fresh"; "fresh tables asked for with other levels are 4 and come with 16"
+  pub made-16 : madeFresh 16 ≡ stepOf (freshWith 16) (answer 0 0 0) (T 0)
+  pub made-32 : madeFresh 32 ≡ stepOf (freshWith 32) (answer 0 0 0) (T 0)
+  pub made-17 : madeFresh 17 ≡ stepOf (freshWith 16) (answer 4 0 0) (T 0)
+  pub made-0 : madeFresh 0 ≡ stepOf (freshWith 16) (answer 4 0 0) (T 0)
+  pub made-31 : madeFresh 31 ≡ stepOf (freshWith 16) (answer 4 0 0) (T 0)
+  pub made-most : madeFresh 4294967295 ≡ stepOf (freshWith 16) (answer 4 0 0) (T 0)
+  -- "The number of levels, 16 or 32": tables with another are not sound
+  pub sound-16 : sound (freshWith 16) ≡ true
+  pub sound-32 : sound (freshWith 32) ≡ true
+  pub not-17 : sound (freshWith 17) ≡ false
+  pub not-0 : sound (freshWith 0) ≡ false
+  pub code-10 : freshWith 17 runs refused-10
+
+abbrev with-32 : List (List Line)
+with-32 = case-i-32 ∷ set-32 ∷ dispatch-32 ∷ wakes-32 ∷ swis-32 ∷ []
+
+all-run : AllRun (freshWith 32) with-32
+unfolding quickly
+all-run = faster (freshWith 32) with-32 (fresh-for-sound 2) refl
+
+set-alone : AllRun fresh (set-16 ∷ [])
+unfolding quickly
+set-alone = faster fresh (set-16 ∷ []) fresh-sound refl
+
+pub levels : Levels
+unfolding computed says
+levels =
+    record {
+      i-32 = all-run .0;
+      set = all-run .1 .0;
+      dispatch = all-run .1 .1 .0;
+      wakes = all-run .1 .1 .1 .0;
+      swis = all-run .1 .1 .1 .1 .0;
+      set-with-16 = set-alone .0;
+      made-16 = refl;
+      made-32 = refl;
+      made-17 = refl;
+      made-0 = refl;
+      made-31 = refl;
+      made-most = refl;
+      sound-16 = fresh-sound;
+      sound-32 = fresh-for-sound 2;
+      not-17 = refl;
+      not-0 = refl;
+      code-10 = record { so = refl };
+    }

@@ -1,0 +1,159 @@
+-- Tables of 16 levels are sound with 32 too: what a log of version 2 starts from.
+use Prim.Native.Nat.{ℕ, suc, _-_, _<_, _≤_}
+use mathlib.Core.Path.{_≡_, refl, sym, ap, _∙_}
+use mathlib.Core.Logic.{_≢_, _⊎_, inl, inr, ⊎-elim}
+use mathlib.Core.Bool.{Bool, true, false, not, true≢false}
+use mathlib.Core.List.{List}
+use native.Mathlib.Omega.{arith}
+use lib.Dec.{eqb, ltb}
+use lib.ListN.{length, getD, length-set}
+use lib.Seq.{getD-set-same, getD-set-other}
+use borrow.Author.Tests.{ltb-true, le-ltb, lt-ltb}
+use Rattle.fold.specs.Find.{highestBelow}
+use Rattle.fold.specs.Rule.{Means}
+use Rattle.fold.proofs.Laws.{same?, lt-or-le, count-first}
+use Rattle.fold.proofs.Finds.{IsHighest, high-is, high-one}
+use Rattle.rules.specs.Tables.{Typed, raised, taskCount, mostLevels, levels, task, state, withState, DEPTH, SWIS, TASKS, CURRENT, LEVELS}
+use Rattle.rules.specs.Lines.{anyone, line, first, readyLine, taskHome}
+use Rattle.rules.specs.Dispatch.{highestReady, front, swiDue, taskDue}
+use Rattle.rules.specs.Sound.{Sound, tasksRule, taskRule, dispatchRule}
+use Rattle.rules.specs.declared.Tables.{Tables}
+use Rattle.keeps.proofs.Groups.{Almost, OfTasks}
+use Rattle.keeps.proofs.Standing.{sound-almost}
+use Rattle.keeps.proofs.Members.{bit-eq}
+use Rattle.laws.proofs.Levels.{levels-under, levels-some}
+use Rattle.keeps.proofs.TaskRows.{task-stands, ready-row, in-use}
+use Rattle.keeps.proofs.Waiting.{sound-ranges, still-ready, row-other, other-row, used-at}
+
+abbrev raisedState : List ℕ → List ℕ
+raisedState st = withState st LEVELS mostLevels
+
+pub raised-typed : (t : Tables) → Typed t → Typed (raised t)
+raised-typed t typed =
+    record {
+      tasks = typed .tasks;
+      lines = typed .lines;
+      semaphores = typed .semaphores;
+      events = typed .events;
+      mailboxes = typed .mailboxes;
+      swis = typed .swis;
+      clocks = typed .clocks;
+      heap = typed .heap;
+      state = length-set (t .state) LEVELS mostLevels ∙ typed .state;
+    }
+
+module _ (t : Tables) (typed : Typed t) (s : Sound t) where
+  abbrev st : List ℕ
+  st = t .state
+
+  there : state (raisedState st) LEVELS ≡ 32
+  there = getD-set-same st LEVELS 32 0 (omega (arith, typed .state))
+
+  all : levels (raisedState st) ≡ 32
+  unfolding levels
+  all = rw there
+
+  same : (f : ℕ) → f ≢ LEVELS → state (raisedState st) f ≡ state st f
+  same f n = getD-set-other st LEVELS f 32 0 n
+
+  -- a priority below 16 is below 32
+  row : (i : ℕ) → Means (taskRule (levels st) i (task (t .tasks) i)) → Means (taskRule (levels (raisedState st)) i (task (t .tasks) i))
+  row i m =
+      ⊎-elim
+      (λ (e : i ≡ 0). (λ z. m .0 z, λ n. absurd (n e)))
+      (λ (n : i ≢ 0).
+      let r = row-other st i (task (t .tasks) i) n m in
+      other-row (raisedState st) i (task (t .tasks) i) n
+      (record {
+        range = r .range;
+        outcome = r .outcome;
+        unmet = r .unmet;
+        whenFree = r .whenFree;
+        whenReady = r .whenReady;
+        whenSleeping = r .whenSleeping;
+        whenAtSemaphore = r .whenAtSemaphore;
+        whenAtEvent = r .whenAtEvent;
+        whenReading = r .whenReading;
+        whenWriting = r .whenWriting;
+        whenTerminated = r .whenTerminated;
+        whenInactive = r .whenInactive;
+        level = λ u. let (low, high) = r .level u in (low, omega (arith, all, levels-under st));
+      }))
+      (same? i 0)
+
+  -- nobody stands in a queue past the levels
+  nobody : (p : ℕ) → levels st ≤ p → p < mostLevels → anyone (t .lines) (readyLine p) ≡ false
+  nobody p past low =
+      ⊎-elim
+      (λ (h : 0 < length (line (t .lines) (readyLine p))).
+      let a = sound-almost t typed s in
+      let x : ℕ = getD (line (t .lines) (readyLine p)) 0 0 in
+      let c = count-first (line (t .lines) (readyLine p)) h in
+      let home = bit-eq (taskHome (t .tasks) x) (readyLine p) (rw (a .standing .tasks x (readyLine p) (inr (omega arith, omega arith))) at c) in
+      let (ready, level) = ready-row (task (t .tasks) x) (task-stands st (t .tasks) (s .tasks) x) p low home in
+      absurd (below x p past ready level))
+      (λ (h : length (line (t .lines) (readyLine p)) ≤ 0). le-ltb 0 _ h)
+      (lt-or-le 0 (length (line (t .lines) (readyLine p))))
+    where
+      below : (x p : ℕ) → levels st ≤ p → task (t .tasks) x .mode ≡ 1 → task (t .tasks) x .priority ≡ p → ⊥
+      below x p past ready level =
+          let lt : x < taskCount = in-use (t .tasks) x (λ z. omega arith) in
+          ⊎-elim
+          (λ (e : x ≡ 0). omega (arith, s .tasks x lt .0 e .1 .0, levels-some st))
+          (λ (n : x ≢ 0). omega (arith, row-other st x _ n (s .tasks x lt) .level (used-at _ (omega arith) (omega arith)) .1))
+          (same? x 0)
+
+  highest : highestReady (levels (raisedState st)) (t .lines) ≡ highestReady (levels st) (t .lines)
+  unfolding highestReady
+  highest =
+      let f : ℕ → Bool = λ p. anyone (t .lines) (readyLine p) in
+      let h = high-is (levels st) f in
+      high-one (levels (raisedState st)) f (highestBelow (levels (raisedState st)) f) (highestBelow (levels st) f)
+      (high-is (levels (raisedState st)) f)
+      record {
+        high = omega (arith, h .high, all, levels-under st);
+        has = h .has;
+        after = λ j low high.
+            ⊎-elim (λ (l : j < levels st). h .after j low l) (λ (l : levels st ≤ j). nobody j l (omega (arith, all))) (lt-or-le j (levels st));
+      }
+
+  dispatches : Means (dispatchRule (t .swis) (t .lines) (raisedState st))
+  unfolding swiDue taskDue front
+  dispatches =
+      let d = same DEPTH (λ e. omega arith) in
+      let w = same SWIS (λ e. omega arith) in
+      let k = same TASKS (λ e. omega arith) in
+      let c = same CURRENT (λ e. omega arith) in
+      rw (d, w, k, c, highest) (s .dispatch)
+
+  pub raised-sound : Sound (raised t)
+  raised-sound =
+      let ranges = sound-ranges t s in
+      record {
+        state = (
+          omega (arith, ranges .depth, same DEPTH (λ e. omega arith)),
+          (
+            omega (arith, ranges .swis, same SWIS (λ e. omega arith)),
+            (
+              omega (arith, ranges .tasks, same TASKS (λ e. omega arith)),
+              (
+                omega (arith, ranges .current, same CURRENT (λ e. omega arith)),
+                (rw (same CURRENT (λ e. omega arith)) (still-ready t s), inr there),
+              ),
+            ),
+          ),
+        );
+        heap = s .heap;
+        clocks = s .clocks;
+        tasks = λ i h. row i (s .tasks i h);
+        lines = s .lines;
+        members = s .members;
+        taskOnce = s .taskOnce;
+        swiOnce = s .swiOnce;
+        semaphores = s .semaphores;
+        events = s .events;
+        mailboxes = s .mailboxes;
+        swis = s .swis;
+        active = s .active;
+        dispatch = dispatches;
+      }
