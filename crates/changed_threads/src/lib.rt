@@ -32,7 +32,8 @@ pub fn put_state(out: &mut Text, at: usize, state: &State) -> usize
     let q = put(out, p, state[1]);
     let r = put(out, q, state[2]);
     let s = put(out, r, state[3]);
-    put(out, s, state[4])
+    let t = put(out, s, state[4]);
+    put(out, t, state[5])
 }
 
 // ---- tasks

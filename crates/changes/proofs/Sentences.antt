@@ -59,6 +59,8 @@ pub record Sentences : Type 0 where
   -- "Each number .. is followed by a space, and each part but the last by `; `."
   pub spaces : columns (10 ∷ 7 ∷ []) ≡ 49 ∷ 48 ∷ 32 ∷ 55 ∷ 32 ∷ []
   pub bars : barred ([] ∷ (5 ∷ []) ∷ []) ≡ 59 ∷ 32 ∷ 59 ∷ 32 ∷ 53 ∷ 32 ∷ []
+  -- "the state after it: depth, Swis on, tasks on, tick, current task, levels"
+  pub state : stateNow (2 ∷ 0 ∷ 1 ∷ 7 ∷ 3 ∷ 32 ∷ []) ≡ 2 ∷ 0 ∷ 1 ∷ 7 ∷ 3 ∷ 32 ∷ []
   -- "Ticks left .. get fewer at a tick is no change."
   pub fewer : changedTasks (task1 (2 ∷ 5 ∷ 0 ∷ 3 ∷ zeros 4)) (task1 (2 ∷ 5 ∷ 0 ∷ 2 ∷ zeros 4)) ≡ []
   -- "A task whose mode was 2 to 6 and is now 1 was readied: with outcome 1 its limit ran out."
@@ -93,7 +95,7 @@ pub record Sentences : Type 0 where
   pub heap : changedHeap [] (1 ∷ 2 ∷ 0 ∷ 1 ∷ []) ≡ 2 ∷ 3 ∷ []
   -- record 3 of the sample, its parts 2 to 13
   pub third : parts pended sample (step sample 0x22 0 forever 0 0 .tables)
-      ≡ (0 ∷ 1 ∷ 1 ∷ 0 ∷ 0 ∷ [])
+      ≡ (0 ∷ 1 ∷ 1 ∷ 0 ∷ 0 ∷ 16 ∷ [])
       ∷ (1 ∷ 3 ∷ 5 ∷ 0 ∷ 0 ∷ 0 ∷ 0 ∷ [])
       ∷ []
       ∷ []
@@ -113,6 +115,7 @@ sentences =
     record {
       spaces = refl;
       bars = refl;
+      state = refl;
       fewer = refl;
       expired = refl;
       ticks = refl;

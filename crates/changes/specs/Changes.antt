@@ -8,7 +8,7 @@ use Rattle.fold.specs.Lists.{bit}
 use Rattle.fold.specs.Find.{allBelow}
 use Rattle.rules.specs.Rows.{field}
 use Rattle.rules.specs.Tables.{taskCount, swiCount, swiWidth, semaphoreCount, semaphoreWidth, eventCount, eventWidth, mailboxCount, mailboxWidth, clockCount, clockWidth, heapUnits}
-use Rattle.rules.specs.Tables.{task, swi, mailbox, messages, clock, state, TRIGGER, POSTED, CAPACITY, DEPTH, SWIS, TASKS, TICK, CURRENT}
+use Rattle.rules.specs.Tables.{task, swi, mailbox, messages, clock, state, TRIGGER, POSTED, CAPACITY, DEPTH, SWIS, TASKS, TICK, CURRENT, LEVELS}
 use Rattle.rules.specs.Lines.{line, semaphoreLine, eventLine, mailboxLine, postedLine, activeLine}
 use Rattle.rules.specs.Swis.{top, oneDown, cleared}
 use Rattle.rules.specs.Tick.{aged}
@@ -17,9 +17,9 @@ use Rattle.rules.specs.declared.Task.{Task}
 use Rattle.changes.specs.Numbers.{eachBelow, countBelow, sameList, told}
 use Rattle.changes.specs.declared.Made.{Made}
 
--- ---- 2 "the state after it: depth, Swis on, tasks on, tick, current task"
+-- ---- 2 "the state after it: depth, Swis on, tasks on, tick, current task, levels"
 unfoldable pub stateNow : List ℕ → List ℕ
-stateNow st = state st DEPTH ∷ state st SWIS ∷ state st TASKS ∷ state st TICK ∷ state st CURRENT ∷ []
+stateNow st = state st DEPTH ∷ state st SWIS ∷ state st TASKS ∷ state st TICK ∷ state st CURRENT ∷ state st LEVELS ∷ []
 
 -- ---- 3 "each task that changed: number, mode, priority, object, ticks left, outcome, value"
 -- "A task changed if its mode, priority, object, outcome or value did."

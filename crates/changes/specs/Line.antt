@@ -66,10 +66,10 @@ pub record Typical (ts ls ss es bs ws cs : List ℕ) : Type 0 where
   pub swis : Under wordEnd ws
   pub clocks : Under wordEnd cs
 
--- call and state 359; 32 tasks of 70; 16 posts of 29, a start 21, Swis in 17 lines of 128; 16 semaphores of 169, 8 events of 158, 8 mailboxes of 239;
--- 16 Swis of 70, 16 clocks of 59; the heap 42; bars and line feed 25: 13,271 bytes
+-- call and state 380; 32 tasks of 70; 16 posts of 29, a start 21, Swis in 17 lines of 128; 16 semaphores of 169, 8 events of 158, 8 mailboxes of 239;
+-- 16 Swis of 70, 16 clocks of 59; the heap 42; bars and line feed 25: 13,292 bytes
 abbrev pub lineMost : ℕ
-lineMost = 359 + 32 * 70 + 16 * 29 + 21 + 17 * 128 + 16 * 169 + 8 * 158 + 8 * 239 + 16 * 70 + 16 * 59 + 42 + 25
+lineMost = 380 + 32 * 70 + 16 * 29 + 21 + 17 * 128 + 16 * 169 + 8 * 158 + 8 * 239 + 16 * 70 + 16 * 59 + 42 + 25
 
 -- a line at a place of text xs gives ys and ends at r, and no line is longer than that
 pub record Lined (xs : List ℕ) (at : ℕ) (line : List ℕ) (ys : List ℕ) (r : ℕ) : Type 0 where

@@ -18,9 +18,9 @@ use text::Text;
 // A part of a log: the bytes that waited, and those that came.
 type Part = [u8; 2560];
 
-// No line has more than 13,271 bytes, whatever the tables are (`trace_line::put_trace` promises it), so that a whole one fits behind a text that is no
+// No line has more than 13,292 bytes, whatever the tables are (`trace_line::put_trace` promises it), so that a whole one fits behind a text that is no
 // longer than this.
-const FULL: usize = 16384 - 13271;
+const FULL: usize = 16384 - 13292;
 
 // ---- the line of a record
 

@@ -137,9 +137,9 @@ unfolding waiting
 waiting-most ls j h = small _ (line ls j) 128 (omega (arith, line-le ls j)) (line-most ls j h)
 
 -- ---- the parts
-state-most : (st : List ℕ) → length (columns (stateNow st)) ≤ 105
+state-most : (st : List ℕ) → length (columns (stateNow st)) ≤ 126
 unfolding stateNow
-state-most st = long _ _ 84 (long _ _ 63 (long _ _ 42 (long _ _ 21 (long _ [] 0 (omega (arith, columns-nil))))))
+state-most st = long _ _ 105 (long _ _ 84 (long _ _ 63 (long _ _ 42 (long _ _ 21 (long _ [] 0 (omega (arith, columns-nil)))))))
 
 task-under : (ts : List ℕ) (i f : ℕ) → Under 4294967296 ts → field 8 32 ts i f < 4294967296
 task-under ts i f h = field-under 8 32 ts i f h

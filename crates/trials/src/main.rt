@@ -1,5 +1,5 @@
 // Trials of the call core: the log of each kind, each call by value and in place. The calls and their answers were worked out by hand from
-// document 01 (reference/threads.c, pends.c and machine.c).
+// document 01 (reference/threads.c, pends.c, machine.c and levels.c).
 mod logs;
 mod print;
 
@@ -14,4 +14,5 @@ fn main() {
     try_log(b"clocks.log");
     try_log(b"heap.log");
     try_log(b"switches.log");
+    try_log(b"levels.log");
 }
