@@ -84,8 +84,7 @@ pub made-fresh-safe : (n : ℕ) → Typed (madeFresh n .tables) × Sound (madeFr
 unfolding madeFresh
 made-fresh-safe n =
     chosen (λ (x : Step). Typed (x .tables) × Sound (x .tables)) (isLevels n) _ _
-    (λ e.
-    (
+    (λ e. (
       fresh-with-typed n,
       ⊎-elim
           (λ (few : n ≡ fewLevels). rw few fresh-is-sound)

@@ -2,6 +2,7 @@ pub mod BySteps
 pub mod Stated
 pub mod Story
 pub mod Example
+pub mod Above
 pub mod ByPriority
 pub mod StrongerTurns
 pub mod StrongerAnswers

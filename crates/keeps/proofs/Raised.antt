@@ -25,9 +25,43 @@ use Rattle.laws.proofs.Levels.{levels-under, levels-some}
 use Rattle.keeps.proofs.TaskRows.{task-stands, ready-row, in-use}
 use Rattle.keeps.proofs.Waiting.{sound-ranges, still-ready, row-other, other-row, used-at}
 
-abbrev raisedState : List ℕ → List ℕ
+abbrev pub raisedState : List ℕ → List ℕ
 raisedState st = withState st LEVELS mostLevels
 
+-- ---- a state that is raised: it has 32 levels, and every other word stays
+module _ (st : List ℕ) where
+  there : length st ≡ 6 → state (raisedState st) LEVELS ≡ mostLevels
+  there size = getD-set-same st LEVELS mostLevels 0 (omega arith)
+
+  pub raised-levels : length st ≡ 6 → levels (raisedState st) ≡ mostLevels
+  unfolding levels
+  raised-levels size = rw (there size)
+
+  pub raised-word : (f : ℕ) → f ≢ LEVELS → state (raisedState st) f ≡ state st f
+  raised-word f n = getD-set-other st LEVELS f mostLevels 0 n
+
+  pub raised-depth : state (raisedState st) DEPTH ≡ state st DEPTH
+  raised-depth = raised-word DEPTH (λ e. omega arith)
+
+  pub raised-swis : state (raisedState st) SWIS ≡ state st SWIS
+  raised-swis = raised-word SWIS (λ e. omega arith)
+
+  pub raised-tasks : state (raisedState st) TASKS ≡ state st TASKS
+  raised-tasks = raised-word TASKS (λ e. omega arith)
+
+  pub raised-current : state (raisedState st) CURRENT ≡ state st CURRENT
+  raised-current = raised-word CURRENT (λ e. omega arith)
+
+  -- so a Swi or a task is due as before
+  pub raised-swi-due : (ws ls : List ℕ) → swiDue ws ls (raisedState st) ≡ swiDue ws ls st
+  unfolding swiDue
+  raised-swi-due ws ls = rw (raised-depth, raised-swis)
+
+  pub raised-task-due : (ls : List ℕ) → taskDue ls (raisedState st) ≡ taskDue ls st
+  unfolding taskDue
+  raised-task-due ls = rw (raised-depth, raised-swis, raised-tasks)
+
+-- ---- tables that are raised
 pub raised-typed : (t : Tables) → Typed t → Typed (raised t)
 raised-typed t typed =
     record {
@@ -45,16 +79,6 @@ raised-typed t typed =
 module _ (t : Tables) (typed : Typed t) (s : Sound t) where
   abbrev st : List ℕ
   st = t .state
-
-  there : state (raisedState st) LEVELS ≡ 32
-  there = getD-set-same st LEVELS 32 0 (omega (arith, typed .state))
-
-  all : levels (raisedState st) ≡ 32
-  unfolding levels
-  all = rw there
-
-  same : (f : ℕ) → f ≢ LEVELS → state (raisedState st) f ≡ state st f
-  same f n = getD-set-other st LEVELS f 32 0 n
 
   -- a priority below 16 is below 32
   row : (i : ℕ) → Means (taskRule (levels st) i (task (t .tasks) i)) → Means (taskRule (levels (raisedState st)) i (task (t .tasks) i))
@@ -77,7 +101,7 @@ module _ (t : Tables) (typed : Typed t) (s : Sound t) where
         whenWriting = r .whenWriting;
         whenTerminated = r .whenTerminated;
         whenInactive = r .whenInactive;
-        level = λ u. let (low, high) = r .level u in (low, omega (arith, all, levels-under st));
+        level = λ u. let (low, high) = r .level u in (low, omega (arith, raised-levels st (typed .state), levels-under st));
       }))
       (same? i 0)
 
@@ -103,42 +127,49 @@ module _ (t : Tables) (typed : Typed t) (s : Sound t) where
           (λ (n : x ≢ 0). omega (arith, row-other st x _ n (s .tasks x lt) .level (used-at _ (omega arith) (omega arith)) .1))
           (same? x 0)
 
-  highest : highestReady (levels (raisedState st)) (t .lines) ≡ highestReady (levels st) (t .lines)
+  highest : highestReady mostLevels (t .lines) ≡ highestReady (levels st) (t .lines)
   unfolding highestReady
   highest =
       let f : ℕ → Bool = λ p. anyone (t .lines) (readyLine p) in
       let h = high-is (levels st) f in
-      high-one (levels (raisedState st)) f (highestBelow (levels (raisedState st)) f) (highestBelow (levels st) f)
-      (high-is (levels (raisedState st)) f)
+      high-one mostLevels f (highestBelow mostLevels f) (highestBelow (levels st) f)
+      (high-is mostLevels f)
       record {
-        high = omega (arith, h .high, all, levels-under st);
+        high = omega (arith, h .high, levels-under st);
         has = h .has;
         after = λ j low high.
-            ⊎-elim (λ (l : j < levels st). h .after j low l) (λ (l : levels st ≤ j). nobody j l (omega (arith, all))) (lt-or-le j (levels st));
+            ⊎-elim (λ (l : j < levels st). h .after j low l) (λ (l : levels st ≤ j). nobody j l high) (lt-or-le j (levels st));
       }
 
+  -- so the front of the highest queue is the same
+  pub raised-front : front mostLevels (t .lines) ≡ front (levels st) (t .lines)
+  unfolding front
+  raised-front = rw highest
+
   dispatches : Means (dispatchRule (t .swis) (t .lines) (raisedState st))
-  unfolding swiDue taskDue front
   dispatches =
-      let d = same DEPTH (λ e. omega arith) in
-      let w = same SWIS (λ e. omega arith) in
-      let k = same TASKS (λ e. omega arith) in
-      let c = same CURRENT (λ e. omega arith) in
-      rw (d, w, k, c, highest) (s .dispatch)
+      rw (
+        raised-swi-due st (t .swis) (t .lines),
+        raised-task-due st (t .lines),
+        raised-current st,
+        raised-levels st (typed .state),
+        raised-front,
+      )
+      (s .dispatch)
 
   pub raised-sound : Sound (raised t)
   raised-sound =
       let ranges = sound-ranges t s in
       record {
         state = (
-          omega (arith, ranges .depth, same DEPTH (λ e. omega arith)),
+          omega (arith, ranges .depth, raised-depth st),
           (
-            omega (arith, ranges .swis, same SWIS (λ e. omega arith)),
+            omega (arith, ranges .swis, raised-swis st),
             (
-              omega (arith, ranges .tasks, same TASKS (λ e. omega arith)),
+              omega (arith, ranges .tasks, raised-tasks st),
               (
-                omega (arith, ranges .current, same CURRENT (λ e. omega arith)),
-                (rw (same CURRENT (λ e. omega arith)) (still-ready t s), inr there),
+                omega (arith, ranges .current, raised-current st),
+                (rw (raised-current st) (still-ready t s), inr (there st (typed .state))),
               ),
             ),
           ),

@@ -15,7 +15,7 @@ ghost use Rattle.rules.specs.Sound.{noWait, idleRule, waitRule, otherRule, task
 
 // ---- the state
 
-// Depth 0 to 8, each switch on or off, and the current task is a ready one.
+// Depth 0 to 8, each switch on or off, the current task is a ready one, and there are 16 levels or 32.
 pub fn state_sound(tasks: &Tasks, state: &State) -> bool
     ensures { λ r. ⌜ r ≡ holds (stateRule (now (tasks .entry)) (now (state .entry))) ⌝ }
 {
@@ -26,7 +26,8 @@ pub fn state_sound(tasks: &Tasks, state: &State) -> bool
         & (state[words::TASKS] < 2)
         & (current < 32)
         & (k.mode == 1)
-        & ((state[5] == 16) | (state[5] == 32))
+        & ((state[words::LEVELS] == rules::FEW_LEVELS)
+            | (state[words::LEVELS] == rules::MOST_LEVELS))
 }
 
 // ---- the heap

@@ -7,6 +7,7 @@ use super::print::print_call;
 use super::print::print_heading;
 use super::tables::busy;
 use super::tables::held;
+use super::tables::wide;
 use comparing::same_tables;
 use kernel::Call;
 use rules::Tables;
@@ -76,10 +77,13 @@ pub(crate) fn try_sound(name: &[u8], t: Tables) {
     interrupt_in(1, t);
 }
 
-// The tables in which a rule is broken: that a task is due shows where tasks were held back.
+// The tables in which a rule is broken: that a task is due shows where tasks were held back, and priorities above 15 where there are 32 levels.
 fn sound_tables(rule: Rule) -> Tables {
     if let Rule::Overtaken = rule {
         return held();
+    }
+    if let Rule::Levels = rule {
+        return wide();
     }
     busy()
 }

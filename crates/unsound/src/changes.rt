@@ -38,7 +38,7 @@ fn set_clock_word(clocks: &mut Clocks, i: usize, f: usize, x: u32) {
 }
 
 fn set_state(state: &mut State, f: usize, x: u32) {
-    if f < 5 {
+    if f < 6 {
         state[f] = x;
     }
 }

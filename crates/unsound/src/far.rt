@@ -15,6 +15,7 @@ use words::COUNT;
 use words::CURRENT;
 use words::DEPTH;
 use words::KIND;
+use words::LEVELS;
 use words::MESSAGES;
 use words::POSTED;
 use words::PRIORITY;
@@ -53,6 +54,7 @@ pub(crate) fn words(n: u32) -> Change {
         23 => Change::Clock(0, NAMED, LAST),
         24 => Change::Clock(1, NAMED, LAST),
         25 => Change::Unit(3, 255),
+        26 => Change::State(LEVELS, LAST),
         _ => Change::Nothing,
     }
 }

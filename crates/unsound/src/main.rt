@@ -15,11 +15,13 @@ use calls::try_unsound;
 use flaws::Rule;
 use tables::busy;
 use tables::held;
+use tables::wide;
 
 fn break_rules_of_tasks() {
     try_unsound(b"unsound state", Rule::States);
     try_unsound(b"unsound task 0", Rule::Idle);
     try_unsound(b"unsound tasks", Rule::Ranges);
+    try_unsound(b"unsound levels", Rule::Levels);
     try_unsound(b"unsound fields without meaning", Rule::WithoutMeaning);
     try_unsound(b"unsound waits", Rule::Waits);
 }
@@ -45,6 +47,7 @@ fn break_rules_of_objects() {
 fn main() {
     try_sound(b"busy tables", busy());
     try_sound(b"held tables", held());
+    try_sound(b"wide tables", wide());
     break_rules_of_tasks();
     break_rules_of_lines();
     break_rules_of_objects();

@@ -44,6 +44,9 @@ pub(crate) fn strangers(n: u32) -> Change {
         12 => Change::Line(POSTED_LINES + 6, 2, 2, 3, 0),
         13 => Change::Line(POSTED_LINES + 6, 2, 2, 16, 0),
         14 => Change::Line(POSTED_LINES + 2, 1, 2, 0, 0),
+        // ready tasks in a queue above the levels
+        15 => Change::Line(READY_LINES + 16, 1, 9, 0, 0),
+        16 => Change::Line(READY_LINES + 31, 1, 1, 0, 0),
         _ => Change::Nothing,
     }
 }

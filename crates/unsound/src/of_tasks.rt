@@ -5,19 +5,21 @@ use super::places::LEFT;
 use super::places::MODE;
 use super::places::OBJECT;
 use super::places::OUTCOME;
+use super::places::READY_LINES;
 use super::places::SECOND;
 use super::places::VALUE;
 use super::tables::MINUS_ONE;
 use super::tables::SLEEPING;
 use words::CURRENT;
 use words::DEPTH;
+use words::LEVELS;
 use words::PRIORITY;
 use words::SWIS;
 use words::TASKS;
 
 const FOREVER: u32 = 4294967295;
 
-// "Interrupt depth 0 to 8; a switch for Swis and one for tasks"; "The current task is ready"
+// "Interrupt depth 0 to 8; a switch for Swis and one for tasks"; "The current task is ready"; No. 14: "The number of levels, 16 or 32"
 pub(crate) fn states(n: u32) -> Change {
     match n {
         1 => Change::State(DEPTH, 9),
@@ -28,6 +30,11 @@ pub(crate) fn states(n: u32) -> Change {
         // asleep, and terminated
         5 => Change::State(CURRENT, 2),
         6 => Change::State(CURRENT, 7),
+        7 => Change::State(LEVELS, 0),
+        8 => Change::State(LEVELS, 15),
+        9 => Change::State(LEVELS, 17),
+        10 => Change::State(LEVELS, 31),
+        11 => Change::State(LEVELS, 33),
         _ => Change::Nothing,
     }
 }
@@ -60,6 +67,25 @@ pub(crate) fn ranges(n: u32) -> Change {
         // an ended wait was done or not met, and "an expired one outcome 1, value 0"
         7 => Change::Task(7, OUTCOME, 2),
         8 => Change::Task(7, VALUE, 1),
+        _ => Change::Nothing,
+    }
+}
+
+// No. 14: "With 32, priorities run to 31"; in tables with 32 levels
+pub(crate) fn levels(n: u32) -> Change {
+    match n {
+        // ready, asleep and terminated tasks
+        1 => Change::Task(1, PRIORITY, 32),
+        2 => Change::Task(2, PRIORITY, 32),
+        3 => Change::Task(7, PRIORITY, 32),
+        4 => Change::Task(2, PRIORITY, 0),
+        // priorities 31 and 16 with 16 levels
+        5 => Change::State(LEVELS, 16),
+        6 => Change::State(LEVELS, 17),
+        // a queue above 15: task 9, which is ready at 3; nobody any more; one who is not ready
+        7 => Change::Line(READY_LINES + 16, 1, 9, 0, 0),
+        8 => Change::Line(READY_LINES + 31, 0, 0, 0, 0),
+        9 => Change::Line(READY_LINES + 31, 2, 1, 2, 0),
         _ => Change::Nothing,
     }
 }

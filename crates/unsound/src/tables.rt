@@ -1,4 +1,5 @@
-// Two sets of sound tables: busy ones, in which something of each kind is going on, and held ones, in which tasks are off.
+// Three sets of sound tables: busy ones, in which something of each kind is going on, held ones, in which tasks are off, and wide ones, with 32
+// levels.
 use super::changes::set_line;
 use super::places::ACTIVE_LINE;
 use super::places::EVENT_LINES;
@@ -232,4 +233,15 @@ pub(crate) fn held() -> Tables {
         heap: [0u8; 256],
         state: [0, 1, 0, 0, 0, 16],
     }
+}
+
+// The busy tables with 32 levels: task 1 is ready at 31, and task 2 asleep at 16.
+pub(crate) fn wide() -> Tables {
+    let mut t = busy();
+    set_task(&mut t.tasks, 1, task(READY, 31, 0, 0, 0, 0, 0, 0));
+    set_task(&mut t.tasks, 2, task(SLEEPING, 16, 0, 3, 0, 0, 0, 0));
+    set_line(&mut t.lines, READY_LINES + 5, 0, 0, 0, 0);
+    set_line(&mut t.lines, READY_LINES + 31, 1, 1, 0, 0);
+    t.state = [0, 1, 1, 7, 1, 32];
+    t
 }

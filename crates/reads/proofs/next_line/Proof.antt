@@ -55,8 +55,7 @@ returns-2 c =
     let s = at-start (at-version read) in
     let a = s .args in
     let t = lent (a .tasks) (a .lines) (a .semaphores) (a .events) (a .mailboxes) (a .swis) (a .clocks) (a .heap) (a .state) in
-    let made = stepped .step .ensures .1 (s .pre .sound) in
-    (
+    let made = stepped .step .ensures .1 (s .pre .sound) in (
       went-record _ (a .log .now) (a .offset) t (a .ran) (found-is read) (s .pre) _ _ (known .found .given .1) (asked .record-call .ensures) (made .is)
           (up .wrapping-add-u64 .ensures) (put .put-said .ensures) (read .step-in .ensures .1) (c .ran-to .ensures),
       made .safe,
