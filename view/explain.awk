@@ -37,6 +37,7 @@ function readOptions(   k) {
     from += 0
 }
 BEGIN { readNames(names); readOptions() }
+NR == 1 && levelsInWords() != "" { print "the log has " levelsInWords() ": task priorities go to " (levels - 1) }
 NR == 1 { printf "%7s %7s %-3s   %s\n", "record", "tick", "by", "the call: what came of it; the object now; who runs now" }
 isLast() { print lastInWords(); next }
 to != "" && $1 > to + 0 { next }

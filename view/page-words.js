@@ -183,10 +183,11 @@ function withLinks(words) {
   });
 }
 
-// ---- the first line of the page: how long the log is, what was refused, how it ends
+// ---- the first line of the page: how long the log is, its levels if they are not 16, what was refused, how it ends
 function summary() {
   const found = commas(log.refused.length) + " refused, " + commas(log.notMet.length) + " not met";
-  return many(n, shared.whole ? "record" : "good record") + ", " + many(log.ticks, "tick") + "; " + found + (shared.whole ? "" : ". Then " + shared.last);
+  const levels = shared.levels ? ", " + shared.levels : "";
+  return many(n, shared.whole ? "record" : "good record") + ", " + many(log.ticks, "tick") + levels + "; " + found + (shared.whole ? "" : ". Then " + shared.last);
 }
 
 // ---- colours and keys in words

@@ -29,7 +29,7 @@ function noteAnswer(   key, gone) {
         missFree[key] = code == 8 ? 2048 - units * 8 : 0
         missAsked[key] = given[1]
         missSuch[key] = onWhat() == "" && (kindNamed != "" || (call in callSwitches))
-        if (call in oldWas) missOld[key] = 1
+        if ((call in oldWas) && logVersion() == 1) missOld[key] = 1
         if (code == 9) offKey = key
     }
     misses[key]++; missLast[key] = record; missesOf[code]++
@@ -383,7 +383,7 @@ function findOutside() {
         "no create gave that number: it came from outside, such as a packet, or from memory that was spoilt" \
         (outsideOthers == "" ? "" : "; likewise " outsideOthers) (outsideMany > 4 ? " and " plural(outsideMany - 4, "other") : ""))
 }
-# The numbers of older firmware are one finding too, told before all others: that unit did what the replay refuses.
+# The numbers of older firmware are one finding too, told before all others: that unit did what the replay refuses. It wrote logs of version 1.
 function noteOld(key, text) {
     if (oldKey == "") { oldKey = key; oldText = text }
     else oldOthers = listing(oldOthers, missName[key] " (" times(misses[key]) ")")
@@ -555,7 +555,7 @@ isLast() { last = lastInWords(); next }
 }
 END {
     if (namesMissing || NR == 0) exit 2
-    print (last == "" ? "the trace breaks off after record " record : last) ", " plural(ticks, "tick")
+    print (last == "" ? "the trace breaks off after record " record : last) ", " plural(ticks, "tick") (levelsInWords() == "" ? "" : ", " levelsInWords())
     if (record == 0) exit
     tellFindings(); tellMisses(); tellWaits(); tellShares(); tellHeap(); tellRest()
 }

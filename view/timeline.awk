@@ -99,7 +99,7 @@ END {
     if (unread) exit 2
     if (lastWords == "") { print "timeline: the trace has no last line" > "/dev/stderr"; exit 2 }
     if (records) print "</script>"
-    print "<script type=\"application/json\" id=\"log\">{\"title\":" quoted(title) ",\"records\":" records ",\"last\":" quoted(lastWords) ",\"whole\":" (whole ? "true" : "false") ","
+    print "<script type=\"application/json\" id=\"log\">{\"title\":" quoted(title) ",\"records\":" records ",\"last\":" quoted(lastWords) ",\"whole\":" (whole ? "true" : "false") ",\"levels\":" quoted(levelsInWords()) ","
     print "\"modeName\":" namesOf(modeName) ",\"modeObject\":" namesOf(modeObject) ",\"kindName\":" namesOf(kindName) ",\"codeName\":" namesOf(codeName) ","
     print "\"tableName\":" namesOf(tableName) ",\"texts\":["
     for (i = 0; i < texts; i++) print textShown(textKey[i]) (i < texts - 1 ? "," : "")

@@ -18,7 +18,7 @@ function readNames(file,   line, kind, key, p, got) {
         else if (kind == "why") { whys++; whyCall[whys] = key; whyCode[whys] = p[2]; whyTest[whys] = p[3]; whyWords[whys] = p[4] }
         else if (kind == "mode") { modeName[key] = p[2]; modeObject[key] = p[3] }
         else if (kind == "kind") kindName[key] = p[2]
-        else if (kind == "fault") faultName[key] = p[2]
+        else if (kind == "fault") { faults++; faultWord[faults] = key; faultTest[faults] = p[2]; faultWords[faults] = p[3] }
     }
     if (got < 0) { print "views: " file " cannot be read" > "/dev/stderr"; namesMissing = 1; exit 2 }
     close(file)
@@ -47,6 +47,11 @@ function freshTables() {
 # ---- reading a record
 
 function isLast() { return $0 ~ /^(end|cut|length|version) [0-9]+$/ }
+# How many levels tasks have: the first record decides it for the whole log, and its line tells it. A log without a good record has 0.
+NR == 1 { split($0, part, ";"); split(part[2], stateThen, " "); levels = stateThen[6] + 0 }
+function logVersion() { return levels == 32 ? 2 : 1 }
+# What is said of a log's levels; nothing where they are 16.
+function levelsInWords() { return levels == 32 ? "32 levels (version 2)" : "" }
 # Reads the line $0 and keeps what it tells: the call and its answer, what is so after it, and what it changed.
 function readRecord(   f) {
     split($0, part, ";")
@@ -219,6 +224,8 @@ function placeInWords(place) {
     if (place == "were") return switchesInWords("were", value, " already")
     if (place == "are") return switchesInWords("are", swisOn + 2 * tasksOn, "")
     if (place == "stray") return strayInWords()
+    if (place == "highest") return levels - 1
+    if (place == "version") return logVersion()
     if (place == "was") return oldWas[call]
     if (place == "now") return oldNow[call]
     if (place == "swis") return "Swis are off" sinceInWords(swisSince, swisBy)
@@ -333,6 +340,7 @@ function holds(test) {
     if (test == "current") return numberNamed == current
     if (test == "posted") return posted[numberNamed] == 1
     if (test == "waiter") return waitersAt[kindNamed, numberNamed] > 0
+    if (test == "first") return levels == 0
     print "views: the table of names has a test that is not known: " test > "/dev/stderr"
     exit 2
 }
@@ -400,5 +408,9 @@ function objectsInWords(   i, k, n, same, text) {
 function lastInWords(   last) {
     split($0, last, " ")
     if (last[1] == "end") return "end of the log: " plural(last[2], "record")
-    return "the log is damaged at byte " last[2] ": " last[1] ", " faultName[last[1]]
+    return "the log is damaged at byte " last[2] ": " last[1] ", " faultInWords(last[1])
+}
+# What a fault means: the first of its lines whose test holds.
+function faultInWords(word,   i) {
+    for (i = 1; i <= faults; i++) if (faultWord[i] == word && holds(faultTest[i])) return filled(faultWords[i])
 }

@@ -1,10 +1,10 @@
 // data.js PAGE TRACE WORDS: holds the data of a page to the trace that it was made of. What a lane is at each record is worked out here from the trace's text alone
-// (docs/TRACE.md), and shares are added up record by record; WORDS has the lines that view/words.awk tells. The last line is `page: N checks`, the status 1 where one failed.
+// (docs/TRACE.md), and shares are added up record by record; WORDS has the lines that view/words.awk tells. Of the page's own words its first line and the tasks' priorities are held to the trace. The last line is `page: N checks`, the status 1 where one failed.
 "use strict";
 const fs = require("fs"), vm = require("vm"), path = require("path");
 const [pageFile, traceFile, wordsFile] = process.argv.slice(2);
 const core = vm.createContext({});
-vm.runInContext(fs.readFileSync(path.join(__dirname, "../../view/page-data.js"), "utf8"), core);
+for (const part of ["page-data.js", "page-words.js"]) vm.runInContext(fs.readFileSync(path.join(__dirname, "../../view", part), "utf8"), core);
 const inPage = code => vm.runInContext(code, core);
 
 let checks = 0, failures = 0;
@@ -20,7 +20,7 @@ function openPage(file) {
   const shared = JSON.parse(/<script type="application\/json" id="log">([^<]*)<\/script>/.exec(html)[1]);
   const lines = [...html.matchAll(/<script type="text\/plain" class="rows">\n([^<]*)<\/script>/g)].map(found => found[1]).join("");
   core.shared = shared; core.data = new Uint8Array(Buffer.from(lines, "latin1"));
-  inPage("globalThis.log = readLog(shared, data)");
+  inPage("globalThis.log = readLog(shared, data); globalThis.n = log.n");
   return core.log;
 }
 
@@ -31,7 +31,7 @@ const FIRST = { S: 32, s: 49, e: 65, m: 73, c: 81 };
 function readTrace(file) {
   const lines = fs.readFileSync(file, "latin1").trimEnd().split("\n"), last = lines.pop();
   const bars = new Map(), steps = new Map(), records = [];
-  const now = { tasks: new Array(32).fill(0), clocks: new Array(16).fill(0), steps: new Map(), taken: new Array(16).fill(null), takenAt: [] };
+  const now = { tasks: new Array(32).fill(0), priorities: new Array(32).fill(0), clocks: new Array(16).fill(0), steps: new Map(), taken: new Array(16).fill(null), takenAt: [] };
   now.tasks[0] = 1;
   const bar = (lane, k, name) => { if (!bars.has(lane)) bars.set(lane, new Uint8Array(lines.length)); bars.get(lane)[k] = CLASS[name]; };
   lines.forEach((line, k) => {
@@ -42,7 +42,7 @@ function readTrace(file) {
       for (let i = 0; i < p.length;) { const size = step(p, i); take(p.slice(i, i + size)); i += size; }
     };
     const line9 = (lane, value, waiting, used) => { now.steps.set(lane, [value, waiting, used]); changed.add(lane); };
-    each(2, () => 7, p => { now.tasks[p[0]] = p[1]; changed.add(p[0]); });
+    each(2, () => 7, p => { now.tasks[p[0]] = p[1]; now.priorities[p[0]] = p[2]; changed.add(p[0]); });
     each(3, () => 3, p => { if (p[2]) lost.push(p[1]); });
     each(7, (p, i) => 5 + p[i + 4], p => line9(FIRST.s + p[0], p[3], p[4], p[1] ? 1 : 0));
     each(8, (p, i) => 4 + p[i + 3], p => line9(FIRST.e + p[0], p[2].toString(2).replace(/0/g, "").length, p[3], p[1] ? 1 : 0));
@@ -60,7 +60,7 @@ function readTrace(file) {
     for (const [lane, row] of now.steps) { if (!steps.has(lane)) steps.set(lane, []); steps.get(lane)[k] = row; }
     records.push({
       tick: Number(tick), caller: threadNumber(caller), thread: threadNumber(thread), call: Number(call), code: Number(code), outcome: Number(outcome), value: Number(value),
-      changed, lost, taken: [...now.taken],
+      levels: Number(parts[1][5]), changed, lost, taken: [...now.taken], modes: [...now.tasks], priorities: [...now.priorities],
     });
   });
   return { bars, steps, records, last };
@@ -105,6 +105,31 @@ function checkLanes(log, trace) {
       check(`lane ${lane} at record ${k + 1}`, [is.value[j], is.waiting[j] & 127, is.waiting[j] >> 7], row);
     }
   }
+}
+// What the page says of each task that is there, at some records: its priority.
+function checkPriorities(log, trace) {
+  for (let k = 0; k < log.n; k += log.n < 200 ? 1 : 37) trace.records[k].modes.forEach((mode, t) => {
+    if (!mode || !log.lanes[t]) return;
+    core.lane = log.lanes[t]; core.k = k;
+    const priority = trace.records[k].priorities[t], told = /, priority (-?\d+)/.exec(inPage("laneWords(lane, k)"));
+    check(`priority of task ${t} at record ${k + 1}`, told && told[1], priority === 4294967295 ? "-1" : String(priority));
+  });
+}
+// How the log ends, in words: what the fault `version` means goes by its place and by the levels of the records before it.
+const FAULTS = { cut: () => "the log ends inside a record", length: () => "the record's length is not 18",
+  version: (at, levels) => "the record's version is " + (at === "0" ? "neither 1 nor 2" : "not the first record's (" + (levels === 32 ? 2 : 1) + ")") };
+function lastLine({ last, records }) {
+  const [word, number] = last.split(" ");
+  if (word === "end") return "end of the log: " + number + " record" + (number === "1" ? "" : "s");
+  return `the log is damaged at byte ${number}: ${word}, ${FAULTS[word](number, records.length && records[0].levels)}`;
+}
+// The first line of the page. How many levels there are is the sixth number of part 2, and is told where it is 32.
+function firstLine(trace) {
+  const { records } = trace, last = records[records.length - 1], count = test => records.filter(test).length.toLocaleString("en");
+  const many = (number, word) => number.toLocaleString("en") + " " + word + (number === 1 ? "" : "s");
+  const whole = trace.last.startsWith("end "), ticks = records.filter(r => r.call === 0x76 && r.code === 0).length;
+  return many(records.length, whole ? "record" : "good record") + ", " + many(ticks, "tick") + (last && last.levels === 32 ? ", 32 levels (version 2)" : "") + "; "
+    + count(r => r.code !== 0) + " refused, " + count(r => r.code === 0 && r.outcome === 1 && r.call !== 6) + " not met" + (whole ? "" : ". Then " + lastLine(trace));
 }
 let seed = 7;
 const chance = () => (seed = (seed * 1103515245 + 12345) % 2147483648) / 2147483648;
@@ -168,7 +193,10 @@ function checkChoosing(log, trace) {
 
 const log = openPage(pageFile), trace = readTrace(traceFile), words = fs.readFileSync(wordsFile, "latin1").split("\n");
 check("last line", log.shared.last, words[log.n]);
+check("last line in words", log.shared.last, lastLine(trace));
 check("whole", log.shared.whole, trace.last.startsWith("end "));
-checkRecords(log, trace); checkWords(log, words); checkLanes(log, trace); checkShares(log, trace); checkChoosing(log, trace);
+check("first line", inPage("summary()"), firstLine(trace));
+check("one number of levels", new Set(trace.records.map(r => r.levels)).size <= 1, true);
+checkRecords(log, trace); checkPriorities(log, trace); checkWords(log, words); checkLanes(log, trace); checkShares(log, trace); checkChoosing(log, trace);
 console.log(`page: ${checks} checks, ${failures} failed`);
 process.exitCode = failures ? 1 : 0;

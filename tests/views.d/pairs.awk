@@ -24,7 +24,7 @@ BEGIN {
         key[lines] = line; lineCall[lines] = p[1]; lineCode[lines] = substr(line, 1, 3) == "got" ? "-" p[2] : p[2]; linePattern[lines] = pattern(p[4]) "($|;)"
     }
 }
-/^#/ || /^$/ { next }
+/^#/ || /^$/ || /^version / { next }
 {
     said = substr($0, index($0, " ; ") + 3)
     code = "0"

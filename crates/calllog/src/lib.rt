@@ -8,6 +8,14 @@ ghost use Rattle.calllog.specs.Part.{PartAt};
 
 pub mod reader;
 
+// The versions of a log, by its editions.
+pub const FIRST_EDITION: u8 = 1;
+
+pub const SECOND_EDITION: u8 = 2;
+
+// Which byte of a record its version is.
+const VERSION_AT: usize = 2;
+
 fn wide(b: u8) -> u32
     ensures { λ r. ⌜ (r ≡ b) × (r < 256) ⌝ }
 {
@@ -48,14 +56,14 @@ fn word_at(s: &[u8], at: usize) -> u32
 pub fn version_of(log: &[u8]) -> u8
     ensures { λ r. ⌜ r ≡ versionOf (now (log .entry)) ⌝ }
 {
-    byte_at(log, 2)
+    byte_at(log, VERSION_AT)
 }
 
-// No. 14: 'Log version 2 .. means 32 levels; a version 1 log replays with 16'.
+// No. 14: 'Log version 2 .. means 32 levels; a version 1 log replays with 16'. So does another version, whose log has no record.
 pub fn levels_for(version: u8) -> u32
     ensures { λ r. ⌜ r ≡ levelsFor version ⌝ }
 {
-    if version == 2 {
+    if version == SECOND_EDITION {
         return rules::MOST_LEVELS;
     }
     rules::FEW_LEVELS
@@ -64,10 +72,10 @@ pub fn levels_for(version: u8) -> u32
 fn is_version(version: u8) -> bool
     ensures { λ r. ⌜ r ≡ isVersion version ⌝ }
 {
-    (version == 1) | (version == 2)
+    (version == FIRST_EDITION) | (version == SECOND_EDITION)
 }
 
-// What stands at a position of a log, or of a part of one, whose first record has this version.
+// What stands at a position of a log, or of a part of a log; the version is that of the log's first record.
 pub fn read_in(log: &[u8], at: usize, version: u8) -> Read
     ensures { λ r. ⌜ r ≡ readIn version (now (log .entry)) at ⌝ }
 {
@@ -86,7 +94,7 @@ pub fn read_in(log: &[u8], at: usize, version: u8) -> Read
     if log.len() - at < 20 {
         return Read::Cut(at);
     }
-    if !is_version(version) | (log[at + 2] != version) {
+    if !is_version(version) | (log[at + VERSION_AT] != version) {
         return Read::Version(at);
     }
     Read::Record {

@@ -10,7 +10,7 @@ pub struct Step {
     pub at: usize,
 }
 
-// In a log, or a part of one, whose first record has this version.
+// In a log, or in a part of a log; the version is that of the log's first record.
 pub fn step_in(log: &[u8], at: usize, version: u8) -> Step
     ensures { λ r. ⌜ (r .found ≡ readIn version (now (log .entry)) at) × (r .at ≡ moveTo (r .found) at) ⌝ }
 {

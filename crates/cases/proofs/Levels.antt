@@ -1,17 +1,22 @@
 -- No. 14, both sides of each line that it draws: with 16 levels and with 32. Each case is computed from the definitions.
 use Prim.Native.Nat.{ℕ}
 use mathlib.Core.Path.{_≡_, refl}
-use mathlib.Core.Bool.{true, false}
+use mathlib.Core.Logic.{_≢_, ⊎-elim}
+use mathlib.Core.Bool.{Bool, true, false}
 use mathlib.Core.List.{List, [], _∷_}
+use borrow.Author.Tests.{ne-eqb}
 use Rattle.rules.specs.Answer.{answer}
+use Rattle.rules.specs.Tables.{state, LEVELS}
 use Rattle.rules.specs.Fresh.{fresh, freshWith, madeFresh}
 use Rattle.rules.specs.Sound.{sound}
 use Rattle.rules.specs.Step.{stepOf}
+use Rattle.rules.specs.declared.Tables.{Tables}
+use Rattle.rules.proofs.Agree.{sound-means}
 use Rattle.rules.proofs.Computed.{computed}
 use Rattle.rules.proofs.Runs.{Line, says, _runs_, AllRun, _⇒_, said, saw, T, S, I, createTask, setPriority, yield, end, createSwi, postSwi, createSemaphore, pend, post}
 use Rattle.rules.proofs.Faster.{faster, quickly, fresh-sound, fresh-for-sound}
 
--- "With 32, priorities run to 31": (i) for 32 levels: priority 31 is made, 32 is code 4; so is 16, which with 16 levels is 4
+-- "With 32, priorities run to 31": (i) for 32 levels: 16 and 31 are made, 32 is code 4. With 16 levels 16 is code 4 (`Cases.case-i`, `set-16`)
 abbrev pub case-i-32 : List Line
 case-i-32 =
     createTask 16 ⇒ said 0 0 1 (T 1)
@@ -86,15 +91,11 @@ pub record Levels : Type 0 where
   -- "set when they are made fresh"; "fresh tables asked for with other levels are 4 and come with 16"
   pub made-16 : madeFresh 16 ≡ stepOf (freshWith 16) (answer 0 0 0) (T 0)
   pub made-32 : madeFresh 32 ≡ stepOf (freshWith 32) (answer 0 0 0) (T 0)
-  pub made-17 : madeFresh 17 ≡ stepOf (freshWith 16) (answer 4 0 0) (T 0)
-  pub made-0 : madeFresh 0 ≡ stepOf (freshWith 16) (answer 4 0 0) (T 0)
-  pub made-31 : madeFresh 31 ≡ stepOf (freshWith 16) (answer 4 0 0) (T 0)
-  pub made-most : madeFresh 4294967295 ≡ stepOf (freshWith 16) (answer 4 0 0) (T 0)
+  pub made-other : (n : ℕ) → n ≢ 16 → n ≢ 32 → madeFresh n ≡ stepOf (freshWith 16) (answer 4 0 0) (T 0)
   -- "The number of levels, 16 or 32": tables with another are not sound
   pub sound-16 : sound (freshWith 16) ≡ true
   pub sound-32 : sound (freshWith 32) ≡ true
-  pub not-17 : sound (freshWith 17) ≡ false
-  pub not-0 : sound (freshWith 0) ≡ false
+  pub other-unsound : (t : Tables) → state (t .state) LEVELS ≢ 16 → state (t .state) LEVELS ≢ 32 → sound t ≡ false
   pub code-10 : freshWith 17 runs refused-10
 
 abbrev with-32 : List (List Line)
@@ -108,6 +109,14 @@ set-alone : AllRun fresh (set-16 ∷ [])
 unfolding quickly
 set-alone = faster fresh (set-16 ∷ []) fresh-sound refl
 
+-- by the rule of the state: it does not hold, so not all do
+not-sound : (t : Tables) → state (t .state) LEVELS ≢ 16 → state (t .state) LEVELS ≢ 32 → sound t ≡ false
+not-sound t few most = go (sound t) refl
+  where
+    go : (b : Bool) → sound t ≡ b → b ≡ false
+    go true e = let (_, (_, (_, (_, (_, rule))))) = sound-means t e .state in absurd (⊎-elim few most rule)
+    go false e = refl
+
 pub levels : Levels
 unfolding computed says
 levels =
@@ -120,13 +129,9 @@ levels =
       set-with-16 = set-alone .0;
       made-16 = refl;
       made-32 = refl;
-      made-17 = refl;
-      made-0 = refl;
-      made-31 = refl;
-      made-most = refl;
+      made-other = λ n few most. rw (ne-eqb n 16 few, ne-eqb n 32 most);
       sound-16 = fresh-sound;
       sound-32 = fresh-for-sound 2;
-      not-17 = refl;
-      not-0 = refl;
+      other-unsound = not-sound;
       code-10 = record { so = refl };
     }

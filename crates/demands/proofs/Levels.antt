@@ -1,14 +1,19 @@
 -- No call changes the number of levels: each of them leaves the word alone (`laws`), and a sequence is one call after the other.
 use Prim.Native.Nat.{ℕ}
 use mathlib.Core.Path.{_≡_, refl, _∙_}
+use mathlib.Core.Logic.{_≢_, _⊎_, inl, inr, ⊎-elim}
 use mathlib.Core.Bool.{Bool, true, false, cond as if}
 use mathlib.Core.List.{List, [], _∷_}
+use borrow.Author.Tests.{eqb-true, ne-eqb}
 use lib.Dec.{eqb}
+use Rattle.fold.proofs.Laws.{same?}
 use Rattle.rules.specs.Tables.{fewLevels, mostLevels, state, LEVELS, levels}
-use Rattle.rules.specs.Fresh.{freshWith}
-use Rattle.rules.specs.Log.{versionOf, levelsFor}
+use Rattle.rules.specs.Fresh.{freshWith, fresh, isLevels, madeFresh}
+use Rattle.rules.specs.Log.{versionOf, secondEdition, levelsFor}
 use Rattle.rules.specs.declared.Tables.{Tables}
+use Rattle.rules.specs.declared.Step.{Step}
 use Rattle.runs.specs.Run.{Asked, next, after}
+use Rattle.laws.proofs.Calls.{chosen}
 use Rattle.laws.proofs.Levels as Laws
 use Rattle.demands.specs.Levels.{LevelsKept, LevelsStay, LevelsOfALog}
 
@@ -20,15 +25,35 @@ unfolding after
 along t [] = refl
 along t (q ∷ qs) = along (next t q) qs ∙ levels-kept t q
 
+-- of fresh tables with n levels, where n is one of the two numbers
+with-levels : (n : ℕ) → (n ≡ fewLevels) ⊎ (n ≡ mostLevels) → (qs : List Asked) → levels (after (freshWith n) qs .state) ≡ n
+unfolding levels freshWith
+with-levels n (inl few) qs = rw (along (freshWith n) qs, few)
+with-levels n (inr most) qs = rw (along (freshWith n) qs, most)
+
+-- what is asked for is one of them, or it is refused
+asked? : (n : ℕ) → (isLevels n ≡ true → (n ≡ fewLevels) ⊎ (n ≡ mostLevels))
+asked? n e =
+    ⊎-elim
+    (λ (few : n ≡ fewLevels). inl few)
+    (λ (other : n ≢ fewLevels). inr (eqb-true n mostLevels (rw (ne-eqb n fewLevels other) at e)))
+    (same? n fewLevels)
+
+by-test : (b : Bool) (n : ℕ) (qs : List Asked) → (b ≡ true → (n ≡ fewLevels) ⊎ (n ≡ mostLevels))
+    → levels (after (if b (freshWith n) fresh) qs .state) ≡ if b n fewLevels
+by-test true n qs h = with-levels n (h refl) qs
+by-test false n qs h = with-levels fewLevels (inl refl) qs
+
+tables-of : (b : Bool) (s u : Step) → if b s u .tables ≡ if b (s .tables) (u .tables)
+tables-of true s u = refl
+tables-of false s u = refl
+
 pub levels-stay : LevelsStay
-unfolding freshWith
-levels-stay n qs = along (freshWith n) qs
+unfolding madeFresh
+levels-stay n qs = rw (tables-of (isLevels n) _ _) (by-test (isLevels n) n qs (asked? n))
 
--- by either of the two numbers
-either : (b : Bool) → if (eqb (if b mostLevels fewLevels) mostLevels) mostLevels fewLevels ≡ if b mostLevels fewLevels
-either true = refl
-either false = refl
-
+-- the log's version means one of them
 pub levels-of-a-log : LevelsOfALog
-unfolding levels
-levels-of-a-log s qs = rw (levels-stay (levelsFor (versionOf s)) qs) (either (eqb (versionOf s) 2))
+levels-of-a-log s qs =
+    with-levels (levelsFor (versionOf s))
+    (chosen (λ (n : ℕ). (n ≡ fewLevels) ⊎ (n ≡ mostLevels)) (eqb (versionOf s) secondEdition) _ _ (λ _. inr refl) (λ _. inl refl)) qs

@@ -1,9 +1,10 @@
 -- No. 14: "The number of levels, 16 or 32, becomes part of the tables, set when they are made fresh."
 use Prim.Native.Nat.{ℕ}
 use mathlib.Core.Path.{_≡_}
+use mathlib.Core.Bool.{cond as if}
 use mathlib.Core.List.{List}
-use Rattle.rules.specs.Tables.{state, LEVELS, levels}
-use Rattle.rules.specs.Fresh.{freshWith}
+use Rattle.rules.specs.Tables.{fewLevels, state, LEVELS, levels}
+use Rattle.rules.specs.Fresh.{freshWith, isLevels, madeFresh}
 use Rattle.rules.specs.Log.{versionOf, levelsFor}
 use Rattle.rules.specs.declared.Tables.{Tables}
 use Rattle.runs.specs.Run.{Asked, next, after}
@@ -12,9 +13,10 @@ use Rattle.runs.specs.Run.{Asked, next, after}
 abbrev pub LevelsKept : Type 0
 LevelsKept = (t : Tables) (q : Asked) → state (next t q .state) LEVELS ≡ state (t .state) LEVELS
 
--- so after any sequence of calls from fresh tables it is the one that they were made with: in a replay the one that the log's version means
+-- so after any sequence of calls from fresh tables it is the one that they were made with, 16 where another was asked for; in a replay the one that the
+-- log's version means
 abbrev pub LevelsStay : Type 0
-LevelsStay = (n : ℕ) (qs : List Asked) → state (after (freshWith n) qs .state) LEVELS ≡ n
+LevelsStay = (n : ℕ) (qs : List Asked) → levels (after (madeFresh n .tables) qs .state) ≡ if (isLevels n) n fewLevels
 
 abbrev pub LevelsOfALog : Type 0
 LevelsOfALog = (s : List ℕ) (qs : List Asked) → levels (after (freshWith (levelsFor (versionOf s))) qs .state) ≡ levelsFor (versionOf s)

@@ -20,12 +20,12 @@ pub record RecordAt (s : List ℕ) (at number : ℕ) (arguments : List ℕ) : Ty
   pub version : (versionOf s ≡ 0x01) ⊎ (versionOf s ≡ 0x02)
   pub sixteen : length arguments ≡ 16
 
--- "None left is the end, a position past the log `cut`". "Faults, first found first: exactly 1 byte left, `cut`; length not 18, `length`; fewer
--- than 18 after it, `cut`; version not 1, `version`; each with the record's byte offset from 0."
 -- No. 14: "a record whose version differs from the first record's, or is neither 1 nor 2, is the fault `version`"
 abbrev pub OtherVersion : List ℕ → ℕ → Type 0
 OtherVersion s v = (v ≢ versionOf s) ⊎ ((v ≢ 0x01) × (v ≢ 0x02))
 
+-- "None left is the end, a position past the log `cut`". "Faults, first found first: exactly 1 byte left, `cut`; length not 18, `length`; fewer
+-- than 18 after it, `cut`; version not 1, `version`; each with the record's byte offset from 0."; the last but one as No. 14 amends it
 abbrev pub StandsAt : List ℕ → ℕ → Read → Type 0
 StandsAt s at (Record number start) = (start ≡ at + 4) × RecordAt s at number (argumentBytes s start)
 StandsAt s at End = length s ≡ at

@@ -55,7 +55,7 @@ tablesOf rows waiters at15 at20 current =
     tables (ready ∷ (zeros 7 ++ (rows ++ zeros 224)))
     (linesWith (semaphoreLine 0 has waiters ∷ readyLine 0 has (0 ∷ []) ∷ readyLine 15 has at15 ∷ readyLine 20 has at20 ∷ []))
     (1 ∷ zeros 47) (zeros 16) (zeros 80) (zeros 96) (zeros 80) (zeros 256)
-    (0 ∷ 1 ∷ 1 ∷ 0 ∷ current ∷ 32 ∷ [])
+    (0 ∷ 1 ∷ 1 ∷ 0 ∷ current ∷ mostLevels ∷ [])
 
 abbrev row : ℕ → ℕ → List ℕ
 row mode priority = mode ∷ priority ∷ zeros 6

@@ -30,7 +30,7 @@ use Rattle.keeps.proofs.Objects.{other-fails, free-is}
 use Rattle.keeps.proofs.Waiting.{neither, both, row-other, sound-ranges, current-is, current-under, still-ready, current-ready, current-row, current-used, not-idle, waits-settle, rest-row, still-waiting, welcome-none, welcome-ready, moved-ready, sleeping-row}
 use Rattle.keeps.proofs.Chosen.{chosen-keeps, unknown-keeps, sound-settles}
 
--- "Task priorities -1 and 1 to 15"
+-- a priority that the levels allow
 abbrev Priority : List ℕ → ℕ → Type 0
 Priority st p = (p ≡ minusOne) ⊎ ((0 < p) × (p < levels st))
 

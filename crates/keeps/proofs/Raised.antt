@@ -13,7 +13,7 @@ use Rattle.fold.specs.Find.{highestBelow}
 use Rattle.fold.specs.Rule.{Means}
 use Rattle.fold.proofs.Laws.{same?, lt-or-le, count-first}
 use Rattle.fold.proofs.Finds.{IsHighest, high-is, high-one}
-use Rattle.rules.specs.Tables.{Typed, raised, taskCount, mostLevels, levels, task, state, withState, DEPTH, SWIS, TASKS, CURRENT, LEVELS}
+use Rattle.rules.specs.Tables.{Typed, raised, taskCount, mostLevels, levels, task, state, raisedState, DEPTH, SWIS, TASKS, CURRENT, LEVELS}
 use Rattle.rules.specs.Lines.{anyone, line, first, readyLine, taskHome}
 use Rattle.rules.specs.Dispatch.{highestReady, front, swiDue, taskDue}
 use Rattle.rules.specs.Sound.{Sound, tasksRule, taskRule, dispatchRule}
@@ -24,9 +24,6 @@ use Rattle.keeps.proofs.Members.{bit-eq}
 use Rattle.laws.proofs.Levels.{levels-under, levels-some}
 use Rattle.keeps.proofs.TaskRows.{task-stands, ready-row, in-use}
 use Rattle.keeps.proofs.Waiting.{sound-ranges, still-ready, row-other, other-row, used-at}
-
-abbrev pub raisedState : List ℕ → List ℕ
-raisedState st = withState st LEVELS mostLevels
 
 -- ---- a state that is raised: it has 32 levels, and every other word stays
 module _ (st : List ℕ) where

@@ -18,7 +18,7 @@ NoPostLostEntered =
     (t : Tables) → Sound t → (es : List Entered) → Sequence t es → (s : ℕ) → Counting s (tablesAfter t es)
     → (x : LastSet s (historyOf es)) → Balanced s (historyOf es) x (tablesAfter t es)
 
--- from fresh tables on, with any number of levels, every counting semaphore has one
+-- from fresh tables on, with whatever number of levels they are asked for, every counting semaphore has one
 abbrev pub NoPostLostEnteredFromFresh : Type 0
 NoPostLostEnteredFromFresh =
     (levels : ℕ) → let t = madeFresh levels .tables in

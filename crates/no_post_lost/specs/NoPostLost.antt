@@ -72,7 +72,7 @@ NoPostLost =
     (t : Tables) → Typed t → Sound t → (qs : List Asked) → AllWords t qs → (s : ℕ) → Counting s (after t qs)
     → (x : LastSet s (history t qs)) → Balanced s (history t qs) x (after t qs)
 
--- from fresh tables on, with any number of levels, every counting semaphore has one
+-- from fresh tables on, with whatever number of levels they are asked for, every counting semaphore has one
 abbrev pub NoPostLostFromFresh : Type 0
 NoPostLostFromFresh =
     (levels : ℕ) → let t = madeFresh levels .tables in

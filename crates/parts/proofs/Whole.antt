@@ -11,7 +11,7 @@ use lib.ListN.{length, getD, drop, length-append, length-drop, List·getD-append
 use lib.Seq.{drop-drop, drop-append-le, take-append-le, getD-drop}
 use borrow.Author.Tests.{lt-ltb, le-ltb, eq-eqb, ne-eqb, eqb-true, leb-true}
 use Rattle.fold.proofs.Laws.{same?, lt-or-le}
-use Rattle.rules.specs.Tables.{fewLevels, mostLevels, tables, state, withState, LEVELS, levels}
+use Rattle.rules.specs.Tables.{fewLevels, mostLevels, tables, state, raisedState, LEVELS, levels}
 use Rattle.rules.specs.Fresh.{fresh, freshWith}
 use Rattle.rules.specs.Log.{versionOf, levelsFor, isVersion, halfAt, readIn, readAt, argumentBytes}
 use Rattle.rules.specs.Text.{lineText, lineFeed, wordText, textOf, endWord, cutWord, lengthWord, versionWord}
@@ -384,7 +384,7 @@ module _ (w : List ℕ) (small : length w < 2 ^ 64) where
   abbrev raisedIf : Bool → Tables → Tables
   raisedIf b t =
       tables (t .tasks) (t .lines) (t .semaphores) (t .events) (t .mailboxes) (t .swis) (t .clocks) (t .heap)
-      (if b (withState (t .state) LEVELS mostLevels) (t .state))
+      (if b (raisedState (t .state)) (t .state))
 
   raised-fresh : (b : Bool) → (raisedIf b fresh ≡ freshWith (if b mostLevels fewLevels))
       × (raisedIf b (freshWith (if b mostLevels fewLevels)) ≡ freshWith (if b mostLevels fewLevels))

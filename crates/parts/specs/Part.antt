@@ -5,8 +5,8 @@ use mathlib.Core.List.{List, [], _∷_, _++_}
 use lib.Dec.{leb, eqb}
 use lib.ListN.{length, drop}
 use Rattle.rules.specs.Fresh.{fresh}
-use Rattle.rules.specs.Tables.{mostLevels, tables, withState, LEVELS, levels}
-use Rattle.rules.specs.Log.{versionOf, readIn, argumentBytes}
+use Rattle.rules.specs.Tables.{mostLevels, tables, raisedState, levels}
+use Rattle.rules.specs.Log.{versionOf, firstEdition, secondEdition, readIn, argumentBytes}
 use Rattle.rules.specs.Text.{lineText, lineFeed, wordText, endWord, cutWord, lengthWord, versionWord}
 use Rattle.rules.specs.Replay.{recordCall}
 use Rattle.rules.specs.declared.Read.{Read}
@@ -61,9 +61,11 @@ partFor (Cut k) s o at n t rest = over (Cut k) s o n t
 partFor (Length k) s o at n t rest = over (Length k) s o n t
 partFor (Version k) s o at n t rest = over (Version k) s o n t
 
--- No. 14: "The first record decides for the whole log": once it is read, the tables' levels tell its version
+-- No. 14: "The first record decides for the whole log": the version that a record must have, by the tables' levels. Before the first record `begun` has
+-- set them by its version, and no call changes them. Where that is neither 1 nor 2 they are 16; the first record has another version than 1 then, and
+-- is the fault.
 unfoldable pub versionBy : List ℕ → ℕ
-versionBy st = if (eqb (levels st) mostLevels) 2 1
+versionBy st = if (eqb (levels st) mostLevels) secondEdition firstEdition
 
 -- a record needs twenty bytes; where nothing follows the part, what is there is looked at
 abbrev pub readable : Bool → List ℕ → ℕ → Bool
@@ -79,9 +81,10 @@ partFrom (suc k) last s o at n t =
 unfoldable pub partOf : Bool → List ℕ → ℕ → ℕ → Tables → Left
 partOf last s o n t = partFrom (suc (length s / 20)) last s o 0 n t
 
--- No. 14: "Log version 2 .. means 32 levels": until a record is read, a log that begins with these bytes sets the levels, as soon as its version is there
+-- No. 14: "Log version 2 .. means 32 levels": the state after n records, with bytes s to come. As long as n is 0, s is the log's beginning: if its third byte
+-- is there and is 2, the tables get 32 levels. Else they stay.
 unfoldable pub begunState : ℕ → List ℕ → List ℕ → List ℕ
-begunState n s st = if (eqb n 0 && eqb (versionOf s) 2) (withState st LEVELS mostLevels) st
+begunState n s st = if (eqb n 0 && eqb (versionOf s) secondEdition) (raisedState st) st
 
 abbrev pub begun : ℕ → List ℕ → Tables → Tables
 begun n s t =

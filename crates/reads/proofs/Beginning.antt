@@ -3,7 +3,7 @@ use Prim.Native.Nat.{ℕ}
 use mathlib.Core.Bool.{_&&_}
 use mathlib.Core.List.{List}
 use lib.Dec.{eqb}
-use Rattle.rules.specs.Tables.{mostLevels, tables, withState, LEVELS}
+use Rattle.rules.specs.Tables.{tables, raisedState}
 use Rattle.rules.specs.Log.{versionOf}
 use Rattle.rules.specs.declared.Tables.{Tables}
 use Rattle.laws.proofs.Calls.{chosen}
@@ -17,7 +17,7 @@ begun-safe n s t safe =
     chosen
     (λ (st : List ℕ). Safe (tables (t .tasks) (t .lines) (t .semaphores) (t .events) (t .mailboxes) (t .swis) (t .clocks) (t .heap) st))
     (eqb n 0 && eqb (versionOf s) 2)
-    (withState (t .state) LEVELS mostLevels)
+    (raisedState (t .state))
     (t .state)
     (λ _. record { typed = raised-typed t (safe .typed); sound = raised-sound t (safe .typed) (safe .sound) })
     (λ _. safe)

@@ -26,24 +26,24 @@ ghost use Rattle.parts.specs.Part.{versionBy, begunState, lastText};
 ghost use Rattle.kernel.specs.Safe.{Safe};
 ghost use Rattle.reads.specs.Done.{callIn, ranTo, oneFor, Went};
 
-// No. 14: 'The first record decides for the whole log': until a record is read, a log that begins
-// with these bytes sets the levels of its tables, as soon as its version is there.
+// No. 14: 'The first record decides for the whole log'. As long as no record was read, these bytes
+// are the log's beginning: if its version is there and is 2, the tables get 32 levels.
 pub fn begin(state: &mut State, log: &[u8], count: u64)
     ensures { λ _. ⌜ now (state .exit) ≡ begunState count (now (log .entry)) (now (state .entry)) ⌝ }
 {
-    if (count == 0) & (calllog::version_of(log) == 2) {
+    if (count == 0) & (calllog::version_of(log) == calllog::SECOND_EDITION) {
         state[words::LEVELS] = rules::MOST_LEVELS;
     }
 }
 
-// The version that the records of a log have, by the levels of its tables.
+// The version that a record of the log must have, by the levels of its tables.
 pub fn version_by(state: &State) -> u8
     ensures { λ r. ⌜ r ≡ versionBy (now (state .entry)) ⌝ }
 {
     if rows::answers::levels(state) == rules::MOST_LEVELS {
-        return 2;
+        return calllog::SECOND_EDITION;
     }
-    1
+    calllog::FIRST_EDITION
 }
 
 // The call of a record, by where its argument bytes start and its number.

@@ -8,7 +8,7 @@ use lib.Dec.{eqb, ltb, leb}
 use lib.ListN.{getD}
 use Rattle.fold.specs.Lists.{count, allOf}
 use Rattle.rules.specs.Answer.{Cases, T, S, I, unused}
-use Rattle.rules.specs.Tables.{taskCount, swiCount, semaphoreCount, eventCount, mailboxCount, clockCount, heapUnits, levels, minusOne, forever, mailboxMost, terminated, inactive, task, swi, semaphore, event, mailbox, clock, state, current, USED, KIND, COUNT, BITS, CAPACITY, MESSAGES, POSTED, DEPTH, SWIS}
+use Rattle.rules.specs.Tables.{taskCount, swiCount, semaphoreCount, eventCount, mailboxCount, clockCount, heapUnits, swiLevels, levels, minusOne, forever, mailboxMost, terminated, inactive, task, swi, semaphore, event, mailbox, clock, state, current, USED, KIND, COUNT, BITS, CAPACITY, MESSAGES, POSTED, DEPTH, SWIS}
 use Rattle.rules.specs.Lines.{semaphoreLine, eventLine, mailboxLine, anyone, first}
 use Rattle.rules.specs.Waits.{switchOff, idle}
 use Rattle.rules.specs.Tasks.{isPriority, freeTask, blocked}
@@ -164,7 +164,7 @@ valueOf q k = if (eqb k 3 || eqb k 11) (objectTable q) 0
 abbrev pub badSwitches : ℕ → Bool
 badSwitches which = eqb which 0 || ltb 3 which
 
--- priorities of 00 and 02; 05 "n = 4,294,967,295 is 4"; 10 "priority 0 to 15"; 20 "kinds 0 .. 3", "count to 65,535 or 1"; 24 "count as in 20";
+-- priorities of 00 and 02, by the number of levels (No. 14); 05 "n = 4,294,967,295 is 4"; 10 "priority 0 to 15"; 20 "kinds 0 .. 3", "count to 65,535 or 1"; 24 "count as in 20";
 -- 32 "both masks 0 is 4"; 40 capacity 1 to 8; 50 "first ticks from 1"; 60 "bytes 1 to 2,048"; 61 "a live block's start, and bytes that round up
 -- to its size"; No. 10: 77, 78 "4 for 0, for values above 3, or for key bits not named"
 unfoldable pub badValue : Tables → Asked → Bool
@@ -172,7 +172,7 @@ badValue t q =
     if (among (0x00 ∷ []) q) (not (isPriority (levels (t .state)) (q .a)))
     (if (among (0x02 ∷ []) q) (not (isPriority (levels (t .state)) (q .b)))
     (if (among (0x05 ∷ []) q) (eqb (q .a) forever)
-    (if (among (0x10 ∷ []) q) (not (ltb (q .a) 16))
+    (if (among (0x10 ∷ []) q) (not (ltb (q .a) swiLevels))
     (if (among (0x20 ∷ []) q) (not (ltb (q .a) 4) || not (leb (q .b) (most (q .a))))
     (if (among (0x24 ∷ []) q) (not (leb (q .b) (most (semaphore (t .semaphores) (q .a) KIND))))
     (if (among (0x32 ∷ []) q) (eqb (q .b) 0 && eqb (q .c) 0)

@@ -17,7 +17,7 @@ use rules::Tasks;
 ghost use mathlib.Core.Path.{_≡_};
 ghost use Rattle.rules.specs.Fresh.{freshWith};
 
-// Fresh tables of so many levels: task 0 only, both switches on, depth 0, tick 0, heap free.
+// Fresh tables of so many levels: task 0 only, both switches on, depth 0, tick 0, heap free. The number is not tested here: `entries::fresh` does.
 pub fn fresh(levels: u32) -> Tables
     ensures { λ r. ⌜ r ≡ freshWith levels ⌝ }
 {

@@ -1,5 +1,5 @@
 -- The soundness of tables after a call, tested anew only where the call changed them: this agrees with `sound` on all tables, and the
--- examples are computed by it. The table of lines is walked row by row, and not from its start for each of the 65 lines.
+-- examples are computed by it. The table of lines is walked row by row, and not from its start for each line.
 use Prim.Native.Nat.{ℕ, zero, suc, _+_, _*_, _/_, min}
 use mathlib.Core.Path.{_≡_, refl, sym, ap, ap₂, _∙_, fun-ext}
 use mathlib.Core.Bool.{Bool, true, false, _&&_, _||_, cond as if, and-eq-true-iff}
@@ -13,7 +13,7 @@ use Rattle.fold.specs.Lists.{allOf, reads}
 use Rattle.fold.specs.Find.{allBelow}
 use Rattle.fold.specs.Rule.{holds}
 use Rattle.rules.specs.Rows.{behind}
-use Rattle.rules.specs.Tables.{taskCount, swiCount, levels}
+use Rattle.rules.specs.Tables.{taskCount, swiCount, fewLevels, mostLevels, levels}
 use Rattle.rules.specs.Lines.{taskHome, swiHome, lineCount, lineMost, lineWidth}
 use Rattle.rules.specs.Sound.{sound, stateRule, heapRule, clocksRule, tasksRule, linesRule, membersRule, onceRule, semaphoresRule, eventsRule}
 use Rattle.rules.specs.Sound.{mailboxesRule, swisRule, activeRule, dispatchRule}
@@ -272,7 +272,7 @@ pub fresh-sound : sound fresh ≡ true
 unfolding computed
 fresh-sound = refl
 
-either-sound : (b : Bool) → sound (freshWith (if b 32 16)) ≡ true
+either-sound : (b : Bool) → sound (freshWith (if b mostLevels fewLevels)) ≡ true
 unfolding computed
 either-sound true = refl
 either-sound false = refl

@@ -5,7 +5,7 @@ use mathlib.Core.List.{List}
 use lib.Dec.{eqb, ltb}
 use Rattle.fold.specs.Find.{highestBelow}
 use Rattle.rules.specs.Answer.{T, S, I}
-use Rattle.rules.specs.Tables.{levels, swi, withSwi, state, withState, current, PRIORITY, INITIAL, TRIGGER, POSTED, TAKEN, DEPTH, SWIS, TASKS, CURRENT}
+use Rattle.rules.specs.Tables.{swiLevels, levels, swi, withSwi, state, withState, current, PRIORITY, INITIAL, TRIGGER, POSTED, TAKEN, DEPTH, SWIS, TASKS, CURRENT}
 use Rattle.rules.specs.Lines.{anyone, first, left, joined, postedLine, activeLine, readyLine}
 use Rattle.rules.specs.Swis.{Posts, posts, top}
 use Rattle.rules.specs.declared.Thread.{Thread}
@@ -22,7 +22,7 @@ context ls st = if (ltb 0 (state st DEPTH)) I (if (anyone ls activeLine) S T)
 -- ---- Swis: "at depth 0 with Swis on: if the highest posted Swi is above the top active one, or none is active, the first at its priority starts"
 -- one more than the highest priority at which a Swi is posted; 0 where none is
 unfoldable pub highestPosted : List ℕ → ℕ
-highestPosted ls = highestBelow 16 (λ p. anyone ls (postedLine p))
+highestPosted ls = highestBelow swiLevels (λ p. anyone ls (postedLine p))
 
 -- one more than the top active Swi's priority; 0 where none is active
 unfoldable pub activeLevel : List ℕ → List ℕ → ℕ

@@ -19,18 +19,25 @@ wordAt s at = halfAt s at * 65536 + halfAt s (at + 2)
 abbrev pub versionOf : List ℕ → ℕ
 versionOf s = getD s 2 0
 
--- No. 14: "Log version 2 has the same layout and means 32 levels; a version 1 log replays with 16 as today."
+-- the log's editions
+abbrev pub firstEdition : ℕ
+firstEdition = 1
+
+abbrev pub secondEdition : ℕ
+secondEdition = 2
+
+-- No. 14: "Log version 2 has the same layout and means 32 levels; a version 1 log replays with 16 as today."; a log of another version has no record
 abbrev pub levelsFor : ℕ → ℕ
-levelsFor v = if (eqb v 2) mostLevels fewLevels
+levelsFor v = if (eqb v secondEdition) mostLevels fewLevels
 
 -- No. 14: "neither 1 nor 2" is no version
 abbrev pub isVersion : ℕ → Bool
-isVersion v = eqb v 1 || eqb v 2
+isVersion v = eqb v firstEdition || eqb v secondEdition
 
 -- "A record is 20 bytes: length 00 12, big-endian, counting what follows; version 01; call number; four arguments of four big-endian bytes."
 -- "None left is the end, a position past the log `cut`". "Faults, first found first: exactly 1 byte left, `cut`; length not 18, `length`; fewer
 -- than 18 after it, `cut`; version not 1, `version`; each with the record's byte offset from 0."
--- No. 14: "a record whose version differs from the first record's, or is neither 1 nor 2, is the fault `version`"; v is the first record's.
+-- Amended by No. 14: "a record whose version differs from the first record's, or is neither 1 nor 2, is the fault `version`"; v is the first record's.
 unfoldable pub readIn : ℕ → List ℕ → ℕ → Read
 readIn v s at =
     if (ltb (length s) at) (Cut at)
@@ -41,7 +48,7 @@ readIn v s at =
     (if (isVersion v && eqb (getD s (at + 2) 0) v) (Record (getD s (at + 3) 0) (at + 4)) (Version at)))
     (Length at))))
 
--- what stands at a position of a log that is whole
+-- what stands at a position of a whole log
 abbrev pub readAt : List ℕ → ℕ → Read
 readAt s at = readIn (versionOf s) s at
 

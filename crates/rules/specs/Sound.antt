@@ -7,7 +7,7 @@ use lib.ListN.{length, getD}
 use Rattle.fold.specs.Lists.{count}
 use Rattle.fold.specs.Rule.{Rule, _is_, _isnt_, _under_, test, _and_, _or_, _gives_, each, every, holds, Means}
 use Rattle.rules.specs.Rows.{behind}
-use Rattle.rules.specs.Tables.{taskCount, swiCount, semaphoreCount, eventCount, mailboxCount, mailboxWidth, mailboxMost, clockCount, heapUnits, fewLevels, mostLevels, levels, minusOne, forever, notInUse, ready, sleeping, atSemaphore, atEvent, reading, writing, terminated, inactive, task, semaphore, event, mailbox, swi, clock, state, USED, KIND, COUNT, BITS, CAPACITY, MESSAGES, PRIORITY, INITIAL, TRIGGER, POSTED, TAKEN, DEPTH, SWIS, TASKS, CURRENT, LEVELS}
+use Rattle.rules.specs.Tables.{taskCount, swiCount, semaphoreCount, eventCount, mailboxCount, mailboxWidth, mailboxMost, clockCount, heapUnits, fewLevels, mostLevels, swiLevels, levels, minusOne, forever, notInUse, ready, sleeping, atSemaphore, atEvent, reading, writing, terminated, inactive, task, semaphore, event, mailbox, swi, clock, state, USED, KIND, COUNT, BITS, CAPACITY, MESSAGES, PRIORITY, INITIAL, TRIGGER, POSTED, TAKEN, DEPTH, SWIS, TASKS, CURRENT, LEVELS}
 use Rattle.rules.specs.Lines.{lineCount, lineMost, lineWidth, semaphoreLine, mailboxLine, eventLine, postedLine, activeLine, line, first, taskHome, swiHome}
 use Rattle.rules.specs.Semaphores.{most}
 use Rattle.rules.specs.Events.{matched}
@@ -30,6 +30,7 @@ idleRule k = (k .mode is ready) and (k .priority is 0) and noWait k and (k .outc
 abbrev pub waitRule : Task → ℕ → Rule
 waitRule k n = (k .object under n) and (k .left under forever)
 
+-- No. 14: "sound tables and code 4's range read with it": n is the number of levels
 unfoldable pub otherRule : ℕ → Task → Rule
 otherRule n k =
     (k .mode under 9)
@@ -116,7 +117,7 @@ swiRule ws ls i =
     (swi ws i USED under 2)
     and (swi ws i USED is 0
     gives (swi ws i PRIORITY is 0) and (swi ws i INITIAL is 0) and (swi ws i TRIGGER is 0) and (swi ws i POSTED is 0))
-    and (swi ws i PRIORITY under 16)
+    and (swi ws i PRIORITY under swiLevels)
     and (swi ws i POSTED under 2)
     and (count i (line ls activeLine) is 0 gives swi ws i TAKEN is 0)
 
@@ -144,7 +145,8 @@ clocksRule cs ws = each clockCount (λ n. clockRule ws (clock cs n))
 abbrev pub heapRule : List ℕ → Rule
 heapRule h = each heapUnits (λ u. (unit h u under 3) and (unit h u is laterIn gives (u isnt 0) and (unit h (u - 1) isnt free)))
 
--- ---- the state: "Interrupt depth 0 to 8; a switch for Swis and one for tasks"; "The current task is ready"
+-- ---- the state: "Interrupt depth 0 to 8; a switch for Swis and one for tasks"; "The current task is ready"; No. 14: "The number of levels, 16 or
+-- 32"
 abbrev pub stateRule : List ℕ → List ℕ → Rule
 stateRule ts st =
     (state st DEPTH under 9)

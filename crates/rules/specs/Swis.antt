@@ -8,7 +8,7 @@ use lib.ListN.{length, getD}
 use Rattle.fold.specs.Lists.{zeros, count}
 use Rattle.fold.specs.Find.{allBelow, firstBelow}
 use Rattle.rules.specs.Answer.{Cases, given, onObject, never, Call, called, After, accepted, unknown, done, notT, notS, unused}
-use Rattle.rules.specs.Tables.{swiCount, swiWidth, clockCount, wordEnd, swi, withSwi, swiRow, clock, state, USED, PRIORITY, TRIGGER, POSTED, TAKEN, SWIS}
+use Rattle.rules.specs.Tables.{swiCount, swiWidth, swiLevels, clockCount, wordEnd, swi, withSwi, swiRow, clock, state, USED, PRIORITY, TRIGGER, POSTED, TAKEN, SWIS}
 use Rattle.rules.specs.Lines.{line, left, joined, postedLine, activeLine}
 
 -- what a Swi's calls may change
@@ -58,7 +58,7 @@ cleared v mask = bitAnd v (wordEnd - 1 - mask)
 -- ---- "10 create (priority 0 to 15, initial trigger; T): value its number."
 unfoldable pub createCases : List ℕ → ℕ → ℕ → ℕ → ℕ → ℕ → Cases
 createCases ws x a b c d =
-    given 2 (notT x) (given 4 (not (ltb a 16) || unused 0 0 c d) (given 6 (eqb (freeSwi ws) swiCount) never))
+    given 2 (notT x) (given 4 (not (ltb a swiLevels) || unused 0 0 c d) (given 6 (eqb (freeSwi ws) swiCount) never))
 
 unfoldable pub createEffect : Posts → ℕ → ℕ → After Posts
 createEffect p a b =

@@ -54,9 +54,13 @@ clockWidth = 5
 abbrev pub fewLevels : ℕ
 fewLevels = 16
 
--- No. 14: "With 32, priorities run to 31": a ready queue is kept for each of so many
+-- No. 14: "With 32, priorities run to 31": thirty-two levels. The lines have a ready queue for each, in use or not.
 abbrev pub mostLevels : ℕ
 mostLevels = 32
+
+-- "priority 0 to 15": Swis keep sixteen levels, for No. 14 speaks of "task priority levels"
+abbrev pub swiLevels : ℕ
+swiLevels = 16
 
 -- "One heap of 256 units of 8 bytes"
 abbrev pub heapUnits : ℕ
@@ -193,7 +197,7 @@ withClock cs i c = withRow clockWidth clockCount cs i (clockWords c)
 abbrev pub noClock : Clock
 noClock = record { used = 0; swi = 0; first = 0; period = 0; left = 0 }
 
--- ---- the state: "Interrupt depth 0 to 8; a switch for Swis and one for tasks; the tick count", and the current task
+-- ---- the state: "Interrupt depth 0 to 8; a switch for Swis and one for tasks; the tick count"; the current task; and the number of levels
 abbrev pub state : List ℕ → ℕ → ℕ
 state st f = getD st f 0
 
@@ -272,9 +276,11 @@ tables ts ls ss es ms ws cs h st =
     record { tasks = ts; lines = ls; semaphores = ss; events = es; mailboxes = ms; swis = ws; clocks = cs; heap = h; state = st }
 
 -- the same tables with the most levels
+abbrev pub raisedState : List ℕ → List ℕ
+raisedState st = withState st LEVELS mostLevels
+
 abbrev pub raised : Tables → Tables
-raised t =
-    tables (t .tasks) (t .lines) (t .semaphores) (t .events) (t .mailboxes) (t .swis) (t .clocks) (t .heap) (withState (t .state) LEVELS mostLevels)
+raised t = tables (t .tasks) (t .lines) (t .semaphores) (t .events) (t .mailboxes) (t .swis) (t .clocks) (t .heap) (raisedState (t .state))
 
 -- what their types say of them: each array's length. That a word is below 4,294,967,296 and a byte below 256 is said by its type too, and
 -- no rule repeats it.

@@ -10,7 +10,7 @@ use Rattle.rules.specs.Lines.{Queued, queued, moved, atBack}
 use Rattle.rules.specs.Waits.{switchOff, idle, waiting}
 use Rattle.rules.specs.declared.Task.{Task}
 
--- "Task priorities -1 and 1 to 15", with n levels
+-- "Task priorities -1 and 1 to 15"; No. 14: "With 32, priorities run to 31": with n levels -1, and 1 to n - 1
 unfoldable pub isPriority : ℕ → ℕ → Bool
 isPriority n p = eqb p minusOne || (ltb 0 p && ltb p n)
 

@@ -11,7 +11,7 @@ use Rattle.rules.specs.declared.Read.the-variants.{Record, End, Cut, Version}
 use Rattle.rules.proofs.Faster.{faster-replay, quickly}
 use Rattle.rules.proofs.Runs.{T, S, I, ascii}
 
--- a record of version v with this call number, and one of call 7f, which there is none of
+-- a record of version v with this call number, and one of 7f, no call's number
 abbrev pub of : ℕ → ℕ → List ℕ
 of v number = 0x00 ∷ 0x12 ∷ v ∷ number ∷ zeros 16
 
@@ -46,11 +46,15 @@ pub record Logs : Type 0 where
   pub then-2 : replayLines (of 1 0x7f ++ of 2 0x7f) ≡ ascii "1 1 0 0 T0" ∷ ascii "version 20" ∷ []
   pub then-cut : replayLines (of 1 0x7f ++ (0x00 ∷ 0x12 ∷ 0x02 ∷ zeros 16)) ≡ ascii "1 1 0 0 T0" ∷ ascii "cut 20" ∷ []
   pub then-length : replayLines (of 1 0x7f ++ (0x00 ∷ 0x13 ∷ 0x02 ∷ zeros 17)) ≡ ascii "1 1 0 0 T0" ∷ ascii "length 20" ∷ []
-  -- at any position "the first record decides": behind one of version 2, and behind one of no version
+  -- at any position "the first record decides": behind one of version 2, and behind one of version 3
   pub behind-2 : readAt (of 2 0x7f ++ of 1 0x7f) 20 ≡ Version 20
   pub behind-2-too : readAt (of 2 0x7f ++ of 2 0x7f) 20 ≡ Record 0x7f 24
   pub behind-3 : readAt (of 3 0x7f ++ of 3 0x7f) 20 ≡ Version 20
   pub behind-3-too : readAt (of 3 0x7f ++ of 1 0x7f) 20 ≡ Version 20
+  -- whatever stands around its version: a first record of wrong length, and one that is cut
+  pub behind-length : readAt (0x00 ∷ 0x13 ∷ 0x02 ∷ (zeros 17 ++ of 2 0x7f)) 20 ≡ Record 0x7f 24
+  pub behind-length-too : readAt (0x00 ∷ 0x13 ∷ 0x02 ∷ (zeros 17 ++ of 1 0x7f)) 20 ≡ Version 20
+  pub cut-2 : replayLines (0x00 ∷ 0x12 ∷ 0x02 ∷ zeros 16) ≡ ascii "cut 0" ∷ []
   -- "Log version 2 has the same layout and means 32 levels; a version 1 log replays with 16 as today." "With 32, priorities run to 31."
   pub with-16 : replayLines to-15 ≡ ascii "1 0 0 1 T1" ∷ ascii "2 4 0 0 T1" ∷ ascii "end 2" ∷ []
   pub with-32 : replayLines to-31 ≡ ascii "1 0 0 1 T1" ∷ ascii "2 0 0 2 T2" ∷ ascii "3 4 0 0 T2" ∷ ascii "end 3" ∷ []
@@ -84,6 +88,9 @@ logs =
       behind-2-too = refl;
       behind-3 = refl;
       behind-3-too = refl;
+      behind-length = refl;
+      behind-length-too = refl;
+      cut-2 = refl;
       with-16 = faster-replay to-15 ∙ refl;
       with-32 = faster-replay to-31 ∙ refl;
       cut-40 = refl;

@@ -3,7 +3,7 @@ use mathlib.Core.Path.{_≡_, refl}
 use mathlib.Core.Bool.{true}
 use mathlib.Core.List.{List, [], _∷_}
 use Rattle.rules.specs.Tables.{forever, minusOne, sleeping, USED, KIND, COUNT, BITS, CAPACITY, MESSAGES, PRIORITY, INITIAL, TRIGGER, POSTED}
-use Rattle.rules.specs.Tables.{TAKEN, DEPTH, SWIS, TASKS, CURRENT}
+use Rattle.rules.specs.Tables.{TAKEN, DEPTH, SWIS, TASKS, CURRENT, LEVELS}
 use Rattle.rules.specs.Lines.{semaphoreLine, mailboxLine, eventLine, postedLine, activeLine, readyLine}
 use Rattle.rules.specs.Sound.{sound}
 use Rattle.rules.proofs.Computed.{computed}
@@ -26,6 +26,12 @@ states =
     -- asleep, and terminated
     ∷ stateIs CURRENT 2 breaks whole of-state
     ∷ stateIs CURRENT 7 breaks whole of-state
+    -- No. 14: "The number of levels, 16 or 32"
+    ∷ stateIs LEVELS 0 breaks whole of-state
+    ∷ stateIs LEVELS 15 breaks whole of-state
+    ∷ stateIs LEVELS 17 breaks whole of-state
+    ∷ stateIs LEVELS 31 breaks whole of-state
+    ∷ stateIs LEVELS 33 breaks whole of-state
     ∷ []
 
 -- ---- "A heap entry is free, first of a block or later in one; a later one never stands first or after a free one."

@@ -8,7 +8,7 @@ use native.Mathlib.Omega.{arith}
 use lib.Dec.{eqb}
 use lib.ListN.{length}
 use borrow.Author.Tests.{eqb-true, lt-ltb, le-ltb}
-use Rattle.rules.specs.Tables.{fewLevels, mostLevels, levels, state, current, LEVELS}
+use Rattle.rules.specs.Tables.{fewLevels, mostLevels, levels, state, current, LEVELS, raisedState}
 use Rattle.rules.specs.Answer.{Call}
 use Rattle.rules.specs.Lines.{Queued}
 use Rattle.rules.specs.Waits.{Served, switchOff, idle}
@@ -22,7 +22,7 @@ use Rattle.rules.specs.Events as Events
 use Rattle.rules.specs.Mailboxes.{mailboxCall}
 use Rattle.rules.specs.Mailboxes as Mailboxes
 use Rattle.rules.specs.Dispatch.{context, running}
-use Rattle.keeps.proofs.Raised.{raisedState, raised-levels, raised-depth, raised-swis, raised-tasks, raised-current}
+use Rattle.keeps.proofs.Raised.{raised-levels, raised-depth, raised-swis, raised-tasks, raised-current}
 use Rattle.twins.specs.Twin.{Low, LowCall}
 
 -- a choice is another one's image where both its cases are

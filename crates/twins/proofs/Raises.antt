@@ -8,7 +8,7 @@ use native.Mathlib.Omega.{arith}
 use lib.Dec.{eqb}
 use lib.ListN.{length, length-set}
 use Rattle.rules.specs.Answer.{After, Call, codeOf, answered}
-use Rattle.rules.specs.Tables.{Typed, raised, fewLevels, mostLevels, state, CURRENT, LEVELS}
+use Rattle.rules.specs.Tables.{Typed, raised, fewLevels, mostLevels, state, CURRENT, LEVELS, raisedState}
 use Rattle.rules.specs.Lines.{queued}
 use Rattle.rules.specs.Waits.{served}
 use Rattle.rules.specs.Swis.{Posts, posts}
@@ -23,7 +23,7 @@ use Rattle.laws.proofs.Calls.{chosen, mapped, mapped-guarded}
 use Rattle.laws.proofs.Levels.{dispatch-keeps, step-keeps}
 use Rattle.keeps.proofs.Groups.{Words}
 use Rattle.keeps.proofs.Keeps.{step-typed, step-sound}
-use Rattle.keeps.proofs.Raised.{raisedState, raised-levels, raised-swi-due, raised-task-due, raised-front, raised-sound}
+use Rattle.keeps.proofs.Raised.{raised-levels, raised-swi-due, raised-task-due, raised-front, raised-sound}
 use Rattle.twins.specs.Twin.{LowCall, CallsAlike}
 use Rattle.twins.proofs.KindCalls.{alike, levels-few, context-same, running-same, tasks-alike, swis-alike, semaphores-alike, events-alike, mailboxes-alike}
 use Rattle.twins.proofs.Switched.{store-aside, switches-alike}

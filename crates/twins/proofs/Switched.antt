@@ -8,12 +8,12 @@ use native.Mathlib.Omega.{arith}
 use lib.Bits.{bitAnd}
 use lib.Dec.{eqb, ltb}
 use lib.Seq.{set-comm}
-use Rattle.rules.specs.Tables.{mostLevels, state, withState, DEPTH, SWIS, TASKS, TICK, LEVELS}
+use Rattle.rules.specs.Tables.{mostLevels, state, withState, DEPTH, SWIS, TASKS, TICK, LEVELS, raisedState}
 use Rattle.rules.specs.Answer.{after, Call, called}
 use Rattle.rules.specs.Switches.{swisBit, tasksBit, has, on, off, turned, inCases, offEffect, restoreEffect, inEffect, outEffect}
 use Rattle.rules.specs.Tick.{Ticked, tickedOf, ticked, switchCall}
 use Rattle.laws.proofs.Calls.{mapped}
-use Rattle.keeps.proofs.Raised.{raisedState, raised-word, raised-depth, raised-swis, raised-tasks}
+use Rattle.keeps.proofs.Raised.{raised-word, raised-depth, raised-swis, raised-tasks}
 use Rattle.twins.proofs.KindCalls.{alike}
 
 abbrev pub raisedTicked : Ticked → Ticked

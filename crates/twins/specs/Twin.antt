@@ -1,4 +1,5 @@
--- No. 14: "A log of version 2 that uses no priority above 15 replays as its version 1 twin": the statements.
+-- What follows from No. 14's "a version 1 log replays with 16 as today": a log of version 2 that names no task priority of 16 to 31 replays as its
+-- twin of version 1. The statements.
 use Prim.Native.Nat.{ℕ, suc, _%_, _<_, _≤_}
 use mathlib.Core.Path.{_≡_}
 use mathlib.Core.Logic.{_≢_, _⊎_, _↔_}
@@ -36,7 +37,7 @@ CallsAlike =
 abbrev pub Bytes : List ℕ → Type 0
 Bytes s = (i : ℕ) → getD s i 0 < 256
 
--- log w is the version 1 twin of log s: the first version in s is 2, w has version 1 exactly where s has version 2 (the third of each 20 bytes),
+-- log w is the version 1 twin of log s: the first version in s, if it has one, is 2; w has version 1 exactly where s has version 2 (the third of each 20 bytes),
 -- and a byte that is no version is the same in both
 pub record Twins (s w : List ℕ) : Type 0 where
   pub long : length w ≡ length s
@@ -55,7 +56,7 @@ twinFrom place (x ∷ xs) = if (eqb (place % 20) 2) (exchanged x) x ∷ twinFrom
 abbrev pub HasTwin : Type 0
 HasTwin = (s : List ℕ) → (2 < length s → getD s 2 0 ≡ 2) → Twins s (twinFrom 0 s)
 
--- no record of the log names one of the priorities 16 to 31
+-- no record of the log names one of the priorities 16 to 31, also behind a fault
 pub record LowLog (s : List ℕ) : Type 0 where
   pub records : (at number start : ℕ) → at % 20 ≡ 0 → readAt s at ≡ Record number start
       → LowCall number (argument (argumentBytes s start) 0) (argument (argumentBytes s start) 1)

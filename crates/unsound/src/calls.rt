@@ -77,7 +77,7 @@ pub(crate) fn try_sound(name: &[u8], t: Tables) {
     interrupt_in(1, t);
 }
 
-// The tables in which a rule is broken: that a task is due shows where tasks were held back, and priorities above 15 where there are 32 levels.
+// The tables in which a rule is broken: the held ones for `Overtaken`, the wide ones for `Levels`, the busy ones for all others.
 fn sound_tables(rule: Rule) -> Tables {
     if let Rule::Overtaken = rule {
         return held();

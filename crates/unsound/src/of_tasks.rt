@@ -79,7 +79,7 @@ pub(crate) fn levels(n: u32) -> Change {
         2 => Change::Task(2, PRIORITY, 32),
         3 => Change::Task(7, PRIORITY, 32),
         4 => Change::Task(2, PRIORITY, 0),
-        // priorities 31 and 16 with 16 levels
+        // priorities 31 and 16 with 16 levels; and another number of levels
         5 => Change::State(LEVELS, 16),
         6 => Change::State(LEVELS, 17),
         // a queue above 15: task 9, which is ready at 3; nobody any more; one who is not ready
