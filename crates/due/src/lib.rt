@@ -5,19 +5,19 @@ use rules::State;
 use rules::Swis;
 ghost use mathlib.Core.Path.{_≡_};
 ghost use mathlib.Core.Bool.{not};
-ghost use Prim.Native.Nat.{ℕ, _-_, _^_, _≤_, min};
+ghost use Prim.Native.Nat.{ℕ, _+_, _-_, _^_, _≤_, min};
 ghost use Rattle.fold.specs.Lists.{bit};
-ghost use Rattle.fold.specs.Find.{wordBelow};
+ghost use Rattle.fold.specs.Find.{wordBelow, highestBelow};
 ghost use Rattle.rules.specs.Tables.{levels};
 ghost use Rattle.rules.specs.Lines.{anyone, readyLine};
 ghost use Rattle.rules.specs.Dispatch.{highestPosted, activeLevel, swiDue};
 ghost use Rattle.rules.specs.Dispatch.{highestReady, front, taskDue};
 
-// How many ready queues are in use, few or most, and how many queues of posted Swis there are,
-// one for each priority from 0 on.
+// How many ready queues there are with 16 levels, one for each priority from 0 on, and as many
+// above them with 32; and how many queues of posted Swis.
 const FEW_LEVELS: usize = 16;
 
-const MOST_LEVELS: usize = 32;
+const MORE_LEVELS: usize = 16;
 
 const SWI_LEVELS: usize = 16;
 
@@ -73,40 +73,45 @@ fn ones(n: usize) -> u32
     u32::MAX
 }
 
-// No. 6: 'a word with one bit for each non-empty queue', of the first n ready queues: bit p for
-// priority p. There is room for 32; queues past them are left out. The word of the empty queues
-// is made from the highest down, and the others are the bits that it leaves. For a fixed n that
-// compiles to no branch, and to fewer instructions than if a bit were put in for each queue that
-// is not empty.
-fn ready_queues(lines: &Lines, n: usize) -> u32
-    ensures { λ r. ⌜ r ≡ wordBelow (min n 32) (λ p. anyone (now (lines .entry)) (readyLine p)) ⌝ }
+// No. 6: 'a word with one bit for each non-empty queue', of the n ready queues from priority
+// `from` on: bit p for priority from + p. There is room for 32; queues past them are left out.
+// The word of the empty queues is made from the highest down, and the others are the bits that
+// it leaves. For a fixed n of up to 16 that compiles to no branch, and to fewer instructions than
+// if a bit were put in for each queue that is not empty.
+fn ready_queues(lines: &Lines, from: u8, n: usize) -> u32
+    ensures { λ r. ⌜ r ≡ wordBelow (min n 32) (λ p. anyone (now (lines .entry)) (readyLine (from + p))) ⌝ }
 {
+    let first = fold::wide(from);
     let mut empties = 0;
     let mut p = rows::lines::least(n, WORD_BITS);
     while 0 < p {
         p -= 1;
-        empties = empties * 2 + empty(lines, READY_LINES + p);
+        empties = empties * 2 + empty(lines, READY_LINES + (first + p));
     }
     ones(n) - empties
 }
 
-// Of the first n ready queues, up to 32: one more than the highest priority at which a task is
-// ready; 0 where none is. No. 6: 'find the top one by the count of leading zeros'.
-fn highest_of(lines: &Lines, n: usize) -> usize
-    ensures { λ r. ⌜ (r ≡ highestReady (min n 32) (now (lines .entry))) × (r ≤ 32) ⌝ }
+// Of these queues, one more than the place of the highest that is not empty; 0 where all are.
+// No. 6: 'find the top one by the count of leading zeros'.
+fn highest_from(lines: &Lines, from: u8, n: usize) -> usize
+    ensures { λ r. ⌜ (r ≡ highestBelow (min n 32) (λ p. anyone (now (lines .entry)) (readyLine (from + p)))) × (r ≤ min n 32) ⌝ }
 {
-    WORD_BITS - u32::leading_zeros(ready_queues(lines, n)) as usize
+    WORD_BITS - u32::leading_zeros(ready_queues(lines, from, n)) as usize
 }
 
-// One more than the highest priority at which a task is ready; 0 where none is. Both numbers of
-// levels are named, so that each search is compiled for its own.
+// One more than the highest priority at which a task is ready; 0 where none is. With 32 levels the
+// upper half is searched first: a search of sixteen queues compiles to no loop.
 pub fn highest_ready(lines: &Lines, state: &State) -> usize
     ensures { λ r. ⌜ (r ≡ highestReady (levels (now (state .entry))) (now (lines .entry))) × (r ≤ 32) ⌝ }
 {
-    if state[words::LEVELS] == rules::MOST_LEVELS {
-        return highest_of(lines, MOST_LEVELS);
+    if state[words::LEVELS] != rules::MOST_LEVELS {
+        return highest_from(lines, 0, FEW_LEVELS);
     }
-    highest_of(lines, FEW_LEVELS)
+    let upper = highest_from(lines, 16, MORE_LEVELS);
+    if upper != 0 {
+        return FEW_LEVELS + upper;
+    }
+    highest_from(lines, 0, FEW_LEVELS)
 }
 
 // One more than the top active Swi's priority; 0 where none is active.

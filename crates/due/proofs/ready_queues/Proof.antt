@@ -11,10 +11,10 @@ use Rattle.due.proofs.ready_queues.Statement.{statement}
 use Rattle.due.proofs.ready_queues.Tie as tie
 
 abbrev Inv-loop : tie.InvT-loop
-Inv-loop lines n empties₀ p₀ empties p = Made (min n 32) (λ q. not (anyone lines (readyLine q))) p empties
+Inv-loop lines from n first empties₀ p₀ empties p = (first ≡ from) × (first < 256) × Made (min n 32) (λ q. not (anyone lines (readyLine (from + q)))) p empties
 
 abbrev μ-loop : tie.MeasureT-loop
-μ-loop lines n empties₀ p₀ empties p = p
+μ-loop lines from n first empties₀ p₀ empties p = p
 
 least-most : (n : ℕ) → min n 32 ≤ 32
 least-most n = omega arith
@@ -30,29 +30,34 @@ ready-queues-spec =
     Inv-loop
     μ-loop
     (λ c κs. search needs)
-    (λ c. rw (c .least .ensures) (made-none _ _))
+    (λ c κs. search needs)
+    (λ c. (c .before .wide .ensures .0, c .before .wide .ensures .1, rw (c .least .ensures) (made-none _ _)))
     (λ c. search needs)
-    (λ c. let at-loop = c .before .loop in omega (arith, room _ _ (omega (arith, c .loop-test .taken)) (at-loop .inv)))
+    (λ c. let at-loop = c .before .loop in omega (arith, room _ _ (omega (arith, c .loop-test .taken)) (at-loop .inv .2)))
     (λ c.
     let at-loop = c .before .loop in
-    let start = c .before .before .before in
-    omega (arith, at-loop .inv .inside, least-most (start .args .n)))
+    let start = c .before .before .before .before in
+    omega (arith, at-loop .inv .1, at-loop .inv .2 .inside, least-most (start .args .n)))
+    (λ c.
+    let at-loop = c .before .loop in
+    let start = c .before .before .before .before in
+    omega (arith, at-loop .inv .1, at-loop .inv .2 .inside, least-most (start .args .n)))
     (λ c κs. search needs)
     (λ c.
     let at-test = c .before in
     let at-loop = at-test .before .loop in
-    omega (arith, room _ _ (omega (arith, at-test .loop-test .taken)) (at-loop .inv), c .empty .ensures .1))
+    omega (arith, room _ _ (omega (arith, at-test .loop-test .taken)) (at-loop .inv .2), c .empty .ensures .1))
     (λ c. search needs)
     (λ c.
     let at-test = c .before in
     let at-loop = at-test .before .loop in
-    made-more _ _ _ (omega (arith, at-test .loop-test .taken)) (at-loop .inv) (c .empty .ensures .0))
+    (at-loop .inv .0, at-loop .inv .1, made-more _ _ _ (omega (arith, at-test .loop-test .taken)) (at-loop .inv .2) (rw (at-loop .inv .0) at (c .empty .ensures .0))))
     (λ c κs. search needs)
     (λ c.
     let at-test = c .before in
-    let empties = made-all _ _ (at-test .loop-test .left) (at-test .before .loop .inv) in
+    let empties = made-all _ _ (at-test .loop-test .left) (at-test .before .loop .inv .2) in
     rw (c .ones .ensures, empties) (le-ones _ (word-under _ _)))
     (λ c.
     let at-test = c .before in
-    let empties = made-all _ _ (at-test .loop-test .left) (at-test .before .loop .inv) in
+    let empties = made-all _ _ (at-test .loop-test .left) (at-test .before .loop .inv .2) in
     rw (c .ones .ensures, empties) (word-others _ _)))

@@ -1,19 +1,18 @@
--- `highest_of` meets its contract: leading zeros of the word of non-empty queues tell the highest of them
+-- `highest_from` meets its contract: leading zeros of the word of non-empty queues tell the highest of them
 use Prim.Native.Nat.{ℕ, _≤_, min}
 use native.Mathlib.Omega.{arith}
 use lib.Count.{leading-le}
+use Rattle.fold.proofs.Finds.{high-is}
 use Rattle.fold.proofs.Leading.{leading-highest}
-use Rattle.rules.specs.Dispatch.{highestReady}
 use borrow.Author.Needs.{needs}
-use Rattle.due.proofs.highest_of.Statement.{statement}
-use Rattle.due.proofs.highest_of.Tie as tie
+use Rattle.due.proofs.highest_from.Statement.{statement}
+use Rattle.due.proofs.highest_from.Tie as tie
 
 least-most : (n : ℕ) → min n 32 ≤ 32
 least-most n = omega arith
 
-pub highest-of-spec : {M : Type 1} → statement M
-unfolding highestReady
-highest-of-spec =
+pub highest-from-spec : {M : Type 1} → statement M
+highest-from-spec =
     tie.close
     (tie.spec
     (λ c κs. search needs)
@@ -21,4 +20,4 @@ highest-of-spec =
     (λ c. omega (arith, leading-le 32 (c .ready-queues .result)))
     (λ c.
     let highest = leading-highest 32 _ _ (least-most (c .before .args .n)) in
-    (rw (c .ready-queues .ensures) highest, omega (arith, leading-le 32 (c .ready-queues .result)))))
+    (rw (c .ready-queues .ensures) highest, rw (c .ready-queues .ensures, highest) (high-is _ _ .high))))
