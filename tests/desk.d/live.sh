@@ -27,6 +27,24 @@ sleep 1
 check 'explain of a named pipe tells each record as it comes' [ "$(grep -c '' "$room/live")" = 3 ]
 wait
 
+# The first bytes of a log of version 2 come one by one: its third byte, the version, alone too. Its first call makes a task at 31.
+in_drops() {
+    for byte in 1 2 3 4 5; do
+        tail -c "+$byte" "$room/levels.log" | head -c 1
+        sleep 0.1
+    done
+    tail -c +6 "$room/levels.log"
+}
+for command in replay explain; do
+    in_drops | "$desk/$command" >"$room/live" 2>&1
+    "$desk/$command" "$room/levels.log" >"$room/whole" 2>&1
+    check "$command: a log of version 2 in drops" cmp -s "$room/live" "$room/whole"
+    case $command in
+    replay) check 'replay: in drops it has 32 levels' [ "$(head -n 1 "$room/live")" = '1 0 0 1 T1' ] ;;
+    *) check 'explain: in drops it has 32 levels' like "$(cat "$room/live")" 'the log has 32 levels*: task 1*' ;;
+    esac
+done
+
 # A reader that goes away: nothing is said, the status is 0, and no process stays.
 gone() { # WORD..: its status where the reader takes one line
     { "$@" 2>"$room/said"; echo $? >"$room/status"; } | head -n 1 >/dev/null

@@ -13,11 +13,11 @@ ghost use Rattle.rules.specs.Lines.{anyone, readyLine};
 ghost use Rattle.rules.specs.Dispatch.{highestPosted, activeLevel, swiDue};
 ghost use Rattle.rules.specs.Dispatch.{highestReady, front, taskDue};
 
-// How many ready queues there are with 16 levels, one for each priority from 0 on, and as many
-// above them with 32; and how many queues of posted Swis.
+// How many ready queues there are with 16 levels, one for each priority from 0 on, which is half of
+// them with 32; the first priority of the upper half; and how many queues of posted Swis there are.
 const FEW_LEVELS: usize = 16;
 
-const MORE_LEVELS: usize = 16;
+const UPPER_HALF: u8 = 16;
 
 const SWI_LEVELS: usize = 16;
 
@@ -107,7 +107,7 @@ pub fn highest_ready(lines: &Lines, state: &State) -> usize
     if state[words::LEVELS] != rules::MOST_LEVELS {
         return highest_from(lines, 0, FEW_LEVELS);
     }
-    let upper = highest_from(lines, 16, MORE_LEVELS);
+    let upper = highest_from(lines, UPPER_HALF, FEW_LEVELS);
     if upper != 0 {
         return FEW_LEVELS + upper;
     }

@@ -1,5 +1,5 @@
 // Searches for the highest of sixteen queues again and again, and prints a sum over what was found: for measuring. The search for posted
-// Swis walks through the queues, the search for ready tasks makes a word of them, and with 32 levels one of 32 queues.
+// Swis walks through the queues, the search for ready tasks makes a word of them, with 32 levels one of each half.
 //
 // The arguments: `posted`, `ready`, `wide` for ready tasks with 32 levels, or another for one look at one queue; how often, as for `pace`; and
 // `best` where queue 15 is the filled one, a walk's best case, `worst` where it is queue 0, or another for each queue in turn. Of the first and
