@@ -1,7 +1,7 @@
 -- What the tests of the reader say of `readIn`, what is read past the end, where a record that was found lies, and what is handed out of it.
 use Prim.Native.Nat.{ℕ, _+_, _-_, _%_, _^_, _≤_, _<_}
 use mathlib.Core.Path.{_≡_, refl, sym}
-use mathlib.Core.Bool.{Bool, true, false, not, _&&_, _||_, cond as if, true≢false, false≢true}
+use mathlib.Core.Bool.{Bool, true, false, not, _&&_, _||_, cond as if, and-eq-true-iff, true≢false, false≢true}
 use mathlib.Core.List.{List, []}
 use native.Mathlib.Omega.{arith}
 use lib.Dec.{ltb, eqb}
@@ -140,12 +140,8 @@ record-fits v s at number start h =
     (omega (arith, ltb-false (length s) at inside, ltb-false (length s - at) 20 whole), sym begin)
 
 -- its version is one
-both : (b c : Bool) → (b && c) ≡ true → b ≡ true
-both true c e = refl
-both false c e = absurd (false≢true e)
-
 pub record-version : (v : ℕ) (s : List ℕ) (at number start : ℕ) → readIn v s at ≡ Record number start → isVersion v ≡ true
-record-version v s at number start h = both _ _ (good v s at number start h .2)
+record-version v s at number start h = and-eq-true-iff _ _ .0 (good v s at number start h .2) .0
 
 -- ---- so what is handed out from its start is its argument bytes, and they are sixteen
 pub handed-out : (v : ℕ) (s : List ℕ) (at number start : ℕ) → readIn v s at ≡ Record number start

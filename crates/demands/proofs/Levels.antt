@@ -1,12 +1,10 @@
 -- No call changes the number of levels: each of them leaves the word alone (`laws`), and a sequence is one call after the other.
 use Prim.Native.Nat.{ℕ}
 use mathlib.Core.Path.{_≡_, refl, _∙_}
-use mathlib.Core.Logic.{_≢_, _⊎_, inl, inr, ⊎-elim}
+use mathlib.Core.Logic.{_⊎_, inl, inr}
 use mathlib.Core.Bool.{Bool, true, false, cond as if}
 use mathlib.Core.List.{List, [], _∷_}
-use borrow.Author.Tests.{eqb-true, ne-eqb}
 use lib.Dec.{eqb}
-use Rattle.fold.proofs.Laws.{same?}
 use Rattle.rules.specs.Tables.{fewLevels, mostLevels, state, LEVELS, levels}
 use Rattle.rules.specs.Fresh.{freshWith, fresh, isLevels, madeFresh}
 use Rattle.rules.specs.Log.{versionOf, secondEdition, levelsFor}
@@ -15,6 +13,7 @@ use Rattle.rules.specs.declared.Step.{Step}
 use Rattle.runs.specs.Run.{Asked, next, after}
 use Rattle.laws.proofs.Calls.{chosen}
 use Rattle.laws.proofs.Levels as Laws
+use Rattle.demands.proofs.Two.{either-levels}
 use Rattle.demands.specs.Levels.{LevelsKept, LevelsStay, LevelsOfALog}
 
 pub levels-kept : LevelsKept
@@ -32,13 +31,6 @@ with-levels n (inl few) qs = rw (along (freshWith n) qs, few)
 with-levels n (inr most) qs = rw (along (freshWith n) qs, most)
 
 -- what is asked for is one of them, or it is refused
-asked? : (n : ℕ) → (isLevels n ≡ true → (n ≡ fewLevels) ⊎ (n ≡ mostLevels))
-asked? n e =
-    ⊎-elim
-    (λ (few : n ≡ fewLevels). inl few)
-    (λ (other : n ≢ fewLevels). inr (eqb-true n mostLevels (rw (ne-eqb n fewLevels other) at e)))
-    (same? n fewLevels)
-
 by-test : (b : Bool) (n : ℕ) (qs : List Asked) → (b ≡ true → (n ≡ fewLevels) ⊎ (n ≡ mostLevels))
     → levels (after (if b (freshWith n) fresh) qs .state) ≡ if b n fewLevels
 by-test true n qs h = with-levels n (h refl) qs
@@ -50,7 +42,7 @@ tables-of false s u = refl
 
 pub levels-stay : LevelsStay
 unfolding madeFresh
-levels-stay n qs = rw (tables-of (isLevels n) _ _) (by-test (isLevels n) n qs (asked? n))
+levels-stay n qs = rw (tables-of (isLevels n) _ _) (by-test (isLevels n) n qs (either-levels n))
 
 -- the log's version means one of them
 pub levels-of-a-log : LevelsOfALog

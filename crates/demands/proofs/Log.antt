@@ -1,7 +1,7 @@
 -- `readAt` answers exactly what stands at a position, of any bytes and any position: its tests are gone through one after the other.
 use Prim.Native.Nat.{ℕ, suc, _+_, _-_, _*_, _<_, _≤_}
 use mathlib.Core.Path.{_≡_, refl, sym, ap, subst, _∙_}
-use mathlib.Core.Bool.{Bool, true, false, _&&_, cond as if}
+use mathlib.Core.Bool.{true, false, _&&_, cond as if, and-false}
 use mathlib.Core.Logic.{_≢_, _⊎_, _↔_, inl, inr, ⊎-elim}
 use mathlib.Core.List.{List, _∷_}
 use native.Mathlib.Omega.{arith}
@@ -28,10 +28,6 @@ no-version v a b = rw (ne-eqb v 1 a, ne-eqb v 2 b)
 
 version-same : (s : List ℕ) (v : ℕ) → SameVersion s v → (isVersion (versionOf s) && eqb v (versionOf s)) ≡ true
 version-same s v (e, f) = rw (is-version (versionOf s) f, eq-eqb v (versionOf s) e)
-
-and-false : (b : Bool) → (b && false) ≡ false
-and-false true = refl
-and-false false = refl
 
 version-other : (s : List ℕ) (v : ℕ) → OtherVersion s v → (isVersion (versionOf s) && eqb v (versionOf s)) ≡ false
 version-other s v o =

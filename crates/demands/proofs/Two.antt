@@ -2,7 +2,7 @@
 use Prim.{tt}
 use Prim.Native.Nat.{ℕ, _≤_}
 use mathlib.Core.Path.{_≡_, refl, sym, ap, subst, _∙_}
-use mathlib.Core.Logic.{_≢_, ⊎-elim}
+use mathlib.Core.Logic.{_≢_, _⊎_, inl, inr, ⊎-elim}
 use mathlib.Core.Bool.{true, not, false≢true, and-eq-true-iff}
 use mathlib.Core.List.{List, [], _∷_}
 use native.Mathlib.Omega.{arith}
@@ -79,6 +79,14 @@ fresh-typed = fresh-with-typed fewLevels
 pub fresh-is-sound : Sound fresh
 fresh-is-sound = sound-means fresh fresh-sound
 
+-- a number of levels is one of the two
+pub either-levels : (n : ℕ) → isLevels n ≡ true → (n ≡ fewLevels) ⊎ (n ≡ mostLevels)
+either-levels n e =
+    ⊎-elim
+    (λ (few : n ≡ fewLevels). inl few)
+    (λ (other : n ≢ fewLevels). inr (eqb-true n mostLevels (rw (ne-eqb n fewLevels other) at e)))
+    (same? n fewLevels)
+
 -- so are those that are asked for with any number of levels
 pub made-fresh-safe : (n : ℕ) → Typed (madeFresh n .tables) × Sound (madeFresh n .tables)
 unfolding madeFresh
@@ -88,13 +96,10 @@ made-fresh-safe n =
       fresh-with-typed n,
       ⊎-elim
           (λ (few : n ≡ fewLevels). rw few fresh-is-sound)
-          (λ (other : n ≢ fewLevels). rw (most n e other) (sound-means (freshWith mostLevels) (fresh-for-sound 2)))
-          (same? n fewLevels),
+          (λ (most : n ≡ mostLevels). rw most (sound-means (freshWith mostLevels) (fresh-for-sound 2)))
+          (either-levels n e),
     ))
     (λ _. (fresh-typed, fresh-is-sound))
-  where
-    most : (n : ℕ) → isLevels n ≡ true → n ≢ fewLevels → n ≡ mostLevels
-    most n e other = eqb-true n mostLevels (rw (ne-eqb n fewLevels other) at e)
 
 -- ---- along any sequence of calls from sound tables: each call keeps them so
 pub along : (t : Tables) → Typed t → Sound t → (qs : List Asked) → AllWords t qs → Each (λ u q. Sound u × Kept u q (made u q)) t qs

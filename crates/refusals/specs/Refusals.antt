@@ -164,9 +164,9 @@ valueOf q k = if (eqb k 3 || eqb k 11) (objectTable q) 0
 abbrev pub badSwitches : ℕ → Bool
 badSwitches which = eqb which 0 || ltb 3 which
 
--- priorities of 00 and 02, by the number of levels (No. 14); 05 "n = 4,294,967,295 is 4"; 10 "priority 0 to 15"; 20 "kinds 0 .. 3", "count to 65,535 or 1"; 24 "count as in 20";
--- 32 "both masks 0 is 4"; 40 capacity 1 to 8; 50 "first ticks from 1"; 60 "bytes 1 to 2,048"; 61 "a live block's start, and bytes that round up
--- to its size"; No. 10: 77, 78 "4 for 0, for values above 3, or for key bits not named"
+-- priorities of 00 and 02, by the number of levels (No. 14); 05 "n = 4,294,967,295 is 4"; 10 "priority 0 to 15"; 20 "kinds 0 .. 3", "count to
+-- 65,535 or 1"; 24 "count as in 20"; 32 "both masks 0 is 4"; 40 capacity 1 to 8; 50 "first ticks from 1"; 60 "bytes 1 to 2,048"; 61 "a live block's
+-- start, and bytes that round up to its size"; No. 10: 77, 78 "4 for 0, for values above 3, or for key bits not named"
 unfoldable pub badValue : Tables → Asked → Bool
 badValue t q =
     if (among (0x00 ∷ []) q) (not (isPriority (levels (t .state)) (q .a)))

@@ -12,11 +12,30 @@ read-in-spec =
     (λ c. let b = c .before .before in past-is (b .args .version) (b .args .log .now) (b .args .at) (c .if1 .taken))
     (λ c. let b = c .before .before .before in end-is (b .args .version) (b .args .log .now) (b .args .at) (c .if2 .taken))
     (λ c. search needs)
-    (λ c. let b = c .before .before .before .before in one-left-is (b .args .version) (b .args .log .now) (b .args .at) (c .before .before .if1 .left) (c .before .if2 .left) (c .if3 .taken))
+    (λ c.
+    let at-if2 = c .before in
+    let at-if1 = at-if2 .before in
+    let b = at-if1 .before .before in
+    one-left-is (b .args .version) (b .args .log .now) (b .args .at) (at-if1 .if1 .left) (at-if2 .if2 .left) (c .if3 .taken))
     (λ c κs. search needs)
-    (λ c. let b = c .before .before .before .before .before .before in length-is (b .args .version) (b .args .log .now) (b .args .at) (c .before .before .before .before .if1 .left) (c .before .before .before .if2 .left) (c .before .before .if3 .left) (λ h. c .if4 .taken (c .before .half-at .ensures .0 ∙ h)))
+    (λ c.
+    let at-half = c .before in
+    let at-if3 = at-half .before in
+    let at-if2 = at-if3 .before in
+    let at-if1 = at-if2 .before in
+    let b = at-if1 .before .before in
+    length-is (b .args .version) (b .args .log .now) (b .args .at) (at-if1 .if1 .left) (at-if2 .if2 .left) (at-if3 .if3 .left)
+    (λ h. c .if4 .taken (at-half .half-at .ensures .0 ∙ h)))
     (λ c. search needs)
-    (λ c. let b = c .before .before .before .before .before .before .before in short-is (b .args .version) (b .args .log .now) (b .args .at) (c .before .before .before .before .before .if1 .left) (c .before .before .before .before .if2 .left) (c .before .before .before .if3 .left) (sym (c .before .before .half-at .ensures .0) ∙ c .before .if4 .left) (c .if5 .taken))
+    (λ c.
+    let at-if4 = c .before in
+    let at-half = at-if4 .before in
+    let at-if3 = at-half .before in
+    let at-if2 = at-if3 .before in
+    let at-if1 = at-if2 .before in
+    let b = at-if1 .before .before in
+    short-is (b .args .version) (b .args .log .now) (b .args .at) (at-if1 .if1 .left) (at-if2 .if2 .left) (at-if3 .if3 .left)
+    (sym (at-half .half-at .ensures .0) ∙ at-if4 .if4 .left) (c .if5 .taken))
     (λ c κs. search needs)
     (λ c. search needs)
     (λ c. search needs)
