@@ -5,7 +5,7 @@ use Prim.Native.Nat.{ℕ, _+_, _<_, _≤_}
 use mathlib.Core.Path.{_≡_, refl, sym, ap, _∙_}
 use mathlib.Core.Logic.{_≢_, _↔_}
 use mathlib.Core.Bool.{true, false, _&&_}
-use mathlib.Core.List.{List, [], _∷_}
+use mathlib.Core.List.{List, [], _∷_, _++_}
 use native.Mathlib.Omega.{arith}
 use lib.Dec.{eqb}
 use lib.ListN.{length, getD}
@@ -19,7 +19,7 @@ use Rattle.rules.specs.Step.{stepOf, call}
 use Rattle.rules.specs.Log.{readIn, readAt}
 use Rattle.rules.specs.declared.Tables.{Tables}
 use Rattle.rules.specs.declared.Step.{Step}
-use Rattle.rules.specs.declared.Read.the-variants.{Length}
+use Rattle.rules.specs.declared.Read.the-variants.{Length, Version}
 use Rattle.rules.specs.declared.Thread.the-variants.{Task}
 use Rattle.rules.proofs.Runs.{Line, _⇒_, said, calls, says, T, yield, post, tasksOff}
 use Rattle.rules.proofs.Computed.{computed}
@@ -120,6 +120,12 @@ not-without-code-9 every =
 pub not-cut-before-length : ((s : List ℕ) (at n : ℕ) → readAt s at ≡ Length n → at + 20 ≤ length s) → ⊥
 unfolding readIn
 not-cut-before-length every = omega (arith, every (0x00 ∷ 0x13 ∷ []) 0 0 refl)
+
+-- ---- No. 14, "a record whose version differs from the first record's": one of version 2 behind one of version 1 is `version`, though 2 is a version
+pub not-with-mixed-versions : ((s : List ℕ) (at n : ℕ) → readAt s at ≡ Version n → (getD s (at + 2) 0 ≢ 1) × (getD s (at + 2) 0 ≢ 2)) → ⊥
+unfolding readIn
+not-with-mixed-versions every =
+    every (0x00 ∷ 0x12 ∷ 0x01 ∷ (zeros 17 ++ (0x00 ∷ 0x12 ∷ 0x02 ∷ zeros 17))) 20 20 refl .1 refl
 
 -- ---- entry calls: one on fresh tables, as it is made
 abbrev entered : Asked → Entered
