@@ -5,3 +5,4 @@ pub mod Three
 pub mod Promised
 pub mod Sequence
 pub mod Levels
+pub mod Lists

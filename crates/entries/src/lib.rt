@@ -1,5 +1,5 @@
-// The entries: any tables, any number, any arguments. What they promise of a call is `Promised` (demands/specs): the whole answer, demand 1, and from
-// sound tables demand 2.
+// The entries: any tables, any number, any arguments. What they promise of a call is `Promised`, and of a list of calls `PromisedList` (demands/specs): the
+// whole answer, demand 1, and from sound tables demand 2.
 use kernel::Call;
 use kernel::Said;
 use rules::Clocks;
@@ -15,13 +15,19 @@ use rules::Tables;
 use rules::Tasks;
 use rules::Thread;
 ghost use mathlib.Core.Path.{_≡_};
+ghost use Prim.Native.Nat.{_*_, _≤_};
+ghost use lib.ListN.{length};
 ghost use Rattle.rules.specs.Fresh.{madeFresh};
+ghost use Rattle.rules.specs.Sound.{Sound};
 ghost use Rattle.rules.specs.Step.{stepOf};
 ghost use Rattle.runs.specs.Run.{asked};
+ghost use Rattle.runs.specs.CallList.{callsIn, callsOf, answerWords, handed};
+ghost use Rattle.demands.specs.Lists.{PromisedList};
 ghost use Rattle.demands.specs.One.{threadOf};
 ghost use Rattle.demands.specs.Promised.{Promised};
 ghost use Rattle.lent.specs.Lent.{before, leaves};
 ghost use Rattle.kernel.specs.Safe.{Safe};
+ghost use Rattle.call_lists.specs.Made.{ListMade};
 
 // Fresh tables with 16 levels or 32: they are sound. No. 14: 'fresh tables asked for with other levels are 4 and come with 16'.
 pub fn fresh(levels: u32) -> Step
@@ -73,6 +79,133 @@ pub fn call_in_place(
         heap,
         state,
         Call { number, a, b, c, d },
+    )
+}
+
+// The calls of a list one after the other, refused ones included, each with its answer.
+fn make_calls(
+    tasks: &mut Tasks,
+    lines: &mut Lines,
+    semaphores: &mut Semaphores,
+    events: &mut Events,
+    mailboxes: &mut Mailboxes,
+    swis: &mut Swis,
+    clocks: &mut Clocks,
+    heap: &mut Heap,
+    state: &mut State,
+    calls: &[u32],
+    answers: &mut [u32],
+)
+    ensures { λ _. ⌜ (Sound (before tasks lines semaphores events mailboxes swis clocks heap state)
+        → callsIn (length (now (calls .entry))) * answerWords ≤ length (now (answers .entry))
+        → ListMade (before tasks lines semaphores events mailboxes swis clocks heap state) (callsOf (now (calls .entry))) (now (answers .entry))
+        (leaves tasks lines semaphores events mailboxes swis clocks heap state) (now (answers .exit))) ⌝ }
+{
+    let n = calls.len() / call_lists::CALL_WORDS;
+    let mut i = 0;
+    while i < n {
+        let said = kernel::step(
+            tasks,
+            lines,
+            semaphores,
+            events,
+            mailboxes,
+            swis,
+            clocks,
+            heap,
+            state,
+            call_lists::call_at(calls, i),
+        );
+        call_lists::put_answer(answers, i, said.answer);
+        i += 1;
+    }
+}
+
+// A list of calls on tables that were tested: code 4 and nothing done where it is bad.
+fn hand_over(
+    tasks: &mut Tasks,
+    lines: &mut Lines,
+    semaphores: &mut Semaphores,
+    events: &mut Events,
+    mailboxes: &mut Mailboxes,
+    swis: &mut Swis,
+    clocks: &mut Clocks,
+    heap: &mut Heap,
+    state: &mut State,
+    calls: &[u32],
+    answers: &mut [u32],
+) -> Said
+    ensures { λ r. ⌜ (Sound (before tasks lines semaphores events mailboxes swis clocks heap state)
+        → PromisedList (before tasks lines semaphores events mailboxes swis clocks heap state) (now (calls .entry)) (now (answers .entry))
+        (handed (leaves tasks lines semaphores events mailboxes swis clocks heap state) (now (answers .exit)) (r .answer) (r .thread))) ⌝ }
+{
+    if call_lists::is_bad(calls.len(), answers.len()) {
+        return Said {
+            answer: rows::answers::refused(4),
+            thread: dispatch::running(lines, state),
+        };
+    }
+    make_calls(
+        tasks,
+        lines,
+        semaphores,
+        events,
+        mailboxes,
+        swis,
+        clocks,
+        heap,
+        state,
+        calls,
+        answers,
+    );
+    Said {
+        answer: rows::answers::accepted(0, 0),
+        thread: dispatch::running(lines, state),
+    }
+}
+
+// Many calls at once on lent tables, which are tested once: up to 256 calls, five words to a call, and three words for the answer to each (request No. 4).
+pub fn call_list(
+    tasks: &mut Tasks,
+    lines: &mut Lines,
+    semaphores: &mut Semaphores,
+    events: &mut Events,
+    mailboxes: &mut Mailboxes,
+    swis: &mut Swis,
+    clocks: &mut Clocks,
+    heap: &mut Heap,
+    state: &mut State,
+    calls: &[u32],
+    answers: &mut [u32],
+) -> Said
+    ensures { λ r. ⌜ PromisedList (before tasks lines semaphores events mailboxes swis clocks heap state) (now (calls .entry)) (now (answers .entry))
+        (handed (leaves tasks lines semaphores events mailboxes swis clocks heap state) (now (answers .exit)) (r .answer) (r .thread)) ⌝ }
+{
+    if !sound::is_sound(
+        tasks,
+        lines,
+        semaphores,
+        events,
+        mailboxes,
+        swis,
+        clocks,
+        heap,
+        state,
+    ) {
+        return tested::unsound();
+    }
+    hand_over(
+        tasks,
+        lines,
+        semaphores,
+        events,
+        mailboxes,
+        swis,
+        clocks,
+        heap,
+        state,
+        calls,
+        answers,
     )
 }
 

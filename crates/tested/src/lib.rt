@@ -20,7 +20,7 @@ ghost use Rattle.lent.specs.Lent.{before, leaves};
 ghost use Rattle.rules.specs.declared.Thread.the-variants.{Task};
 
 // What is said of tables that are not sound: code 10, and T0.
-fn unsound() -> Said
+pub fn unsound() -> Said
     ensures { λ r. ⌜ (r .answer ≡ answer 10 0 0) × (r .thread ≡ Task 0) ⌝ }
 {
     Said {

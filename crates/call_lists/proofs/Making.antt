@@ -1,0 +1,136 @@
+-- A list's calls one after the other: what is made and what is left to make lead to the same end, call by call.
+use Prim.{tt}
+use Prim.Native.Nat.{ℕ, zero, suc, _+_, _-_, _*_, _/_, _<_, _≤_}
+use mathlib.Core.Path.{_≡_, refl, sym, ap, subst, _∙_}
+use mathlib.Core.List.{List, [], _∷_}
+use native.Mathlib.Omega.{arith}
+use lib.Dec.{ltb}
+use lib.ListN.{length, getD, drop}
+use lib.Seq.{sets, length-sets, drop-drop, getD-drop}
+use Rattle.rules.specs.Tables.{Typed}
+use Rattle.rules.specs.Sound.{Sound}
+use Rattle.rules.specs.Step.{call}
+use Rattle.rules.proofs.Agree.{means-sound}
+use Rattle.rules.specs.declared.Answer.{Answer}
+use Rattle.rules.specs.declared.Step.{Step}
+use Rattle.rules.specs.declared.Tables.{Tables}
+use Rattle.laws.proofs.Calls.{chosen}
+use Rattle.runs.specs.Run.{Asked, asked, made, after, Each}
+use Rattle.runs.specs.CallList.{callIn, firstCalls, callsOf, answersTo, wordsOf}
+use Rattle.kernel.specs.declared.Call.{Call}
+use Rattle.kernel.specs.Safe.{Stepped}
+use Rattle.call_lists.specs.CallLists.{callAt, answerPut}
+use Rattle.call_lists.specs.Made.{ByType, ListMade}
+use Rattle.call_lists.proofs.Leaves.{a-call, three-words}
+
+-- ---- calls qs₀ from tables t₀ on, with this room: the first of them were made, and left t and out; qs are still to be made, the first of their answers at
+-- word k. If they are, it is as if all had been made
+pub record OnTheWay (t₀ : Tables) (qs₀ : List Asked) (room : List ℕ) (t : Tables) (qs : List Asked) (out : List ℕ) (k : ℕ) : Type 0 where
+  pub tables : after t qs ≡ after t₀ qs₀
+  pub answers : sets out k (wordsOf (answersTo t qs)) ≡ sets room 0 (wordsOf (answersTo t₀ qs₀))
+  pub types : Each ByType t qs → Each ByType t₀ qs₀
+
+pub not-begun : (t : Tables) (qs : List Asked) (room : List ℕ) → OnTheWay t qs room t qs room 0
+not-begun t qs room = record { tables = refl; answers = refl; types = λ e. e }
+
+module _ (t₀ : Tables) (qs₀ : List Asked) (room : List ℕ) (t : Tables) (out : List ℕ) (k : ℕ) where
+  pub one-made : (q : Asked) (qs : List Asked) → OnTheWay t₀ qs₀ room t (q ∷ qs) out k → ByType t q → {s : Step} {next : List ℕ} → s ≡ made t q
+      → next ≡ sets out k (wordsOf (s .answer ∷ []))
+      → (j : ℕ) → j ≡ k + 3 → OnTheWay t₀ qs₀ room (s .tables) qs next j
+  unfolding after answersTo wordsOf Each
+  one-made q qs w typed is put j at =
+      let three : k + 3 ≡ suc (suc (suc k)) = omega arith in
+      record {
+        tables = rw is (w .tables);
+        answers = rw (put, is, at, three) (w .answers);
+        types = λ later. w .types (typed, rw is at later);
+      }
+
+  pub all-made : OnTheWay t₀ qs₀ room t [] out k → ListMade t₀ qs₀ room t out
+  unfolding after answersTo wordsOf Each
+  all-made w = record { tables = w .tables; answers = w .answers; types = w .types tt }
+
+-- ---- the calls of a list from call i on
+abbrev callsFrom : List ℕ → ℕ → List Asked
+callsFrom ws i = firstCalls (length ws / 5 - i) (drop (i * 5) ws)
+
+abbrev askedBy : Call → Asked
+askedBy q = asked (q .number) (q .a) (q .b) (q .c) (q .d)
+
+-- the call in front of what is left is the one whose words begin there
+in-front : (ws : List ℕ) (i : ℕ) → i < length ws / 5 → callIn (drop (i * 5) ws) ≡ askedBy (callAt ws i)
+in-front ws i inside =
+    let word : (k : ℕ) → getD (drop (i * 5) ws) k 0 ≡ getD ws (i * 5 + k) 0 = λ k. getD-drop (i * 5) ws k 0 in
+    let none : i * 5 + 0 ≡ i * 5 = omega arith in
+    rw (sym (a-call ws i inside), word 0, word 1, word 2, word 3, word 4, none)
+
+calls-from : (ws : List ℕ) (i : ℕ) → i < length ws / 5 → callsFrom ws i ≡ askedBy (callAt ws i) ∷ callsFrom ws (i + 1)
+unfolding firstCalls
+calls-from ws i inside =
+    let one : length ws / 5 - i ≡ suc (length ws / 5 - (i + 1)) = omega arith in
+    let five : i * 5 + 5 ≡ (i + 1) * 5 = omega arith in
+    let rest : drop 5 (drop (i * 5) ws) ≡ drop ((i + 1) * 5) ws = drop-drop 5 (i * 5) ws ∙ ap (λ (k : ℕ). drop k ws) five in
+    rw (one, in-front ws i inside, rest)
+
+calls-from-first : (ws : List ℕ) → callsFrom ws 0 ≡ callsOf ws
+calls-from-first ws = let all : length ws / 5 - 0 ≡ length ws / 5 = omega arith in rw all
+
+calls-from-last : (ws : List ℕ) (i : ℕ) → length ws / 5 ≤ i → callsFrom ws i ≡ []
+unfolding firstCalls
+calls-from-last ws i past = let none : length ws / 5 - i ≡ 0 = omega arith in rw none
+
+-- ---- what the loop over a list keeps, from tables t₀ on: i calls were made
+pub record Making (ws : List ℕ) (t₀ : Tables) (room : List ℕ) (i : ℕ) (t : Tables) (out : List ℕ) : Type 0 where
+  pub inside : i ≤ length ws / 5
+  pub space : length out ≡ length room
+  pub sound : Sound t₀ → Sound t
+  pub way : Sound t₀ → length ws / 5 * 3 ≤ length room → OnTheWay t₀ (callsOf ws) room t (callsFrom ws i) out (i * 3)
+
+pub none-made : (ws : List ℕ) (t : Tables) (room : List ℕ) → Making ws t room 0 t room
+none-made ws t room =
+    record {
+      inside = omega arith;
+      space = refl;
+      sound = λ s. s;
+      way = λ _ _. rw (calls-from-first ws) (not-begun t (callsOf ws) room);
+    }
+
+length-put : (out : List ℕ) (i : ℕ) (r : Answer) → length (answerPut out i r) ≡ length out
+unfolding answerPut
+length-put out i r =
+    chosen (λ (l : List ℕ). length l ≡ length out) (ltb i (length out / 3)) _ _ (λ _. length-sets out (i * 3) (wordsOf (r ∷ []))) (λ _. refl)
+
+-- a call that `step` made on sound tables, as a call by itself
+is-made : (t : Tables) (q : Call) {s : Step} → Sound t → Stepped t (q .number) (q .a) (q .b) (q .c) (q .d) s → s ≡ made t (askedBy q)
+unfolding call
+is-made t q sound p = p .is ∙ rw (means-sound t sound)
+
+by-type : (t : Tables) (q : Call) {s : Step} → Stepped t (q .number) (q .a) (q .b) (q .c) (q .d) s → ByType t (askedBy q)
+by-type t q p =
+    let w = p .words in
+    (p .typed, record { first = w .first; second = w .second; third = w .third; fourth = w .fourth })
+
+module _ (ws : List ℕ) (t₀ : Tables) (room : List ℕ) (i : ℕ) (t : Tables) (out : List ℕ) (l : Making ws t₀ room i t out) where
+  pub one-more : i < length ws / 5 → (q : Call) → q ≡ callAt ws i → {s : Step} {next : List ℕ}
+      → (Sound t → Stepped t (q .number) (q .a) (q .b) (q .c) (q .d) s) → next ≡ answerPut out i (s .answer)
+      → Making ws t₀ room (i + 1) (s .tables) next
+  one-more more q is {s} {next} step put =
+      record {
+        inside = omega arith;
+        space = ap length put ∙ length-put out i (s .answer) ∙ l .space;
+        sound = λ sound. step (l .sound sound) .safe .sound;
+        way = λ sound enough.
+            let stepped = step (l .sound sound) in
+            let fits : i < length out / 3 = omega (arith, l .space, enough, more) in
+            one-made t₀ (callsOf ws) room t out (i * 3) (askedBy q) (callsFrom ws (i + 1))
+            (subst (λ (qs : List Asked). OnTheWay t₀ (callsOf ws) room t qs out (i * 3)) (rw (calls-from ws i more, is)) (l .way sound enough))
+            (by-type t q stepped)
+            (is-made t q (l .sound sound) stepped)
+            (put ∙ sym (three-words out i (s .answer) fits))
+            ((i + 1) * 3) (omega arith);
+      }
+
+  pub list-made : length ws / 5 ≤ i → Sound t₀ → length ws / 5 * 3 ≤ length room → ListMade t₀ (callsOf ws) room t out
+  list-made past sound enough =
+      all-made t₀ (callsOf ws) room t out (i * 3)
+      (subst (λ (qs : List Asked). OnTheWay t₀ (callsOf ws) room t qs out (i * 3)) (calls-from-last ws i past) (l .way sound enough))

@@ -1,0 +1,329 @@
+-- Demands 1 and 2 hold of a list of calls: what is refused is looked at case by case, and an accepted list is its calls one after the other.
+use Prim.{tt}
+use Prim.Native.Nat.{ℕ, zero, suc, _+_, _*_, _/_, _%_, _<_, _≤_}
+use mathlib.Core.Path.{_≡_, refl, sym, ap, subst, _∙_}
+use mathlib.Core.Logic.{_≢_, inr, ⊎-elim}
+use mathlib.Core.Bool.{Bool, true, false, not, true≢false, _||_}
+use mathlib.Core.List.{List, [], _∷_, _++_}
+use native.Mathlib.Omega.{arith}
+use borrow.Author.Tests.{eq-eqb, ne-eqb, lt-ltb, le-ltb}
+use lib.Dec.{eqb, ltb}
+use lib.ListN.{length, getD, drop, length-drop}
+use lib.Seq.{sets, sets-eq, length-sets, drop-cons}
+use Rattle.fold.proofs.Laws.{same?, lt-or-le}
+use Rattle.fold.proofs.Runs.{getD-sets-out}
+use Rattle.rules.specs.Tables.{Typed}
+use Rattle.rules.specs.Answer.{firstGiven, answer}
+use Rattle.rules.specs.Dispatch.{running}
+use Rattle.rules.specs.Sound.{Sound, sound}
+use Rattle.rules.proofs.Agree.{sound-means, means-sound}
+use Rattle.rules.specs.declared.Answer.{Answer}
+use Rattle.rules.specs.declared.Tables.{Tables}
+use Rattle.runs.specs.Run.{Asked, Words, made, next, after, Each}
+use Rattle.runs.specs.CallList.{callsOf, firstCalls, answersTo, wordsOf, answersIn, badList, listCases, Handed, handed, allMade, nothingDone, handOver}
+use Rattle.refusals.proofs.First.{by-bool}
+use Rattle.keeps.proofs.Nothing.{nothing-left}
+use Rattle.demands.specs.One.{Answered, threadOf}
+use Rattle.demands.specs.Two.{Kept}
+use Rattle.demands.specs.Sequence.{Entered, Sequence, calls, tablesAfter}
+use Rattle.demands.specs.Lists.{Fits, laidOut, ListsAreWords, ListAnswered, ListKept, PromisedList, answersOf, lastThread, SameOneByOne, ListsAreCalls, OneByOne, ListsCanBeCalls}
+use Rattle.demands.proofs.One.{demand-1}
+use Rattle.demands.proofs.Two.{demand-2}
+use Rattle.demands.proofs.Promised as Single
+use Rattle.demands.proofs.Sequence.{as-entered}
+
+-- ---- a list fits, or it is bad
+module _ (ws room : List ℕ) where
+  of-test : Fits ws room → badList (length ws) (length room) ≡ false
+  unfolding badList
+  of-test f =
+      let n : length ws / 5 ≡ f .calls = omega (arith, f .multiple) in
+      let whole : length ws % 5 ≡ 0 = omega (arith, f .multiple) in
+      rw (n, eq-eqb (length ws % 5) 0 whole, le-ltb 256 (f .calls) (f .most), le-ltb (length room) (f .calls * 3) (f .space))
+
+  pub no-fit : badList (length ws) (length room) ≡ true → Fits ws room → ⊥
+  no-fit bad f = true≢false (sym bad ∙ of-test f)
+
+  pub fits : badList (length ws) (length room) ≡ false → Fits ws room
+  unfolding badList
+  fits good =
+      ⊎-elim
+      (λ (whole : length ws % 5 ≡ 0).
+      ⊎-elim
+      (λ (many : 256 < length ws / 5).
+      absurd (true≢false (sym (rw (eq-eqb (length ws % 5) 0 whole, lt-ltb 256 (length ws / 5) many)) ∙ good)))
+      (λ (few : length ws / 5 ≤ 256).
+      ⊎-elim
+      (λ (short : length room < length ws / 5 * 3).
+      absurd
+      (true≢false
+      (sym (rw (eq-eqb (length ws % 5) 0 whole, le-ltb 256 (length ws / 5) few, lt-ltb (length room) (length ws / 5 * 3) short)) ∙ good)))
+      (λ (enough : length ws / 5 * 3 ≤ length room).
+      record { calls = length ws / 5; multiple = omega arith; most = few; space = enough })
+      (lt-or-le (length room) (length ws / 5 * 3)))
+      (lt-or-le 256 (length ws / 5)))
+      (λ (odd : length ws % 5 ≢ 0). absurd (true≢false (sym (rw (ne-eqb (length ws % 5) 0 odd)) ∙ good)))
+      (same? (length ws % 5) 0)
+
+-- ---- what a list leaves: code 10 on tables that are not sound, code 4 where it does not fit, all calls made else
+module _ (t : Tables) (ws room : List ℕ) where
+  pub unsound-left : sound t ≡ false → handOver t ws room ≡ nothingDone t room 10
+  unfolding handOver listCases firstGiven
+  unsound-left e = rw e
+
+  pub bad-left : sound t ≡ true → badList (length ws) (length room) ≡ true → handOver t ws room ≡ nothingDone t room 4
+  unfolding handOver listCases firstGiven
+  bad-left e bad = rw (e, bad)
+
+  pub good-left : sound t ≡ true → badList (length ws) (length room) ≡ false → handOver t ws room ≡ allMade t (callsOf ws) room
+  unfolding handOver listCases firstGiven
+  good-left e good = rw (e, good)
+
+  pub of-a-list : (P : Handed → Type 0) → ((Sound t → ⊥) → P (nothingDone t room 10)) → (Sound t → (Fits ws room → ⊥) → P (nothingDone t room 4))
+      → (Sound t → Fits ws room → P (allMade t (callsOf ws) room)) → P (handOver t ws room)
+  of-a-list P ten four none =
+      by-bool (sound t)
+      (λ e.
+      let s : Sound t = sound-means t e in
+      by-bool (badList (length ws) (length room))
+      (λ bad. rw (bad-left e bad) (four s (no-fit ws room bad)))
+      (λ good. rw (good-left e good) (none s (fits ws room good))))
+      (λ e. rw (unsound-left e) (ten (λ s. true≢false (sym (means-sound t s) ∙ e))))
+
+-- ---- demand 1
+-- what is read back of answers that were put in front of a list
+read-back : (rs : List Answer) (rest : List ℕ) → answersIn (length rs) (wordsOf rs ++ rest) ≡ rs
+unfolding answersIn wordsOf
+read-back [] rest = refl
+read-back (r ∷ rs) rest = ap (λ (l : List Answer). r ∷ l) (read-back rs rest)
+
+length-words : (rs : List Answer) → length (wordsOf rs) ≡ length rs * 3
+unfolding wordsOf
+length-words [] = refl
+length-words (r ∷ rs) = omega (arith, length-words rs)
+
+length-answers : (t : Tables) (qs : List Asked) → length (answersTo t qs) ≡ length qs
+unfolding answersTo
+length-answers t [] = refl
+length-answers t (q ∷ qs) = ap suc (length-answers (next t q) qs)
+
+length-first : (n : ℕ) (ws : List ℕ) → length (firstCalls n ws) ≡ n
+unfolding firstCalls
+length-first zero ws = refl
+length-first (suc n) ws = ap suc (length-first n (drop 5 ws))
+
+-- the answers of calls stand in the room that is long enough, and can be read there
+answers-stand : (t : Tables) (qs : List Asked) (room : List ℕ) → length qs * 3 ≤ length room
+    → answersIn (length qs) (sets room 0 (wordsOf (answersTo t qs))) ≡ answersTo t qs
+answers-stand t qs room enough =
+    let rs : List Answer = answersTo t qs in
+    let long : length (wordsOf rs) ≡ length qs * 3 = length-words rs ∙ ap (λ (n : ℕ). n * 3) (length-answers t qs) in
+    rw (sets-eq (wordsOf rs) room 0 (omega (arith, long, enough)), sym (length-answers t qs)) (read-back rs (drop (0 + length (wordsOf rs)) room))
+
+calls-fit : (ws room : List ℕ) → Fits ws room → length (callsOf ws) * 3 ≤ length room
+calls-fit ws room f =
+    let n : length ws / 5 ≡ f .calls = omega (arith, f .multiple) in
+    omega (arith, length-first (length ws / 5) ws, n, f .space)
+
+-- a refusal with code k
+refused-list : (t : Tables) (room : List ℕ) (k : ℕ) → nothingDone t room k ≡ handed t room (answer k 0 0) (threadOf t)
+unfolding nothingDone
+refused-list t room k = refl
+
+module _ (t : Tables) (ws room : List ℕ) where
+  unsound-answered : (Sound t → ⊥) → ListAnswered t ws room (nothingDone t room 10)
+  unfolding nothingDone
+  unsound-answered not-sound =
+      record {
+        unsound = (λ _. not-sound, λ _. refl);
+        bad = (λ e. absurd (omega (arith, e)), λ p. absurd (not-sound (p .0)));
+        accepted = (λ e. absurd (omega (arith, e)), λ p. absurd (not-sound (p .0)));
+        refused = λ _. refused-list t room 10;
+        done = λ e. absurd (omega (arith, e));
+        each = λ e. absurd (omega (arith, e));
+      }
+
+  bad-answered : Sound t → (Fits ws room → ⊥) → ListAnswered t ws room (nothingDone t room 4)
+  unfolding nothingDone
+  bad-answered s misfit =
+      record {
+        unsound = (λ e. absurd (omega (arith, e)), λ n. absurd (n s));
+        bad = (λ _. (s, misfit), λ _. refl);
+        accepted = (λ e. absurd (omega (arith, e)), λ p. absurd (misfit (p .1)));
+        refused = λ _. refused-list t room 4;
+        done = λ e. absurd (omega (arith, e));
+        each = λ e. absurd (omega (arith, e));
+      }
+
+  good-answered : Sound t → Fits ws room → ListAnswered t ws room (allMade t (callsOf ws) room)
+  unfolding allMade
+  good-answered s f =
+      record {
+        unsound = (λ e. absurd (omega (arith, e)), λ n. absurd (n s));
+        bad = (λ e. absurd (omega (arith, e)), λ p. absurd (p .1 f));
+        accepted = (λ _. (s, f), λ _. refl);
+        refused = λ n. absurd (n refl);
+        done = λ _. refl;
+        each = λ _. answers-stand t (callsOf ws) room (calls-fit ws room f);
+      }
+
+  pub list-answered : ListAnswered t ws room (handOver t ws room)
+  list-answered = of-a-list t ws room (λ h. ListAnswered t ws room h) unsound-answered bad-answered good-answered
+
+-- ---- demand 2
+-- along calls of which it is known what the types say
+pub kept-along : (t : Tables) → Sound t → (qs : List Asked) → Each (λ u q. Typed u × Words q) t qs
+    → Each (λ u q. Kept u q (made u q)) t qs × Sound (after t qs) × (Typed t → Typed (after t qs))
+unfolding Each after
+kept-along t s [] w = (tt, s, λ typed. typed)
+kept-along t s (q ∷ qs) ((typed, words), later) =
+    let k = demand-2 t typed s q words in
+    let (each, sound, types) = kept-along (next t q) (k .sound) qs later in
+    ((k, each), sound, λ _. types (k .typed))
+
+module _ (t : Tables) (ws room : List ℕ) (s : Sound t) where
+  bad-kept : ListKept t ws (nothingDone t room 4)
+  unfolding nothingDone
+  bad-kept =
+      record {
+        tables = λ e. absurd (omega (arith, e));
+        each = λ e. absurd (omega (arith, e));
+        tested = λ e. omega (arith, e);
+        typed = λ typed. typed;
+        sound = s;
+        thread = rw (means-sound t s);
+        settled = nothing-left t s;
+      }
+
+  good-kept : Each (λ u q. Typed u × Words q) t (callsOf ws) → ListKept t ws (allMade t (callsOf ws) room)
+  unfolding allMade
+  good-kept w =
+      let (each, sound, types) = kept-along t s (callsOf ws) w in
+      record {
+        tables = λ _. refl;
+        each = λ _. each;
+        tested = λ e. omega (arith, e);
+        typed = types;
+        sound = sound;
+        thread = refl;
+        settled = nothing-left (after t (callsOf ws)) sound;
+      }
+
+  made-code : allMade t (callsOf ws) room .answer .code ≡ 0
+  unfolding allMade
+  made-code = refl
+
+  pub list-kept : (handOver t ws room .answer .code ≡ 0 → Each (λ u q. Typed u × Words q) t (callsOf ws)) → ListKept t ws (handOver t ws room)
+  list-kept =
+      of-a-list t ws room (λ h. (h .answer .code ≡ 0 → Each (λ u q. Typed u × Words q) t (callsOf ws)) → ListKept t ws h)
+      (λ not-sound _. absurd (not-sound s))
+      (λ _ _ _. bad-kept)
+      (λ _ _ w. good-kept (w made-code))
+
+-- ---- a list that leaves the whole leaves what demands 1 and 2 say of it
+pub promised-list : (t : Tables) (ws room : List ℕ) {s : Handed} → s ≡ handOver t ws room
+    → (Sound t → s .answer .code ≡ 0 → Each (λ u q. Typed u × Words q) t (callsOf ws)) → PromisedList t ws room s
+promised-list t ws room e types =
+    record {
+      whole = e;
+      answered = subst (λ (x : Handed). ListAnswered t ws room x) (sym e) (list-answered t ws room);
+      kept = λ sound. subst (λ (x : Handed). ListKept t ws x) (sym e) (list-kept t ws room sound (rw e at types sound));
+      types = types;
+    }
+
+-- ---- a list that fits is its calls' words, one after the other
+five-words : (ws : List ℕ) → 5 ≤ length ws
+    → ws ≡ getD ws 0 0 ∷ getD ws 1 0 ∷ getD ws 2 0 ∷ getD ws 3 0 ∷ getD ws 4 0 ∷ drop 5 ws
+five-words ws long =
+    let word : (i : ℕ) → i < 5 → drop i ws ≡ getD ws i 0 ∷ drop (suc i) ws = λ i inside. drop-cons ws i 0 (omega (arith, long, inside)) in
+    word 0 (omega arith)
+    ∙ ap (λ (l : List ℕ). getD ws 0 0 ∷ l) (word 1 (omega arith))
+    ∙ ap (λ (l : List ℕ). getD ws 0 0 ∷ getD ws 1 0 ∷ l) (word 2 (omega arith))
+    ∙ ap (λ (l : List ℕ). getD ws 0 0 ∷ getD ws 1 0 ∷ getD ws 2 0 ∷ l) (word 3 (omega arith))
+    ∙ ap (λ (l : List ℕ). getD ws 0 0 ∷ getD ws 1 0 ∷ getD ws 2 0 ∷ getD ws 3 0 ∷ l) (word 4 (omega arith))
+
+laid-out : (n : ℕ) (ws : List ℕ) → length ws ≡ n * 5 → laidOut (firstCalls n ws) ≡ ws
+unfolding laidOut firstCalls
+laid-out zero [] e = refl
+laid-out zero (w ∷ ws) e = absurd (omega (arith, e))
+laid-out (suc n) ws e =
+    rw (laid-out n (drop 5 ws) (omega (arith, length-drop 5 ws, e))) (sym (five-words ws (omega (arith, e))))
+
+pub lists-are-words : ListsAreWords
+lists-are-words ws room f =
+    let n : length ws / 5 ≡ f .calls = omega (arith, f .multiple) in
+    laid-out (length ws / 5) ws (omega (arith, n, f .multiple))
+
+-- ---- the same calls one by one
+answers-of : (t : Tables) (es : List Entered) → Sequence t es → answersOf es ≡ answersTo t (calls es)
+unfolding answersOf answersTo calls Sequence
+answers-of t [] row = refl
+answers-of t (e ∷ es) (p, rest) = rw (answers-of (e .left .tables) es rest, p .whole)
+
+length-calls : (es : List Entered) → length (calls es) ≡ length es
+unfolding calls
+length-calls [] = refl
+length-calls (e ∷ es) = ap suc (length-calls es)
+
+-- the thread that an entry call answers is the one that runs in what it left, so the last one's is that of the last tables
+last-thread : (t : Tables) (es : List Entered) → Sequence t es → lastThread (threadOf t) es ≡ threadOf (tablesAfter t es)
+unfolding lastThread tablesAfter Sequence
+last-thread t [] row = refl
+last-thread t (e ∷ es) (p, rest) = rw (Single.thread-is t (e .call) p) (last-thread (e .left .tables) es rest)
+
+-- of any calls that were made one after the other with room for their answers
+made-one-by-one : (t : Tables) (room : List ℕ) → Sound t → (es : List Entered) → Sequence t es → length es * 3 ≤ length room
+    → SameOneByOne t room (allMade t (calls es) room) es
+unfolding allMade
+made-one-by-one t room sound es row enough =
+    let a = as-entered t sound es row in
+    let rs : List Answer = answersTo t (calls es) in
+    let long : length (wordsOf rs) ≡ length es * 3 =
+    length-words rs ∙ ap (λ (n : ℕ). n * 3) (length-answers t (calls es) ∙ length-calls es) in
+    record {
+      tables = sym (a .tables);
+      answers =
+          rw (answers-of t es row, sym (length-calls es))
+          (answers-stand t (calls es) room (omega (arith, length-calls es, enough)));
+      fits = enough;
+      thread = sym (rw (last-thread t es row, a .tables, means-sound (after t (calls es)) (subst Sound (a .tables) (a .sound))));
+      past = λ k behind. getD-sets-out (wordsOf rs) room 0 k (inr (omega (arith, long, behind)));
+      sameLength = length-sets room 0 (wordsOf rs);
+    }
+
+-- what an accepted list left
+accepted-left : (t : Tables) (ws room : List ℕ) → Sound t → Fits ws room → handOver t ws room ≡ allMade t (callsOf ws) room
+accepted-left t ws room s f = good-left t ws room (means-sound t s) (of-test ws room f)
+
+pub lists-are-calls : ListsAreCalls
+lists-are-calls t ws room s p code es row same =
+    let (sound, f) = p .answered .accepted .0 code in
+    let enough : length es * 3 ≤ length room = omega (arith, calls-fit ws room f, ap length same, length-calls es) in
+    rw (p .whole, accepted-left t ws room sound f, sym same) (made-one-by-one t room sound es row enough)
+
+-- each call of an accepted list can be made by an entry
+pub singly : Tables → List Asked → List Entered
+singly t [] = []
+singly t (q ∷ qs) = record { call = q; left = made t q } ∷ singly (next t q) qs
+
+pub singly-row : (t : Tables) → Sound t → (qs : List Asked) → Each (λ u q. Typed u × Words q) t qs → Sequence t (singly t qs)
+unfolding Sequence Each singly
+singly-row t sound [] w = tt
+singly-row t sound (q ∷ qs) ((typed, words), later) = (
+  Single.promised t q refl (λ _. (typed, words)),
+  singly-row (next t q) (demand-2 t typed sound q words .sound) qs later,
+)
+
+pub singly-calls : (t : Tables) (qs : List Asked) → calls (singly t qs) ≡ qs
+unfolding calls singly
+singly-calls t [] = refl
+singly-calls t (q ∷ qs) = ap (λ (l : List Asked). q ∷ l) (singly-calls (next t q) qs)
+
+pub lists-can-be-calls : ListsCanBeCalls
+lists-can-be-calls t ws room s p code =
+    let sound : Sound t = p .answered .accepted .0 code .0 in
+    record {
+      entered = singly t (callsOf ws);
+      row = singly-row t sound (callsOf ws) (p .types sound code);
+      same = singly-calls t (callsOf ws);
+    }
