@@ -8,7 +8,6 @@ use lib.ListN.{length, set, length-set}
 use lib.Seq.{sets}
 use Rattle.rules.specs.declared.Answer.{Answer}
 use Rattle.runs.specs.CallList.{wordsOf}
-use Rattle.kernel.specs.declared.Call.{Call}
 use Rattle.call_lists.specs.CallLists.{noCall, callFrom, callAt, answerPut}
 
 module _ (ws : List ℕ) (i : ℕ) where

@@ -3,18 +3,16 @@ use Prim.{tt}
 use Prim.Native.Nat.{ℕ, zero, suc, _+_, _*_, _/_, _%_, _<_, _≤_}
 use mathlib.Core.Path.{_≡_, refl, sym, ap, subst, _∙_}
 use mathlib.Core.Logic.{_≢_, inr, ⊎-elim}
-use mathlib.Core.Bool.{Bool, true, false, not, true≢false, _||_}
+use mathlib.Core.Bool.{true, false, true≢false}
 use mathlib.Core.List.{List, [], _∷_, _++_}
 use native.Mathlib.Omega.{arith}
 use borrow.Author.Tests.{eq-eqb, ne-eqb, lt-ltb, le-ltb}
-use lib.Dec.{eqb, ltb}
 use lib.ListN.{length, getD, drop, length-drop}
 use lib.Seq.{sets, sets-eq, length-sets, drop-cons}
 use Rattle.fold.proofs.Laws.{same?, lt-or-le}
 use Rattle.fold.proofs.Runs.{getD-sets-out}
 use Rattle.rules.specs.Tables.{Typed}
 use Rattle.rules.specs.Answer.{firstGiven, answer}
-use Rattle.rules.specs.Dispatch.{running}
 use Rattle.rules.specs.Sound.{Sound, sound}
 use Rattle.rules.proofs.Agree.{sound-means, means-sound}
 use Rattle.rules.specs.declared.Answer.{Answer}
@@ -23,11 +21,10 @@ use Rattle.runs.specs.Run.{Asked, Words, made, next, after, Each}
 use Rattle.runs.specs.CallList.{callsOf, firstCalls, answersTo, wordsOf, answersIn, badList, listCases, Handed, handed, allMade, nothingDone, handOver}
 use Rattle.refusals.proofs.First.{by-bool}
 use Rattle.keeps.proofs.Nothing.{nothing-left}
-use Rattle.demands.specs.One.{Answered, threadOf}
+use Rattle.demands.specs.One.{threadOf}
 use Rattle.demands.specs.Two.{Kept}
 use Rattle.demands.specs.Sequence.{Entered, Sequence, calls, tablesAfter}
-use Rattle.demands.specs.Lists.{Fits, laidOut, ListsAreWords, ListAnswered, ListKept, PromisedList, answersOf, lastThread, SameOneByOne, ListsAreCalls, OneByOne, ListsCanBeCalls}
-use Rattle.demands.proofs.One.{demand-1}
+use Rattle.demands.specs.Lists.{Fits, laidOut, ListsAreWords, ListAnswered, ListKept, PromisedList, answersOf, lastThread, SameOneByOne, ListsAreCalls, ListsCanBeCalls}
 use Rattle.demands.proofs.Two.{demand-2}
 use Rattle.demands.proofs.Promised as Single
 use Rattle.demands.proofs.Sequence.{as-entered}

@@ -13,7 +13,7 @@ use Rattle.rules.specs.declared.Tables.{Tables}
 use Rattle.rules.specs.declared.Thread.{Thread}
 use Rattle.runs.specs.Run.{Asked, Words, made, after, Each}
 use Rattle.runs.specs.CallList.{callsOf, answersTo, answersIn, Handed, handed, handOver}
-use Rattle.demands.specs.One.{Answered, threadOf}
+use Rattle.demands.specs.One.{threadOf}
 use Rattle.demands.specs.Two.{Kept}
 use Rattle.demands.specs.Sequence.{Entered, Sequence, calls, tablesAfter}
 

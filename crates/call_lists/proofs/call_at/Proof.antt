@@ -1,5 +1,4 @@
 -- Past the last call the words are not looked at; before it all five are inside the list.
-use Prim.Native.Nat.{_*_}
 use Rattle.call_lists.proofs.Leaves.{no-call, a-call}
 use borrow.Author.Needs.{needs}
 use Rattle.call_lists.proofs.call_at.Statement.{statement}

@@ -1,6 +1,4 @@
 -- Without room for three words nothing is written; with it the three are stored one after the other.
-use Prim.Native.Nat.{_*_}
-use native.Mathlib.Omega.{arith}
 use Rattle.call_lists.proofs.Leaves.{no-room, second-inside, third-inside, stored}
 use borrow.Author.Needs.{needs}
 use Rattle.call_lists.proofs.put_answer.Statement.{statement}

@@ -1,0 +1,4 @@
+pub mod Appended
+pub mod Mixtures
+pub mod DemandThree
+pub mod Posts

@@ -1,0 +1,117 @@
+-- A piece of a mixture is its calls one after the other, by what its entry promises; so is a mixture, piece by piece, and what holds of calls holds of it.
+use Prim.{tt}
+use mathlib.Core.Path.{_≡_, refl, sym, ap, subst, _∙_}
+use mathlib.Core.Logic.{_≢_}
+use mathlib.Core.Bool.{true≢false}
+use mathlib.Core.List.{List, [], _∷_}
+use borrow.Author.Tests.{eq-eqb, eqb-true}
+use lib.Dec.{eqb}
+use Rattle.rules.specs.Tables.{Typed}
+use Rattle.rules.specs.Sound.{Sound}
+use Rattle.rules.specs.declared.Step.{Step}
+use Rattle.rules.specs.declared.Tables.{Tables}
+use Rattle.runs.specs.Run.{Asked, Words, made, after, Each}
+use Rattle.runs.specs.CallList.{answersTo, Handed}
+use Rattle.refusals.proofs.First.{by-bool}
+use Rattle.demands.specs.One.{Answered}
+use Rattle.demands.specs.Promised.{Promised}
+use Rattle.demands.specs.Sequence.{Entered}
+use Rattle.demands.specs.Lists.{PromisedList}
+use Rattle.demands.proofs.One.{demand-1}
+use Rattle.demands.proofs.Lists.{kept-along}
+use Rattle.mixtures.specs.Mixtures.{HandedList, Piece, single, list, tablesOf, Mixture, tablesAfter, callsOfPiece, answersOfPiece, callsIn, answersIn}
+use Rattle.mixtures.specs.Shown.{MixturesAreCalls, CutAsYouLike}
+use Rattle.mixtures.proofs.Appended.{after-append, answers-append, each-append, each-always, paired-history}
+
+-- what the types say of a call and the tables on which it is made
+abbrev pub ByType : Tables → Asked → Type 0
+ByType u q = Typed u × Words q
+
+-- ---- a piece made on tables t
+pub record PieceMade (t : Tables) (p : Piece) : Type 0 where
+  pub tables : tablesOf p ≡ after t (callsOfPiece p)
+  pub answers : answersOfPiece p ≡ answersTo t (callsOfPiece p)
+  pub types : Each ByType t (callsOfPiece p)
+  pub sound : Sound (tablesOf p)
+
+single-made : (t : Tables) → Sound t → (e : Entered) → Promised t (e .call) (e .left) → PieceMade t (single e)
+unfolding after answersTo Each
+single-made t sound e p =
+    record {
+      tables = ap (λ (s : Step). s .tables) (p .whole);
+      answers = rw (p .whole);
+      types = (p .types sound, tt);
+      sound = p .kept sound .sound;
+    }
+
+list-made : (t : Tables) → Sound t → (l : HandedList) → PromisedList t (l .words) (l .room) (l .left) → PieceMade t (list l)
+unfolding after answersTo Each
+list-made t sound l p =
+    by-bool (eqb (l .left .answer .code) 0)
+    (λ e.
+    let code : l .left .answer .code ≡ 0 = eqb-true (l .left .answer .code) 0 e in
+    record {
+      tables = rw e (p .kept sound .tables code);
+      answers = rw e (p .answered .each code);
+      types = rw e (p .types sound code);
+      sound = p .kept sound .sound;
+    })
+    (λ e.
+    let refused : l .left .answer .code ≢ 0 = λ z. true≢false (sym (eq-eqb (l .left .answer .code) 0 z) ∙ e) in
+    record {
+      tables = rw e (ap (λ (h : Handed). h .tables) (p .answered .refused refused));
+      answers = rw e;
+      types = rw e tt;
+      sound = p .kept sound .sound;
+    })
+
+-- ---- a mixture
+-- the first piece, and the mixture of the others
+pub piece-first : (t : Tables) → Sound t → (p : Piece) (ps : List Piece) → Mixture t (p ∷ ps) → PieceMade t p × Mixture (tablesOf p) ps
+unfolding Mixture
+piece-first t sound (single e) ps (p, rest) = (single-made t sound e p, rest)
+piece-first t sound (list l) ps (p, rest) = (list-made t sound l p, rest)
+
+record Made (t : Tables) (ps : List Piece) : Type 0 where
+  pub tables : tablesAfter t ps ≡ after t (callsIn ps)
+  pub answers : answersIn ps ≡ answersTo t (callsIn ps)
+  pub types : Each ByType t (callsIn ps)
+
+all-made : (t : Tables) → Sound t → (ps : List Piece) → Mixture t ps → Made t ps
+unfolding tablesAfter callsIn answersIn after answersTo Each
+all-made t sound [] m = record { tables = refl; answers = refl; types = tt }
+all-made t sound (p ∷ ps) m =
+    let (first, rest) = piece-first t sound p ps m in
+    let later = all-made (tablesOf p) (first .sound) ps rest in
+    record {
+      tables = later .tables ∙ ap (λ (u : Tables). after u (callsIn ps)) (first .tables) ∙ sym (after-append t (callsOfPiece p) (callsIn ps));
+      answers =
+          rw (first .answers, later .answers, first .tables)
+          (sym (answers-append t (callsOfPiece p) (callsIn ps)));
+      types =
+          each-append ByType t (callsOfPiece p) (callsIn ps) (first .types)
+          (subst (λ (u : Tables). Each ByType u (callsIn ps)) (first .tables) (later .types));
+    }
+
+pub mixtures-are-calls : MixturesAreCalls
+mixtures-are-calls t sound ps m =
+    let a = all-made t sound ps m in
+    let (kept, after-sound, _) = kept-along t sound (callsIn ps) (a .types) in
+    record {
+      tables = a .tables;
+      answers = a .answers;
+      history = rw (a .answers) (paired-history t (callsIn ps));
+      answered = each-always (λ u q. Answered u q (made u q)) demand-1 t (callsIn ps);
+      kept = kept;
+      sound = rw (a .tables) after-sound;
+      types = a .types;
+    }
+
+pub cut-as-you-like : CutAsYouLike
+cut-as-you-like t sound ps rs m n same =
+    let a = mixtures-are-calls t sound ps m in
+    let b = mixtures-are-calls t sound rs n in
+    record {
+      tables = a .tables ∙ ap (after t) same ∙ sym (b .tables);
+      answers = a .answers ∙ ap (answersTo t) same ∙ sym (b .answers);
+    }

@@ -1,0 +1,73 @@
+-- Request No. 4: calls by the entry for one call and lists of calls, mixed as a caller likes, and what the caller has of them.
+use Prim.{Unit}
+use Prim.Native.Nat.{ℕ}
+use mathlib.Core.Bool.{cond as if}
+use mathlib.Core.List.{List, [], _∷_, _++_}
+use lib.Dec.{eqb}
+use lib.ListN.{length}
+use Rattle.rules.specs.declared.Answer.{Answer}
+use Rattle.rules.specs.declared.Tables.{Tables}
+use Rattle.runs.specs.Run.{Asked}
+use Rattle.runs.specs.CallList as CallList
+use Rattle.runs.specs.CallList.{callsOf, Handed}
+use Rattle.demands.specs.Promised.{Promised}
+use Rattle.demands.specs.Sequence.{Entered}
+use Rattle.demands.specs.Lists.{PromisedList}
+use Rattle.no_post_lost.specs.NoPostLost.{CallAndAnswer}
+
+-- a list that was handed over: its words, the room for answers as it was before, and what it left
+pub record HandedList : Type 0 where
+  pub words : List ℕ
+  pub room : List ℕ
+  pub left : Handed
+
+-- a piece of a mixture
+pub data Piece : Type 0 where
+  single : Entered → Piece
+  list : HandedList → Piece
+
+-- the tables that it left
+abbrev pub tablesOf : Piece → Tables
+tablesOf (single e) = e .left .tables
+tablesOf (list l) = l .left .tables
+
+-- each piece is made on the tables that the one before it left, and left what its entry promises
+unfoldable pub Mixture : Tables → List Piece → Type 0
+Mixture t [] = Unit {0}
+Mixture t (single e ∷ ps) = Promised t (e .call) (e .left) × Mixture (e .left .tables) ps
+Mixture t (list l ∷ ps) = PromisedList t (l .words) (l .room) (l .left) × Mixture (l .left .tables) ps
+
+-- the tables after the last one
+unfoldable pub tablesAfter : Tables → List Piece → Tables
+tablesAfter t [] = t
+tablesAfter t (p ∷ ps) = tablesAfter (tablesOf p) ps
+
+-- ---- the calls that were made, and what the caller has as their answers. A list that was refused made none
+abbrev pub ifAccepted : {A : Type 0} → HandedList → List A → List A
+ifAccepted l xs = if (eqb (l .left .answer .code) 0) xs []
+
+abbrev pub callsOfPiece : Piece → List Asked
+callsOfPiece (single e) = e .call ∷ []
+callsOfPiece (list l) = ifAccepted l (callsOf (l .words))
+
+-- those of a list stand in the words that it left, three to a call
+abbrev pub answersOfPiece : Piece → List Answer
+answersOfPiece (single e) = e .left .answer ∷ []
+answersOfPiece (list l) = ifAccepted l (CallList.answersIn (length (callsOf (l .words))) (l .left .answers))
+
+unfoldable pub callsIn : List Piece → List Asked
+callsIn [] = []
+callsIn (p ∷ ps) = callsOfPiece p ++ callsIn ps
+
+unfoldable pub answersIn : List Piece → List Answer
+answersIn [] = []
+answersIn (p ∷ ps) = answersOfPiece p ++ answersIn ps
+
+-- ---- "the history of calls and answers" of request No. 12: each call with its answer. "counts each call of a list as one call"
+unfoldable pub paired : List Asked → List Answer → List CallAndAnswer
+paired [] rs = []
+paired (q ∷ qs) [] = []
+paired (q ∷ qs) (r ∷ rs) = record { asked = q; answer = r } ∷ paired qs rs
+
+abbrev pub historyOf : List Piece → List CallAndAnswer
+historyOf ps = paired (callsIn ps) (answersIn ps)

@@ -1,0 +1,93 @@
+-- What is shown of any mixture of single calls and lists: it is its calls made one after the other, so the demands hold of them, and Nos. 8 and 12 do.
+use Prim.Native.Nat.{ℕ, _+_, _<_, _≤_}
+use mathlib.Core.Path.{_≡_}
+use mathlib.Core.Logic.{_⊎_}
+use mathlib.Core.List.{List, [], _∷_, _++_}
+use lib.ListN.{length}
+use Rattle.rules.specs.Tables.{Typed, current}
+use Rattle.rules.specs.Answer.{nowWaiting}
+use Rattle.rules.specs.Fresh.{madeFresh}
+use Rattle.rules.specs.Lines.{line, semaphoreLine}
+use Rattle.rules.specs.Sound.{Sound}
+use Rattle.rules.specs.declared.Answer.{Answer}
+use Rattle.rules.specs.declared.Tables.{Tables}
+use Rattle.runs.specs.Run.{Asked, Words, made, next, after, Each, Always}
+use Rattle.runs.specs.CallList.{answersTo}
+use Rattle.runs.specs.Turn.{BlockedOn, beforeAt, ServedIn}
+use Rattle.demands.specs.One.{Answered}
+use Rattle.demands.specs.Two.{Kept}
+use Rattle.demands.specs.Three.{ArrivalOrder, Turn, pend}
+use Rattle.woken_task.specs.WokenTask.{Post, Tells}
+use Rattle.no_post_lost.specs.NoPostLost.{CallAndAnswer, history, howMany, isPost, LastSet, Counting, Balanced}
+use Rattle.mixtures.specs.Mixtures.{Piece, Mixture, tablesAfter, callsIn, answersIn, historyOf}
+
+-- ---- a mixture is its calls one after the other
+pub record AsMade (t : Tables) (ps : List Piece) : Type 0 where
+  pub tables : tablesAfter t ps ≡ after t (callsIn ps)
+  pub answers : answersIn ps ≡ answersTo t (callsIn ps)
+  pub history : historyOf ps ≡ history t (callsIn ps)
+  -- demand 1 and demand 2 of each of them; the tables after the last one are sound
+  pub answered : Each (λ u q. Answered u q (made u q)) t (callsIn ps)
+  pub kept : Each (λ u q. Kept u q (made u q)) t (callsIn ps)
+  pub sound : Sound (tablesAfter t ps)
+  -- what the types say of each
+  pub types : Each (λ u q. Typed u × Words q) t (callsIn ps)
+
+abbrev pub MixturesAreCalls : Type 0
+MixturesAreCalls = (t : Tables) → Sound t → (ps : List Piece) → Mixture t ps → AsMade t ps
+
+-- so it makes no difference how calls are cut into lists
+pub record SameLeft (t : Tables) (ps rs : List Piece) : Type 0 where
+  pub tables : tablesAfter t ps ≡ tablesAfter t rs
+  pub answers : answersIn ps ≡ answersIn rs
+
+abbrev pub CutAsYouLike : Type 0
+CutAsYouLike = (t : Tables) → Sound t → (ps rs : List Piece) → Mixture t ps → Mixture t rs → callsIn ps ≡ callsIn rs → SameLeft t ps rs
+
+-- ---- demand 3. "Demand 3 counts each call of a list as one call."
+-- the calls of a history
+unfoldable pub asks : List CallAndAnswer → List Asked
+asks [] = []
+asks (e ∷ es) = e .asked ∷ asks es
+
+-- among the calls is one with which a task begins to wait at s, by itself or in a list: those before it and those since
+pub record Begins (s : ℕ) (h : List CallAndAnswer) : Type 0 where
+  pub before : List CallAndAnswer
+  pub answer : Answer
+  pub since : List CallAndAnswer
+  pub split : h ≡ before ++ (record { asked = pend s; answer = answer } ∷ since)
+  pub waits : answer .outcome ≡ nowWaiting
+
+-- on tables v task i begins to wait behind k others, and has its turn whatever calls follow. Of those that did follow, and left tables `now`: it was blocked
+-- all along, with at most k less the accepted posts there before it, or one of the first k + 1 served it
+pub record TurnSince (s : ℕ) (since : List CallAndAnswer) (v now : Tables) : Type 0 where
+  pub turn : Turn s (current (v .state)) (line (v .lines) (semaphoreLine s)) (next v (pend s))
+  pub sofar : let i = current (v .state) in let k = length (line (v .lines) (semaphoreLine s)) in
+      (Always (BlockedOn s i) (next v (pend s)) (asks since) × (length (beforeAt s i now) + howMany (isPost s) since ≤ k))
+      ⊎ ServedIn s i k (next v (pend s)) (asks since)
+  pub inTime : let k = length (line (v .lines) (semaphoreLine s)) in
+      k < howMany (isPost s) since → ServedIn s (current (v .state)) k (next v (pend s)) (asks since)
+
+abbrev pub DemandThreeMixed : Type 0
+DemandThreeMixed =
+    (t : Tables) → Sound t → (ps : List Piece) → Mixture t ps → (s : ℕ) (b : Begins s (historyOf ps))
+    → ArrivalOrder s (after t (asks (b .before)))
+    → TurnSince s (b .since) (after t (asks (b .before))) (tablesAfter t ps)
+
+-- ---- No. 8, of each accepted post
+abbrev pub MixedTells : Post → Type 0
+MixedTells p =
+    (t : Tables) → Sound t → (ps : List Piece) → Mixture t ps
+    → Each (λ u q. q .number ≡ p .number → made u q .answer .code ≡ 0 → Tells p u q (made u q .answer) (next u q)) t (callsIn ps)
+
+-- ---- No. 12
+abbrev pub NoPostLostMixed : Type 0
+NoPostLostMixed =
+    (t : Tables) → Sound t → (ps : List Piece) → Mixture t ps → (s : ℕ) → Counting s (tablesAfter t ps)
+    → (x : LastSet s (historyOf ps)) → Balanced s (historyOf ps) x (tablesAfter t ps)
+
+abbrev pub NoPostLostMixedFromFresh : Type 0
+NoPostLostMixedFromFresh =
+    (levels : ℕ) → let t = madeFresh levels .tables in
+    (ps : List Piece) → Mixture t ps → (s : ℕ) → Counting s (tablesAfter t ps)
+    → (x : LastSet s (historyOf ps)) × Balanced s (historyOf ps) x (tablesAfter t ps)
