@@ -27,30 +27,33 @@ module _ (t : Tables) (ws room : List ℕ) where
   refused-list k other left {s} e =
       promised-list t ws room (e ∙ sym left) (λ _ code. absurd (other (sym (ap (λ (h : Handed). h .answer .code) e) ∙ code)))
 
-  pub of-bad : {b : Bool} → b ≡ badList (length ws) (length room) → b ≡ true → {r : Answer} {x : Thread} → r ≡ answer 4 0 0
-      → x ≡ running (t .lines) (t .state) → Sound t → PromisedList t ws room (handed t room r x)
-  unfolding nothingDone
-  of-bad is bad answered runs s =
-      refused-list 4 (λ e. omega (arith, e)) (bad-left t ws room (means-sound t s) (sym is ∙ bad)) (rw (answered, runs, means-sound t s))
-
-  pub of-unsound : {b : Bool} → b ≡ sound t → not b ≡ true → {r : Answer} {x : Thread} → (r ≡ answer 10 0 0) × (x ≡ Task 0)
+  pub of-unsound : {b : Bool} → not b ≡ true → {r : Answer} {x : Thread} → (r ≡ answer 10 0 0) × (x ≡ Task 0) → b ≡ sound t
       → PromisedList t ws room (handed t room r x)
   unfolding nothingDone
-  of-unsound {b} is tested (answered, runs) =
+  of-unsound {b} tested (answered, runs) is =
       let not-sound : sound t ≡ false = sym is ∙ not-true b tested in
       refused-list 10 (λ e. omega (arith, e)) (unsound-left t ws room not-sound) (rw (answered, runs, not-sound))
 
-  pub of-sound : {b : Bool} → b ≡ sound t → not b ≡ false → {s : Handed} → (Sound t → PromisedList t ws room s) → PromisedList t ws room s
-  of-sound {b} is tested p = p (sound-means t (sym is ∙ not-false b tested))
+  -- ---- on sound tables: refused with code 4, or accepted, and all calls were made
+  module _ {b : Bool} (tested : not b ≡ false) {c : Bool} (test : c ≡ badList (length ws) (length room)) where
+    is-sound : b ≡ sound t → Sound t
+    is-sound is = sound-means t (sym is ∙ not-false b tested)
 
-  -- ---- accepted: all calls were made
-  pub of-good : {b : Bool} → b ≡ badList (length ws) (length room) → b ≡ false → {u : Tables} {out : List ℕ}
-      → (Sound t → callsIn (length ws) * answerWords ≤ length room → ListMade t (callsOf ws) room u out)
-      → {r : Answer} {x : Thread} → r ≡ answer 0 0 0 → x ≡ running (u .lines) (u .state) → Sound t → PromisedList t ws room (handed u out r x)
-  unfolding allMade
-  of-good is good {u} {out} all answered runs s =
-      let f = fits ws room (sym is ∙ good) in
-      let made = all s (omega (arith, f .multiple, f .space)) in
-      promised-list t ws room
-      (rw (answered, runs, made .tables, made .answers) (sym (good-left t ws room (means-sound t s) (sym is ∙ good))))
-      (λ _ _. made .types)
+    pub of-bad : c ≡ true → {r : Answer} {x y : Thread} → x ≡ running (t .lines) (t .state) → (r ≡ answer 4 0 0) × (y ≡ x) → b ≡ sound t
+        → PromisedList t ws room (handed t room r y)
+    unfolding nothingDone
+    of-bad bad runs (answered, same) is =
+        let s = means-sound t (is-sound is) in
+        refused-list 4 (λ e. omega (arith, e)) (bad-left t ws room s (sym test ∙ bad)) (rw (answered, same, runs, s))
+
+    pub of-good : c ≡ false → {u : Tables} {out : List ℕ}
+        → (Sound t → callsIn (length ws) * answerWords ≤ length room → ListMade t (callsOf ws) room u out)
+        → {r : Answer} {x y : Thread} → x ≡ running (u .lines) (u .state) → (r ≡ answer 0 0 0) × (y ≡ x) → b ≡ sound t
+        → PromisedList t ws room (handed u out r y)
+    unfolding allMade
+    of-good good all runs (answered, same) is =
+        let f = fits ws room (sym test ∙ good) in
+        let made = all (is-sound is) (omega (arith, f .multiple, f .space)) in
+        promised-list t ws room
+        (rw (answered, same, runs, made .tables, made .answers) (sym (good-left t ws room (means-sound t (is-sound is)) (sym test ∙ good))))
+        (λ _ _. made .types)

@@ -17,8 +17,9 @@ use rules::Thread;
 ghost use mathlib.Core.Path.{_≡_};
 ghost use Prim.Native.Nat.{_*_, _≤_};
 ghost use lib.ListN.{length};
+ghost use Rattle.rules.specs.Answer.{answer};
 ghost use Rattle.rules.specs.Fresh.{madeFresh};
-ghost use Rattle.rules.specs.Sound.{Sound};
+ghost use Rattle.rules.specs.Sound.{Sound, sound as isSound};
 ghost use Rattle.rules.specs.Step.{stepOf};
 ghost use Rattle.runs.specs.Run.{asked};
 ghost use Rattle.runs.specs.CallList.{callsIn, callsOf, answerWords, handed};
@@ -121,7 +122,17 @@ fn make_calls(
     }
 }
 
-// A list of calls on tables that were tested: code 4 and nothing done where it is bad.
+// What is said of a list as a whole.
+fn of_list(code: u32, thread: Thread) -> Said
+    ensures { λ r. ⌜ (r .answer ≡ answer code 0 0) × (r .thread ≡ thread) ⌝ }
+{
+    Said {
+        answer: rows::answers::refused(code),
+        thread,
+    }
+}
+
+// A list of calls on tables that were tested: code 10 where they are not sound, then code 4 where the list is bad; nothing is done then.
 fn hand_over(
     tasks: &mut Tasks,
     lines: &mut Lines,
@@ -134,16 +145,19 @@ fn hand_over(
     state: &mut State,
     calls: &[u32],
     answers: &mut [u32],
+    sound: bool,
 ) -> Said
-    ensures { λ r. ⌜ (Sound (before tasks lines semaphores events mailboxes swis clocks heap state)
+    ensures { λ r. ⌜ (sound ≡ isSound (before tasks lines semaphores events mailboxes swis clocks heap state)
         → PromisedList (before tasks lines semaphores events mailboxes swis clocks heap state) (now (calls .entry)) (now (answers .entry))
         (handed (leaves tasks lines semaphores events mailboxes swis clocks heap state) (now (answers .exit)) (r .answer) (r .thread))) ⌝ }
 {
-    if call_lists::is_bad(calls.len(), answers.len()) {
-        return Said {
-            answer: rows::answers::refused(4),
-            thread: dispatch::running(lines, state),
-        };
+    let bad = call_lists::is_bad(calls.len(), answers.len());
+    let running = dispatch::running(lines, state);
+    if !sound {
+        return tested::unsound();
+    }
+    if bad {
+        return of_list(4, running);
     }
     make_calls(
         tasks,
@@ -158,10 +172,8 @@ fn hand_over(
         calls,
         answers,
     );
-    Said {
-        answer: rows::answers::accepted(0, 0),
-        thread: dispatch::running(lines, state),
-    }
+    let last = dispatch::running(lines, state);
+    of_list(0, last)
 }
 
 // Many calls at once on lent tables, which are tested once: up to 256 calls, five words to a call, and three words for the answer to each (request No. 4).
@@ -181,7 +193,7 @@ pub fn call_list(
     ensures { λ r. ⌜ PromisedList (before tasks lines semaphores events mailboxes swis clocks heap state) (now (calls .entry)) (now (answers .entry))
         (handed (leaves tasks lines semaphores events mailboxes swis clocks heap state) (now (answers .exit)) (r .answer) (r .thread)) ⌝ }
 {
-    if !sound::is_sound(
+    let sound = sound::is_sound(
         tasks,
         lines,
         semaphores,
@@ -191,9 +203,7 @@ pub fn call_list(
         clocks,
         heap,
         state,
-    ) {
-        return tested::unsound();
-    }
+    );
     hand_over(
         tasks,
         lines,
@@ -206,6 +216,7 @@ pub fn call_list(
         state,
         calls,
         answers,
+        sound,
     )
 }
 
