@@ -1,30 +1,31 @@
 -- Demands 1 and 2 hold of a list of calls: what is refused is looked at case by case, and an accepted list is its calls one after the other.
 use Prim.{tt}
-use Prim.Native.Nat.{ℕ, zero, suc, _+_, _*_, _/_, _%_, _<_, _≤_}
+use Prim.Native.Nat.{ℕ, suc, _*_, _/_, _%_, _<_, _≤_}
 use mathlib.Core.Path.{_≡_, refl, sym, ap, subst, _∙_}
 use mathlib.Core.Logic.{_≢_, inr, ⊎-elim}
 use mathlib.Core.Bool.{true, false, true≢false}
-use mathlib.Core.List.{List, [], _∷_, _++_}
+use mathlib.Core.List.{List, [], _∷_}
 use native.Mathlib.Omega.{arith}
 use borrow.Author.Tests.{eq-eqb, ne-eqb, lt-ltb, le-ltb}
-use lib.ListN.{length, getD, drop, length-drop}
-use lib.Seq.{sets, sets-eq, length-sets, drop-cons}
+use lib.ListN.{length}
+use lib.Seq.{length-sets}
 use Rattle.fold.proofs.Laws.{same?, lt-or-le}
 use Rattle.fold.proofs.Runs.{getD-sets-out}
 use Rattle.rules.specs.Tables.{Typed}
-use Rattle.rules.specs.Answer.{firstGiven, answer}
+use Rattle.rules.specs.Answer.{answer}
 use Rattle.rules.specs.Sound.{Sound, sound}
 use Rattle.rules.proofs.Agree.{sound-means, means-sound}
 use Rattle.rules.specs.declared.Answer.{Answer}
 use Rattle.rules.specs.declared.Tables.{Tables}
 use Rattle.runs.specs.Run.{Asked, Words, made, next, after, Each}
-use Rattle.runs.specs.CallList.{callsOf, firstCalls, answersTo, wordsOf, answersIn, badList, listCases, Handed, handed, allMade, nothingDone, handOver}
+use Rattle.runs.specs.CallList.{callsOf, answersTo, wordsOf, badList, Handed, handed, allMade, nothingDone, handOver}
+use Rattle.runs.proofs.CallList.{length-first, length-answers, length-words, answers-stand, laid-out, unsound-left, bad-left, good-left}
 use Rattle.refusals.proofs.First.{by-bool}
 use Rattle.keeps.proofs.Nothing.{nothing-left}
 use Rattle.demands.specs.One.{threadOf}
 use Rattle.demands.specs.Two.{Kept}
 use Rattle.demands.specs.Sequence.{Entered, Sequence, calls, tablesAfter}
-use Rattle.demands.specs.Lists.{Fits, laidOut, ListsAreWords, ListAnswered, ListKept, PromisedList, answersOf, lastThread, SameOneByOne, ListsAreCalls, ListsCanBeCalls}
+use Rattle.demands.specs.Lists.{Fits, ListsAreWords, ListAnswered, ListKept, PromisedList, answersOf, lastThread, SameOneByOne, ListsAreCalls, ListsCanBeCalls}
 use Rattle.demands.proofs.Two.{demand-2}
 use Rattle.demands.proofs.Promised as Single
 use Rattle.demands.proofs.Sequence.{as-entered}
@@ -64,18 +65,6 @@ module _ (ws room : List ℕ) where
 
 -- ---- what a list leaves: code 10 on tables that are not sound, code 4 where it does not fit, all calls made else
 module _ (t : Tables) (ws room : List ℕ) where
-  pub unsound-left : sound t ≡ false → handOver t ws room ≡ nothingDone t room 10
-  unfolding handOver listCases firstGiven
-  unsound-left e = rw e
-
-  pub bad-left : sound t ≡ true → badList (length ws) (length room) ≡ true → handOver t ws room ≡ nothingDone t room 4
-  unfolding handOver listCases firstGiven
-  bad-left e bad = rw (e, bad)
-
-  pub good-left : sound t ≡ true → badList (length ws) (length room) ≡ false → handOver t ws room ≡ allMade t (callsOf ws) room
-  unfolding handOver listCases firstGiven
-  good-left e good = rw (e, good)
-
   pub of-a-list : (P : Handed → Type 0) → ((Sound t → ⊥) → P (nothingDone t room 10)) → (Sound t → (Fits ws room → ⊥) → P (nothingDone t room 4))
       → (Sound t → Fits ws room → P (allMade t (callsOf ws) room)) → P (handOver t ws room)
   of-a-list P ten four none =
@@ -83,40 +72,11 @@ module _ (t : Tables) (ws room : List ℕ) where
       (λ e.
       let s : Sound t = sound-means t e in
       by-bool (badList (length ws) (length room))
-      (λ bad. rw (bad-left e bad) (four s (no-fit ws room bad)))
-      (λ good. rw (good-left e good) (none s (fits ws room good))))
-      (λ e. rw (unsound-left e) (ten (λ s. true≢false (sym (means-sound t s) ∙ e))))
+      (λ bad. rw (bad-left t ws room e bad) (four s (no-fit ws room bad)))
+      (λ good. rw (good-left t ws room e good) (none s (fits ws room good))))
+      (λ e. rw (unsound-left t ws room e) (ten (λ s. true≢false (sym (means-sound t s) ∙ e))))
 
 -- ---- demand 1
--- what is read back of answers that were put in front of a list
-read-back : (rs : List Answer) (rest : List ℕ) → answersIn (length rs) (wordsOf rs ++ rest) ≡ rs
-unfolding answersIn wordsOf
-read-back [] rest = refl
-read-back (r ∷ rs) rest = ap (λ (l : List Answer). r ∷ l) (read-back rs rest)
-
-length-words : (rs : List Answer) → length (wordsOf rs) ≡ length rs * 3
-unfolding wordsOf
-length-words [] = refl
-length-words (r ∷ rs) = omega (arith, length-words rs)
-
-length-answers : (t : Tables) (qs : List Asked) → length (answersTo t qs) ≡ length qs
-unfolding answersTo
-length-answers t [] = refl
-length-answers t (q ∷ qs) = ap suc (length-answers (next t q) qs)
-
-length-first : (n : ℕ) (ws : List ℕ) → length (firstCalls n ws) ≡ n
-unfolding firstCalls
-length-first zero ws = refl
-length-first (suc n) ws = ap suc (length-first n (drop 5 ws))
-
--- the answers of calls stand in the room that is long enough, and can be read there
-answers-stand : (t : Tables) (qs : List Asked) (room : List ℕ) → length qs * 3 ≤ length room
-    → answersIn (length qs) (sets room 0 (wordsOf (answersTo t qs))) ≡ answersTo t qs
-answers-stand t qs room enough =
-    let rs : List Answer = answersTo t qs in
-    let long : length (wordsOf rs) ≡ length qs * 3 = length-words rs ∙ ap (λ (n : ℕ). n * 3) (length-answers t qs) in
-    rw (sets-eq (wordsOf rs) room 0 (omega (arith, long, enough)), sym (length-answers t qs)) (read-back rs (drop (0 + length (wordsOf rs)) room))
-
 calls-fit : (ws room : List ℕ) → Fits ws room → length (callsOf ws) * 3 ≤ length room
 calls-fit ws room f =
     let n : length ws / 5 ≡ f .calls = omega (arith, f .multiple) in
@@ -229,23 +189,6 @@ promised-list t ws room e types =
     }
 
 -- ---- a list that fits is its calls' words, one after the other
-five-words : (ws : List ℕ) → 5 ≤ length ws
-    → ws ≡ getD ws 0 0 ∷ getD ws 1 0 ∷ getD ws 2 0 ∷ getD ws 3 0 ∷ getD ws 4 0 ∷ drop 5 ws
-five-words ws long =
-    let word : (i : ℕ) → i < 5 → drop i ws ≡ getD ws i 0 ∷ drop (suc i) ws = λ i inside. drop-cons ws i 0 (omega (arith, long, inside)) in
-    word 0 (omega arith)
-    ∙ ap (λ (l : List ℕ). getD ws 0 0 ∷ l) (word 1 (omega arith))
-    ∙ ap (λ (l : List ℕ). getD ws 0 0 ∷ getD ws 1 0 ∷ l) (word 2 (omega arith))
-    ∙ ap (λ (l : List ℕ). getD ws 0 0 ∷ getD ws 1 0 ∷ getD ws 2 0 ∷ l) (word 3 (omega arith))
-    ∙ ap (λ (l : List ℕ). getD ws 0 0 ∷ getD ws 1 0 ∷ getD ws 2 0 ∷ getD ws 3 0 ∷ l) (word 4 (omega arith))
-
-laid-out : (n : ℕ) (ws : List ℕ) → length ws ≡ n * 5 → laidOut (firstCalls n ws) ≡ ws
-unfolding laidOut firstCalls
-laid-out zero [] e = refl
-laid-out zero (w ∷ ws) e = absurd (omega (arith, e))
-laid-out (suc n) ws e =
-    rw (laid-out n (drop 5 ws) (omega (arith, length-drop 5 ws, e))) (sym (five-words ws (omega (arith, e))))
-
 pub lists-are-words : ListsAreWords
 lists-are-words ws room f =
     let n : length ws / 5 ≡ f .calls = omega (arith, f .multiple) in

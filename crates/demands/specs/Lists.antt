@@ -11,8 +11,8 @@ use Rattle.rules.specs.Sound.{Sound}
 use Rattle.rules.specs.declared.Answer.{Answer}
 use Rattle.rules.specs.declared.Tables.{Tables}
 use Rattle.rules.specs.declared.Thread.{Thread}
-use Rattle.runs.specs.Run.{Asked, Words, made, after, Each}
-use Rattle.runs.specs.CallList.{callsOf, answersTo, answersIn, Handed, handed, handOver}
+use Rattle.runs.specs.Run.{Words, made, after, Each}
+use Rattle.runs.specs.CallList.{callsOf, laidOut, answersTo, answersIn, Handed, handed, handOver}
 use Rattle.demands.specs.One.{threadOf}
 use Rattle.demands.specs.Two.{Kept}
 use Rattle.demands.specs.Sequence.{Entered, Sequence, calls, tablesAfter}
@@ -24,11 +24,7 @@ pub record Fits (words room : List ℕ) : Type 0 where
   pub most : calls ≤ 256
   pub space : calls * 3 ≤ length room
 
--- "five to a call (number, four arguments)": the words of calls; those of a list that fits are the list (`ListsAreWords`)
-unfoldable pub laidOut : List Asked → List ℕ
-laidOut [] = []
-laidOut (q ∷ qs) = q .number ∷ q .a ∷ q .b ∷ q .c ∷ q .d ∷ laidOut qs
-
+-- "five to a call (number, four arguments)": a list that fits is the words of its calls, one after the other
 abbrev pub ListsAreWords : Type 0
 ListsAreWords = (words room : List ℕ) → Fits words room → laidOut (callsOf words) ≡ words
 

@@ -17,7 +17,8 @@ use Rattle.rules.specs.declared.Thread.{Thread}
 use Rattle.rules.specs.declared.Thread.the-variants.{Task}
 use Rattle.runs.specs.CallList.{callsIn, callsOf, answerWords, badList, Handed, handed, allMade, nothingDone, handOver}
 use Rattle.demands.specs.Lists.{PromisedList}
-use Rattle.demands.proofs.Lists.{fits, bad-left, good-left, unsound-left, promised-list}
+use Rattle.runs.proofs.CallList.{unsound-left, bad-left, good-left}
+use Rattle.demands.proofs.Lists.{fits, promised-list}
 use Rattle.call_lists.specs.Made.{ListMade}
 
 module _ (t : Tables) (ws room : List ℕ) where

@@ -37,6 +37,11 @@ firstCalls (suc n) ws = callIn ws ∷ firstCalls n (drop callWords ws)
 abbrev pub callsOf : List ℕ → List Asked
 callsOf ws = firstCalls (callsIn (length ws)) ws
 
+-- the other way: the words of calls
+unfoldable pub laidOut : List Asked → List ℕ
+laidOut [] = []
+laidOut (q ∷ qs) = q .number ∷ q .a ∷ q .b ∷ q .c ∷ q .d ∷ laidOut qs
+
 -- ---- "and fills three words for each (code, outcome, value) in a second list"
 -- the answers to calls "made one after the other". "Refused calls do not stop the rest."
 unfoldable pub answersTo : Tables → List Asked → List Answer
