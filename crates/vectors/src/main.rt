@@ -1,4 +1,7 @@
-// Replays each log that an argument names, whole in memory, under a line with its name.
+// Replays each log that an argument names, whole in memory, under a line with its name, and makes its calls by lists.
+mod lists;
+
+use lists::print_sums;
 
 // The log's name in a line.
 fn print_name(name: &[u8]) {
@@ -36,6 +39,7 @@ fn replay_whole(fd: i32, name: &[u8]) {
     let length = io::read_full(fd, &mut log);
     if has_ended(fd, name) {
         print_text(&log[..length]);
+        print_sums(&log[..length]);
     }
 }
 
