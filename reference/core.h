@@ -1,12 +1,14 @@
 /*
- * The call core of the kernel, second implementation: one call or tick changes the tables in place and gives an answer.
+ * The call core of the kernel, second implementation: one call or tick changes the tables in place and gives an answer, and so does a list of calls.
  *
  * The words are those of document 01: task, Swi, line, post, pend, limit, taken trigger. Every table is part of `struct tables`; nothing is
- * allocated. The tables begin fresh (core_fresh) and only core_call changes them, so they are always sound and code 10 never comes up.
+ * allocated. core_call takes it that the tables are sound: they begin fresh (core_fresh), and every call leaves them sound. core_list takes any
+ * tables and tests them first (core_unsound), so it alone gives code 10.
  */
 #ifndef CORE_H
 #define CORE_H
 
+#include <stddef.h>
 #include <stdint.h>
 
 enum {
@@ -88,6 +90,7 @@ enum switches { SWIS_SWITCH = 1, TASKS_SWITCH = 2, BOTH_SWITCHES = SWIS_SWITCH |
 /* In the order of the checks. With OUTSIDE_TABLE and OBJECT_NOT_IN_USE the value names the table, with any other refusal it is 0. */
 enum code {
     ACCEPTED = 0,
+    NOT_SOUND = 10,
     UNKNOWN_CALL = 1,
     WRONG_CONTEXT = 2,
     OUTSIDE_TABLE = 3,
@@ -215,6 +218,19 @@ struct thread {
     uint32_t number;       /* of the task or Swi; 0 for an interrupt */
 };
 
+/* The words of a list of calls (No. 4), and of its answers. */
+enum {
+    CALL_WORDS = 5,        /* number, four arguments */
+    ANSWER_WORDS = 3,      /* code, outcome, value */
+    LIST_CALLS = 256       /* at most */
+};
+
+/* What a list as a whole is answered. */
+struct list_answer {
+    struct answer answer;
+    struct thread thread;
+};
+
 /*
  * Fresh tables with that number of levels. Where it is neither of the two, the answer is code 4 and the tables have LEVELS_LEAST. Task 0 runs
  * either way.
@@ -227,7 +243,15 @@ struct answer core_call(struct tables *t, uint32_t number, uint32_t a, uint32_t 
 /* The thread that the dispatch rule names. */
 struct thread core_running(const struct tables *t);
 
-/* For tests: what is not sound in the tables, or a null pointer. */
+/*
+ * A list of so many words is handed over, and so much room is lent for its answers; the two are apart. Accepted, which is code 0 and the thread after
+ * the last call, it makes the calls one after the other, refused ones too, and writes three words for each; the room past them stays as it was.
+ * Refused it does nothing: code 10 and task 0 if the tables are not sound; then code 4 and the thread that runs if the words are not whole calls, are
+ * more than LIST_CALLS calls, or have no room for their answers.
+ */
+struct list_answer core_list(struct tables *t, const uint32_t *calls, size_t words, uint32_t *answers, size_t room);
+
+/* What is not sound in the tables, whatever they hold, or a null pointer. */
 const char *core_unsound(const struct tables *t);
 
 #endif

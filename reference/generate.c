@@ -11,9 +11,11 @@
  * generate --style SEED: prints the name of the seed's style.
  *
  * Each call is carried out on the core beside; tables that are not sound after a call, or changed by a refused one, end the program, and so does a
- * call after which the number of levels is another, a post that is lost (sums.h) or that does not name whom it woke (wakes.h).
+ * call after which the number of levels is another, a post that is lost (sums.h) or that does not name whom it woke (wakes.h). With --coverage each
+ * log is made again by lists of random lengths (cuts.h); anything that is not as with single calls ends the program too.
  */
 #include "coverage.h"
+#include "cuts.h"
 #include "editions.h"
 #include "log.h"
 #include "maker.h"
@@ -259,6 +261,17 @@ static void note_faults(struct maker *m, const uint8_t *bytes, size_t records)
     free(damaged);
 }
 
+/* Makes the calls of a log by lists; ends the program if that is not as with single calls. */
+static void make_lists(struct maker *m, uint64_t seed, const uint8_t *bytes, size_t records)
+{
+    const char *off = cuts_off(m, bytes, records * RECORD_BYTES);
+
+    if (off == NULL)
+        return;
+    fprintf(stderr, "list off: %s, in the log of seed %llu with %lu levels\n", off, (unsigned long long)seed, (unsigned long)m->tables.levels);
+    exit(3);
+}
+
 static void cover_seeds(uint64_t seeds, uint32_t levels, size_t records)
 {
     static struct maker m;
@@ -268,6 +281,7 @@ static void cover_seeds(uint64_t seeds, uint32_t levels, size_t records)
         start_log(&m, seed, levels);
         make_log(&m, bytes, records, 1);
         note_faults(&m, bytes, records);
+        make_lists(&m, seed, bytes, records);
     }
     free(bytes);
 }

@@ -3,7 +3,8 @@
  * rows stand in threads.c, pends.c, machine.c and levels.c.
  *
  * kinds --check: the core gives every answer there, stays sound, loses no post and wakes whom wakes.h says, and each table has every code that each
- * call of its kind can give; and the sums of sums.h are as sides.c has them.
+ * call of its kind can give; the sums of sums.h are as sides.c has them; lists of calls are answered as listed.c has them, the rows above by lists
+ * too; and tables are sound or not as spoils.c has them.
  * kinds --names: the names of the tables. kinds NAME: writes that table as a call log.
  */
 #include "calls.h"
@@ -305,7 +306,7 @@ static int check(void)
 {
     static struct tables t;
     struct sums sums;
-    unsigned long calls = 0, sides_calls = 0;
+    unsigned long calls = 0, sides_calls = 0, sides_lists = 0, lists = 0, calls_in_lists = 0, spoilt = 0;
 
     for (unsigned which = 0; which < NAMES; which++) {
         core_fresh(&t, tables_by_name[which]->levels);
@@ -320,10 +321,15 @@ static int check(void)
     check_fresh();
     check_high_task();
     check_versions();
-    faults += sides_check(&sides_calls);
+    faults += listed_check(tables_by_name, NAMES, &lists, &calls_in_lists);
+    faults += spoils_check(&spoilt);
+    faults += sides_check(&sides_calls, &sides_lists);
     if (faults == 0)
-        printf("%lu calls answered as written by hand\n%lu calls at semaphores with both sides of their sum as worked out by hand\n",
-               calls, sides_calls);
+        printf("%lu calls answered as written by hand\n"
+               "%lu calls at semaphores with both sides of their sum as worked out by hand, one by one and in %lu lists\n"
+               "%lu lists answered as written by hand, with %lu calls in those accepted\n"
+               "%lu tables sound or not as written by hand\n",
+               calls, sides_calls, sides_lists, lists, calls_in_lists, spoilt);
     return faults == 0 ? 0 : 1;
 }
 

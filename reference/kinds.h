@@ -44,7 +44,19 @@ extern const struct named_table semaphores_table, events_table, mailboxes_table;
 /* machine.c */
 extern const struct named_table clocks_table, heap_table, switches_table, five_table;
 
-/* sides.c: the sums of sums.h, worked out by hand; adds its calls to *calls and gives the number of faults, which it has told. */
-unsigned sides_check(unsigned long *calls);
+/*
+ * sides.c: the sums of sums.h, worked out by hand; adds its calls, and the lists in which it makes them again, to *calls and *lists and gives the
+ * number of faults, which it has told.
+ */
+unsigned sides_check(unsigned long *calls, unsigned long *lists);
+
+/*
+ * listed.c: lists of calls by hand, and the rows of these tables by lists; adds the lists and the calls of those accepted to *lists and *calls and
+ * gives the number of faults, which it has told.
+ */
+unsigned listed_check(const struct named_table *const tables[], size_t names, unsigned long *lists, unsigned long *calls);
+
+/* spoils.c: tables that are not sound, and some that are, by hand; adds their number to *tables and gives the number of faults, which it has told. */
+unsigned spoils_check(unsigned long *tables);
 
 #endif

@@ -43,6 +43,19 @@ uint32_t log_argument(const struct record *record, unsigned which)
     return big_endian(record->arguments + 4 * which);
 }
 
+size_t log_calls(struct log *log, uint32_t *words)
+{
+    struct record record;
+    size_t calls = 0;
+
+    for (; log_next(log, &record) == LOG_RECORD; calls++) {
+        *words++ = record.call;
+        for (unsigned i = 0; i < CALL_WORDS - 1; i++)
+            *words++ = log_argument(&record, i);
+    }
+    return calls;
+}
+
 uint32_t log_levels(const struct log *log)
 {
     return log->length > VERSION_AT && log->bytes[VERSION_AT] == SECOND_EDITION ? LEVELS_MOST : LEVELS_LEAST;

@@ -46,6 +46,12 @@ enum version log_version(uint32_t levels);
 /* Argument 0 to 3 of a record. */
 uint32_t log_argument(const struct record *record, unsigned which);
 
+/*
+ * The calls of a log up to its end or a fault, as a list has them: number and four arguments, a word each. Gives how many; there must be room for
+ * all.
+ */
+size_t log_calls(struct log *log, uint32_t *words);
+
 /* The record of a call. */
 void log_write(uint8_t bytes[RECORD_BYTES], enum version version, uint32_t call, uint32_t a, uint32_t b, uint32_t c, uint32_t d);
 

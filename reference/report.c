@@ -2,7 +2,7 @@
 #include "coverage.h"
 #include "states.h"
 
-/* The codes in the order of the checks; 10 cannot occur. */
+/* The codes in the order of the checks; a single call cannot give 10. */
 static const uint8_t order[] = { ACCEPTED,      UNKNOWN_CALL, WRONG_CONTEXT, OUTSIDE_TABLE, OBJECT_NOT_IN_USE, BAD_ARGUMENT,
                                  STATE_FORBIDS, TABLE_FULL,   AT_ITS_END,    NO_HEAP_ROOM,  SWITCH_IS_OFF };
 
@@ -157,6 +157,19 @@ static void print_found(FILE *file)
         fprintf(file, "%10lu  %s\n", coverage.found[i], found[i]);
 }
 
+/* What became of lists. */
+static void print_listed(FILE *file)
+{
+    unsigned lengths = 0;
+
+    for (unsigned i = 0; i <= LIST_CALLS; i++)
+        lengths += coverage.list_length[i] != 0;
+    fprintf(file, "\n%lu lists, %lu of them refused; %lu calls in the others, which have %u of %u lengths\nhow often, and in how many of %lu logs\n",
+            coverage.lists, coverage.lists_refused, coverage.calls_listed, lengths, LIST_CALLS + 1u, coverage.logs);
+    for (unsigned i = 0; i < LISTED; i++)
+        fprintf(file, "%10lu%6lu  %s\n", coverage.listed[i].times, coverage.listed[i].logs, listed[i]);
+}
+
 /* Which states of the levels and which faults were never reached, and which states were that cannot be; gives how many. */
 static unsigned print_never_levelled(FILE *file)
 {
@@ -198,6 +211,11 @@ static unsigned print_never(FILE *file)
         if (coverage.count[i].times == 0) {
             missing++;
             fprintf(file, "never: %s\n", happened[i]);
+        }
+    for (unsigned i = 0; i < LISTED; i++)
+        if (coverage.listed[i].times == 0) {
+            missing++;
+            fprintf(file, "never: list %s\n", listed[i]);
         }
     return missing;
 }
@@ -270,11 +288,12 @@ static void print_states(FILE *file)
     print_gone(file);
     print_levelled(file);
     print_found(file);
+    print_listed(file);
 }
 
 static unsigned deep_states(void)
 {
-    unsigned states = (unsigned)HAPPENED + COUNTED * ORDERS + WOKES * POST_PLACES + SWITCHED * SWITCH_CALLS + GONE * CONTEXTS;
+    unsigned states = (unsigned)HAPPENED + COUNTED * ORDERS + WOKES * POST_PLACES + SWITCHED * SWITCH_CALLS + GONE * CONTEXTS + LISTED;
 
     for (unsigned i = 0; i < LEVELLED * LEVEL_NUMBERS; i++)
         states += is_asked_for((enum levelled)(i / LEVEL_NUMBERS), (enum level_number)(i % LEVEL_NUMBERS)) ? 1 : 0;

@@ -1,10 +1,12 @@
 /*
  * Sequences of calls at one semaphore, written by hand with the two sides of its sum (sums.h) after each call. They are
- * checked by kinds --check and written as no log.
+ * checked by kinds --check, one by one and by lists, and written as no log.
  */
 #include "kinds.h"
 #include "sums.h"
 #include "wakes.h"
+
+#include <string.h>
 
 struct step {
     struct call call;
@@ -227,6 +229,70 @@ static unsigned long check_sequence(const struct sequence *sequence)
     return calls;
 }
 
+/* Calls of a sequence that are handed over as one list, and the step of each. */
+struct handed {
+    uint32_t calls[LIST_CALLS * CALL_WORDS];
+    size_t step[LIST_CALLS];
+    size_t n;
+};
+
+static unsigned long lists;
+
+/* What is counted for the sums are the words that the list is answered. */
+static void hand_over(struct handed *handed, struct sums *sums, struct tables *t, const struct sequence *sequence)
+{
+    uint32_t answers[LIST_CALLS * CALL_WORDS]; /* more than is lent */
+    struct list_answer list = core_list(t, handed->calls, handed->n * CALL_WORDS, answers, handed->n * ANSWER_WORDS);
+
+    expect(list.answer.code == ACCEPTED, "a list is refused");
+    for (size_t i = 0; i < handed->n; i++) {
+        const struct step *step = &sequence->step[handed->step[i]];
+        const uint32_t *word = answers + i * ANSWER_WORDS;
+
+        place.step = handed->step[i];
+        expect(word[0] == step->answer.code && word[1] == step->answer.outcome && word[2] == step->answer.value, "another answer in a list");
+        sums_note(sums, &step->call, (struct answer){ (uint16_t)word[0], (uint16_t)word[1], word[2] });
+    }
+    expect(sums_off(sums, t) == NULL, "a sum is off after a list");
+    handed->n = 0;
+    lists++;
+}
+
+/* How a sequence is cut into lists: of so many calls, and at each step's end or not. */
+struct cut {
+    size_t length;
+    int at_steps;
+};
+
+/* The same by lists. Where a list ends with a step, the sides are that step's. */
+static void check_by_lists(const struct sequence *sequence, const struct cut *cut)
+{
+    static struct tables t;
+    static struct handed handed;
+    struct sums sums;
+    unsigned faults_before = faults;
+
+    place.name = sequence->name;
+    handed.n = 0;
+    core_fresh(&t, LEVELS_LEAST);
+    sums_fresh(&sums);
+    for (size_t i = 0; i < sequence->steps; i++) {
+        unsigned times = sequence->step[i].times == 0 ? 1 : sequence->step[i].times;
+
+        for (unsigned time = 1; time <= times && faults == faults_before; time++) {
+            int is_step_end = time == times;
+
+            memcpy(handed.calls + handed.n * CALL_WORDS, &sequence->step[i].call, CALL_WORDS * sizeof handed.calls[0]);
+            handed.step[handed.n++] = i;
+            if (handed.n < cut->length && !(is_step_end && (cut->at_steps || i + 1 == sequence->steps)))
+                continue;
+            hand_over(&handed, &sums, &t, sequence);
+            if (is_step_end)
+                check_sides(&sums, &t, sequence);
+        }
+    }
+}
+
 /* A history that no core gave: the sums go by the calls and the answers alone. */
 static void check_history(void)
 {
@@ -261,10 +327,16 @@ static void check_history(void)
     expect(sum->count_set == 4 && sum->posts == 2 && sum->taken == 2, "count set 4, posts 2, units taken 2");
 }
 
-unsigned sides_check(unsigned long *calls)
+unsigned sides_check(unsigned long *calls, unsigned long *lists_made)
 {
-    for (size_t i = 0; i < sizeof sequences / sizeof sequences[0]; i++)
+    static const struct cut cuts[] = { { LIST_CALLS, 1 }, { LIST_CALLS, 0 }, { 7, 0 } };
+
+    for (size_t i = 0; i < sizeof sequences / sizeof sequences[0]; i++) {
         *calls += check_sequence(&sequences[i]);
+        for (size_t k = 0; k < sizeof cuts / sizeof cuts[0]; k++)
+            check_by_lists(&sequences[i], &cuts[k]);
+    }
     check_history();
+    *lists_made += lists;
     return faults;
 }

@@ -1,4 +1,4 @@
-/* For tests only: the paragraph on sound tables, checked on these tables one sentence after the other. */
+/* The paragraph on sound tables, checked on these tables one sentence after the other. The tables may hold anything. */
 #include "core.h"
 
 #include <string.h>
@@ -141,6 +141,8 @@ static const char *task_unsound(const struct tables *t, uint32_t number, uint32_
 {
     const struct task *task = &t->task[number];
 
+    if (is_member(t->tasks_limited, number) != (task->ticks_left != 0))
+        return "the set of limited waits";
     if (!is_member(t->tasks_in_use, number)) {
         if (number == 0)
             return "task 0 not in use";
@@ -150,8 +152,6 @@ static const char *task_unsound(const struct tables *t, uint32_t number, uint32_
     }
     if (task->outcome > NOT_MET || (task->outcome == NOT_MET && task->value != 0))
         return "a last result that no wait leaves";
-    if (is_member(t->tasks_limited, number) != (task->ticks_left != 0))
-        return "the set of limited waits";
     if (number == 0) {
         if (task->mode != READY || task->priority != 0 || task->outcome != 0 || task->value != 0)
             return "task 0";

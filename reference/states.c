@@ -202,6 +202,35 @@ const char *const found[FOUND] = {
     [NEITHER_AT_FIRST_RECORD] = "version: neither 1 nor 2 in the first record",
 };
 
+const char *const listed[LISTED] = {
+    [LIST_EMPTY] = "accepted, empty",
+    [LIST_OF_ONE] = "accepted, of one call",
+    [LIST_OF_SOME] = "accepted, of 2 to 255 calls",
+    [LIST_OF_MOST] = "accepted, of 256 calls",
+    [ROOM_EXACT] = "accepted, the room for the answers just enough",
+    [ROOM_LONGER] = "accepted, with more room",
+    [REFUSED_BETWEEN] = "accepted, a refused call between accepted ones",
+    [REFUSED_ALONE] = "accepted, all calls refused",
+    [HIGH_NUMBER] = "accepted, a call number above 255",
+    [LEFT_TASK] = "accepted, a task runs then",
+    [LEFT_SWI] = "accepted, a Swi runs then",
+    [LEFT_INTERRUPT] = "accepted, an interrupt runs then",
+    [LEFT_OTHER_THREAD] = "accepted, another thread runs than before",
+    [EMPTY_NOT_IN_TASK] = "accepted, empty, and no task runs",
+    [WORDS_LEFT_OVER] = "code 4 for words that are not whole calls",
+    [WORD_TOO_MANY] = "code 4 for 1,281 words",
+    [CALL_TOO_MANY] = "code 4 for 257 calls",
+    [CALLS_TOO_MANY] = "code 4 for more calls",
+    [ROOM_ONE_SHORT] = "code 4 for room that is one word short",
+    [ROOM_SHORT] = "code 4 for less room",
+    [REFUSED_IN_TASK] = "code 4 while a task runs",
+    [REFUSED_IN_SWI] = "code 4 while a Swi runs",
+    [REFUSED_IN_INTERRUPT] = "code 4 while an interrupt runs",
+    [UNSOUND_EMPTY] = "code 10, empty",
+    [UNSOUND_GOOD] = "code 10, else accepted",
+    [UNSOUND_BAD] = "code 10, else code 4",
+};
+
 struct counts coverage;
 
 void add_to(struct tally *tally, int is_so)

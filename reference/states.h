@@ -3,6 +3,7 @@
 #define STATES_H
 
 #include "calls.h"
+#include "core.h"
 
 /* Greatest numbers at any one time. */
 enum most {
@@ -249,6 +250,39 @@ enum found {
 
 extern const char *const found[FOUND]; /* in words */
 
+/* What became of lists (No. 4). */
+enum listed {
+    LIST_EMPTY,
+    LIST_OF_ONE,
+    LIST_OF_SOME,
+    LIST_OF_MOST,
+    ROOM_EXACT,
+    ROOM_LONGER,
+    REFUSED_BETWEEN,
+    REFUSED_ALONE,
+    HIGH_NUMBER,
+    LEFT_TASK,
+    LEFT_SWI,
+    LEFT_INTERRUPT,
+    LEFT_OTHER_THREAD,
+    EMPTY_NOT_IN_TASK,
+    WORDS_LEFT_OVER,
+    WORD_TOO_MANY,
+    CALL_TOO_MANY,
+    CALLS_TOO_MANY,
+    ROOM_ONE_SHORT,
+    ROOM_SHORT,
+    REFUSED_IN_TASK,
+    REFUSED_IN_SWI,
+    REFUSED_IN_INTERRUPT,
+    UNSOUND_EMPTY,
+    UNSOUND_GOOD,
+    UNSOUND_BAD,
+    LISTED
+};
+
+extern const char *const listed[LISTED]; /* in words */
+
 enum context { FROM_TASK, FROM_SWI, FROM_INTERRUPT, CONTEXTS };
 
 enum place { SEMAPHORE_PLACE, EVENT_PLACE, MAILBOX_PLACE, POST_PLACES }; /* of a post */
@@ -279,6 +313,11 @@ struct counts {
     unsigned long counted[COUNTED][ORDERS];
     uint64_t most_posts[ORDERS];       /* since a count was set */
     uint64_t most_taken[ORDERS];
+    unsigned long lists;               /* handed over */
+    unsigned long lists_refused;
+    unsigned long calls_listed;        /* in the others */
+    unsigned long list_length[LIST_CALLS + 1]; /* of the others, in calls */
+    struct tally listed[LISTED];
 };
 
 /* Of all calls noted so far; coverage.c adds to them and report.c prints them. */

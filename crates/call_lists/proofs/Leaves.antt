@@ -4,11 +4,12 @@ use mathlib.Core.Path.{_≡_}
 use mathlib.Core.List.{List, [], _∷_}
 use native.Mathlib.Omega.{arith}
 use borrow.Author.Tests.{lt-ltb, le-ltb}
-use lib.ListN.{length, set, length-set}
-use lib.Seq.{sets}
+use lib.ListN.{length, getD, drop, set, length-set}
+use lib.Seq.{sets, getD-drop}
+use Rattle.rules.specs.Answer.{answer}
 use Rattle.rules.specs.declared.Answer.{Answer}
 use Rattle.runs.specs.CallList.{wordsOf}
-use Rattle.call_lists.specs.CallLists.{noCall, callFrom, callAt, answerPut}
+use Rattle.call_lists.specs.CallLists.{noCall, callFrom, callAt, answerPut, noAnswer, answerAt}
 
 module _ (ws : List ℕ) (i : ℕ) where
   pub no-call : length ws / 5 ≤ i → noCall ≡ callAt ws i
@@ -43,3 +44,16 @@ module _ (out : List ℕ) (i : ℕ) (r : Answer) where
         let one : i * 3 + 1 ≡ suc (i * 3) = omega arith in
         let two : i * 3 + 2 ≡ suc (suc (i * 3)) = omega arith in
         rw (one, two) three-words
+
+-- ---- an answer as it is read
+module _ (out : List ℕ) (i : ℕ) where
+  pub no-answer : length out / 3 ≤ i → noAnswer ≡ answerAt out i
+  unfolding answerAt
+  no-answer past = rw (le-ltb i (length out / 3) past)
+
+  pub an-answer : i < length out / 3 → answer (getD out (i * 3) 0) (getD out (i * 3 + 1) 0) (getD out (i * 3 + 2) 0) ≡ answerAt out i
+  unfolding answerAt
+  an-answer inside =
+      let word : (k : ℕ) → getD (drop (i * 3) out) k 0 ≡ getD out (i * 3 + k) 0 = λ k. getD-drop (i * 3) out k 0 in
+      let none : i * 3 + 0 ≡ i * 3 = omega arith in
+      rw (lt-ltb i (length out / 3) inside, word 0, word 1, word 2, none)

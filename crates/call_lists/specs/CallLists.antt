@@ -3,11 +3,12 @@ use Prim.Native.Nat.{ℕ, _+_, _*_, _/_}
 use mathlib.Core.Bool.{cond as if}
 use mathlib.Core.List.{List, [], _∷_}
 use lib.Dec.{ltb}
-use lib.ListN.{length, getD}
+use lib.ListN.{length, getD, drop}
 use lib.Seq.{sets}
+use Rattle.rules.specs.Answer.{answer}
 use Rattle.rules.specs.declared.Answer.{Answer}
 use Rattle.kernel.specs.declared.Call.{Call}
-use Rattle.runs.specs.CallList.{callWords, callsIn, answerWords, wordsOf}
+use Rattle.runs.specs.CallList.{callWords, callsIn, answerWords, wordsOf, answerIn}
 
 -- what is given past the last call: "unknown call number"
 abbrev pub noCall : Call
@@ -22,3 +23,10 @@ callAt ws i = if (ltb i (callsIn (length ws))) (callFrom ws (i * callWords)) noC
 
 unfoldable pub answerPut : List ℕ → ℕ → Answer → List ℕ
 answerPut out i r = if (ltb i (length out / answerWords)) (sets out (i * answerWords) (wordsOf (r ∷ []))) out
+
+-- as who handed the list over reads it; past the last answer a code that none has
+abbrev pub noAnswer : Answer
+noAnswer = answer 0xffffffff 0 0
+
+unfoldable pub answerAt : List ℕ → ℕ → Answer
+answerAt out i = if (ltb i (length out / answerWords)) (answerIn (drop (i * answerWords) out)) noAnswer

@@ -2,20 +2,25 @@
 use kernel::Call;
 use rules::Answer;
 ghost use mathlib.Core.Path.{_≡_};
+ghost use Prim.Native.Nat.{_+_, min};
+ghost use lib.ListN.{take};
 ghost use Rattle.runs.specs.CallList.{badList};
-ghost use Rattle.call_lists.specs.CallLists.{callAt, answerPut};
+ghost use Rattle.call_lists.specs.CallLists.{callAt, answerPut, answerAt};
 
 // A call's number and its four arguments.
 pub const CALL_WORDS: usize = 5;
 
 // An answer's code, outcome and value.
-const ANSWER_WORDS: usize = 3;
+pub const ANSWER_WORDS: usize = 3;
 
 // A list has at most so many calls.
-const MOST_CALLS: usize = 256;
+pub const MOST_CALLS: usize = 256;
 
 // What no call has as its number.
 const NO_CALL: u32 = u32::MAX;
+
+// What no answer has as its code.
+const NO_CODE: u32 = u32::MAX;
 
 // Whether a list of so many words, with room for so many words of answers, is refused.
 pub fn is_bad(words: usize, room: usize) -> bool
@@ -59,4 +64,46 @@ pub fn put_answer(answers: &mut [u32], i: usize, answer: Answer)
     answers[k] = answer.code;
     answers[k + 1] = answer.outcome;
     answers[k + 2] = answer.value;
+}
+
+// The answer to call i as it stands in the list of answers; past the last one a code that no answer has.
+pub fn answer_at(answers: &[u32], i: usize) -> Answer
+    ensures { λ r. ⌜ r ≡ answerAt (now (answers .entry)) i ⌝ }
+{
+    if answers.len() / ANSWER_WORDS <= i {
+        return Answer {
+            code: NO_CODE,
+            outcome: 0,
+            value: 0,
+        };
+    }
+    let k = i * ANSWER_WORDS;
+    Answer {
+        code: answers[k],
+        outcome: answers[k + 1],
+        value: answers[k + 2],
+    }
+}
+
+// The first n words; all where there are fewer.
+pub fn front<'a>(words: &'a [u32], n: usize) -> &'a [u32]
+    ensures { λ r. ⌜ now r ≡ take n (now (words .entry)) ⌝ }
+{
+    if n < words.len() {
+        return &words[..n];
+    }
+    words
+}
+
+// Where a list ends that begins at a word and has at most `most` of so many words.
+pub fn end_of(at: usize, most: usize, words: usize) -> usize
+    ensures { λ r. ⌜ r ≡ min (at + most) words ⌝ }
+{
+    if words <= at {
+        return words;
+    }
+    if words - at < most {
+        return words;
+    }
+    at + most
 }

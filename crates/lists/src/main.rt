@@ -1,5 +1,7 @@
 // Lists of calls by hand on one set of tables: good ones and bad ones, and at last on tables that are not sound. Each row has its line, how many words of
 // the answer room are filled, and a sum over these.
+use call_lists::CALL_WORDS;
+use call_lists::front;
 use kernel::Said;
 use rules::Clocks;
 use rules::Events;
@@ -13,9 +15,6 @@ use rules::Tasks;
 use text::Text;
 use words::LEVELS;
 ghost use Prim.Native.Nat.{_≤_};
-
-// A call's number and its four arguments.
-const CALL_WORDS: usize = 5;
 
 // Document 01's sample: create at 5; semaphore kind 0 count 0; pend on 0 without end; post 0; post 7.
 const SAMPLE_CALLS: usize = 5;
@@ -92,14 +91,6 @@ fn words_of(n: u64) -> List {
         list[0] = NO_NUMBER;
     }
     list
-}
-
-// The first n words; all where there are fewer.
-fn front<'a>(words: &'a [u32], n: usize) -> &'a [u32] {
-    if n < words.len() {
-        return &words[..n];
-    }
-    words
 }
 
 // So many words, or all of the room.

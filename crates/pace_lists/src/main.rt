@@ -1,6 +1,11 @@
 // Makes the calls of the log on standard input with `call_list`, by lists of 256, again and again, and prints a sum over all answers: for measuring.
+use call_lists::ANSWER_WORDS;
+use call_lists::CALL_WORDS;
+use call_lists::MOST_CALLS;
+use call_lists::answer_at;
+use call_lists::end_of;
+use call_lists::front;
 use pacing::Calls;
-use rules::Answer;
 use rules::Clocks;
 use rules::Events;
 use rules::Heap;
@@ -12,32 +17,15 @@ use rules::Swis;
 use rules::Tasks;
 use rules::Thread;
 use text::Text;
-ghost use Prim.Native.Nat.{_≤_, _<_};
 ghost use Rattle.io.specs.Counts.{Counts};
 
-// A call's number and its four arguments.
-const CALL_WORDS: usize = 5;
-
-// An answer's code, outcome and value.
-const ANSWER_WORDS: usize = 3;
-
-// So many calls make a list: as many as it may have.
-const LIST_CALLS: usize = 256;
-
-const LIST_WORDS: usize = LIST_CALLS * CALL_WORDS;
+// A list of as many calls as it may have.
+const LIST_WORDS: usize = MOST_CALLS * CALL_WORDS;
 
 // Room for their answers.
-const ROOM_WORDS: usize = LIST_CALLS * ANSWER_WORDS;
+const ROOM_WORDS: usize = MOST_CALLS * ANSWER_WORDS;
 
 type Room = [u32; ROOM_WORDS];
-
-// The first n words; all where there are fewer.
-fn front<'a>(words: &'a [u32], n: usize) -> &'a [u32] {
-    if n < words.len() {
-        return &words[..n];
-    }
-    words
-}
 
 // The sum goes on by each answer, with the thread that the list gave.
 fn add_answers(from: u32, answers: &[u32], thread: Thread) -> u32 {
@@ -45,12 +33,7 @@ fn add_answers(from: u32, answers: &[u32], thread: Thread) -> u32 {
     let mut sum = from;
     let mut i = 0;
     while i < n {
-        let answer = Answer {
-            code: answers[i * ANSWER_WORDS],
-            outcome: answers[i * ANSWER_WORDS + 1],
-            value: answers[i * ANSWER_WORDS + 2],
-        };
-        sum = pacing::add(sum, answer, thread);
+        sum = pacing::add(sum, answer_at(answers, i), thread);
         i += 1;
     }
     sum
@@ -94,17 +77,6 @@ fn make_list(
     add_answers(from, answers, thread)
 }
 
-// Where the list ends that begins at a word.
-fn end_of(at: usize, words: usize) -> usize
-    requires { ⌜ at < words ⌝ }
-    ensures { λ r. ⌜ (at < r) × (r ≤ words) ⌝ }
-{
-    if words - at < LIST_WORDS {
-        return words;
-    }
-    at + LIST_WORDS
-}
-
 // The calls of the first words, from fresh tables of so many levels.
 fn one_round(levels: u32, log: &Calls, words: usize, from: u32) -> u32 {
     let calls = front(log, words);
@@ -122,7 +94,7 @@ fn one_round(levels: u32, log: &Calls, words: usize, from: u32) -> u32 {
     let mut sum = from;
     let mut at = 0;
     while at < calls.len() {
-        let end = end_of(at, calls.len());
+        let end = end_of(at, LIST_WORDS, calls.len());
         sum = make_list(
             &mut tasks,
             &mut lines,

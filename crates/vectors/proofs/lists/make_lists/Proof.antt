@@ -1,12 +1,12 @@
 -- `make_lists` is safe and ends: each list ends behind its start and within the calls, and the words that are left get fewer.
-use Prim.Native.Nat.{_-_, _≤_}
+use Prim.Native.Nat.{_-_, _≤_, _<_}
 use lib.ListN.{length}
 use borrow.Author.Needs.{needs}
 use Rattle.vectors.proofs.lists.make_lists.Statement.{statement}
 use Rattle.vectors.proofs.lists.make_lists.Tie as tie
 
 abbrev Inv-loop : tie.InvT-loop
-Inv-loop levels calls most tasks₀ lines₀ semaphores₀ events₀ mailboxes₀ swis₀ clocks₀ heap₀ state₀ so-far₀ at₀ tasks lines semaphores events mailboxes swis clocks heap state so-far at = at ≤ length calls
+Inv-loop levels calls most tasks₀ lines₀ semaphores₀ events₀ mailboxes₀ swis₀ clocks₀ heap₀ state₀ so-far₀ at₀ tasks lines semaphores events mailboxes swis clocks heap state so-far at = (at ≤ length calls) × (0 < most)
 
 abbrev μ-loop : tie.MeasureT-loop
 μ-loop levels calls most tasks₀ lines₀ semaphores₀ events₀ mailboxes₀ swis₀ clocks₀ heap₀ state₀ so-far₀ at₀ tasks lines semaphores events mailboxes swis clocks heap state so-far at = length calls - at
