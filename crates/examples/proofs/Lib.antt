@@ -10,3 +10,6 @@ pub mod Posts
 pub mod Wakes
 pub mod StrongerPosts
 pub mod StrongerWakes
+pub mod Lists
+pub mod StrongerLists
+pub mod TurnInLists

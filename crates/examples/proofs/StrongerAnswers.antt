@@ -35,7 +35,7 @@ use Rattle.demands.proofs.Promised.{promised}
 use Rattle.examples.proofs.BySteps.{pass, inWords, Leads, leads, anything}
 
 -- ---- tables that are not sound: fresh ones, but that task 1 is the current one
-unfoldable stray : Tables
+unfoldable pub stray : Tables
 stray = tables freshTasks freshLines (zeros 48) (zeros 16) (zeros 80) (zeros 96) (zeros 80) (zeros 256) (0 ∷ 1 ∷ 1 ∷ 0 ∷ 1 ∷ 16 ∷ [])
 
 stray-typed : Typed stray
@@ -43,7 +43,7 @@ unfolding stray
 stray-typed =
     record { tasks = refl; lines = refl; semaphores = refl; events = refl; mailboxes = refl; swis = refl; clocks = refl; heap = refl; state = refl }
 
-not-sound : sound stray ≡ false
+pub not-sound : sound stray ≡ false
 unfolding computed stray
 not-sound = refl
 

@@ -14,7 +14,7 @@ use Rattle.demands.proofs.Three.{demand-3}
 use Rattle.demands.proofs.Lists.{kept-along}
 use Rattle.no_post_lost.specs.NoPostLost.{CallAndAnswer, history, howMany, isPost}
 use Rattle.no_post_lost.proofs.DemandThree.{posts-of-demand-3}
-use Rattle.mixtures.specs.Mixtures.{Piece, Mixture, tablesAfter, callsIn, historyOf}
+use Rattle.mixtures.specs.Mixtures.{Piece, Mixture, tablesAfter, callsMade, historyOf}
 use Rattle.mixtures.specs.Shown.{asks, Begins, TurnSince, DemandThreeMixed}
 use Rattle.mixtures.proofs.Appended.{after-append, each-split, each-of, asks-history}
 use Rattle.mixtures.proofs.Mixtures.{ByType, mixtures-are-calls}
@@ -56,8 +56,8 @@ module _ (t : Tables) (sound : Sound t) (ps : List Piece) (m : Mixture t ps) (s 
   abbrev v : Tables
   v = after t (asks (b .before))
 
-  place : PlaceIn t (callsIn ps) (b .before) record { asked = pend s; answer = b .answer } (b .since)
-  place = place-in (b .before) t (callsIn ps) _ (b .since) (sym (mixtures-are-calls t sound ps m .history) ∙ b .split)
+  place : PlaceIn t (callsMade ps) (b .before) record { asked = pend s; answer = b .answer } (b .since)
+  place = place-in (b .before) t (callsMade ps) _ (b .since) (sym (mixtures-are-calls t sound ps m .history) ∙ b .split)
 
   types : Each ByType t (asks (b .before)) × Each ByType v (pend s ∷ asks (b .since))
   types =

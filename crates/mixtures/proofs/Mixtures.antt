@@ -19,7 +19,7 @@ use Rattle.demands.specs.Sequence.{Entered}
 use Rattle.demands.specs.Lists.{PromisedList}
 use Rattle.demands.proofs.One.{demand-1}
 use Rattle.demands.proofs.Lists.{kept-along}
-use Rattle.mixtures.specs.Mixtures.{HandedList, Piece, single, list, tablesOf, Mixture, tablesAfter, callsOfPiece, answersOfPiece, callsIn, answersIn}
+use Rattle.mixtures.specs.Mixtures.{HandedList, Piece, single, list, tablesOf, Mixture, tablesAfter, callsOfPiece, answersOfPiece, callsMade, answersHad}
 use Rattle.mixtures.specs.Shown.{MixturesAreCalls, CutAsYouLike}
 use Rattle.mixtures.proofs.Appended.{after-append, answers-append, each-append, each-always, paired-history}
 
@@ -73,35 +73,35 @@ piece-first t sound (single e) ps (p, rest) = (single-made t sound e p, rest)
 piece-first t sound (list l) ps (p, rest) = (list-made t sound l p, rest)
 
 record Made (t : Tables) (ps : List Piece) : Type 0 where
-  pub tables : tablesAfter t ps ≡ after t (callsIn ps)
-  pub answers : answersIn ps ≡ answersTo t (callsIn ps)
-  pub types : Each ByType t (callsIn ps)
+  pub tables : tablesAfter t ps ≡ after t (callsMade ps)
+  pub answers : answersHad ps ≡ answersTo t (callsMade ps)
+  pub types : Each ByType t (callsMade ps)
 
 all-made : (t : Tables) → Sound t → (ps : List Piece) → Mixture t ps → Made t ps
-unfolding tablesAfter callsIn answersIn after answersTo Each
+unfolding tablesAfter callsMade answersHad after answersTo Each
 all-made t sound [] m = record { tables = refl; answers = refl; types = tt }
 all-made t sound (p ∷ ps) m =
     let (first, rest) = piece-first t sound p ps m in
     let later = all-made (tablesOf p) (first .sound) ps rest in
     record {
-      tables = later .tables ∙ ap (λ (u : Tables). after u (callsIn ps)) (first .tables) ∙ sym (after-append t (callsOfPiece p) (callsIn ps));
+      tables = later .tables ∙ ap (λ (u : Tables). after u (callsMade ps)) (first .tables) ∙ sym (after-append t (callsOfPiece p) (callsMade ps));
       answers =
           rw (first .answers, later .answers, first .tables)
-          (sym (answers-append t (callsOfPiece p) (callsIn ps)));
+          (sym (answers-append t (callsOfPiece p) (callsMade ps)));
       types =
-          each-append ByType t (callsOfPiece p) (callsIn ps) (first .types)
-          (subst (λ (u : Tables). Each ByType u (callsIn ps)) (first .tables) (later .types));
+          each-append ByType t (callsOfPiece p) (callsMade ps) (first .types)
+          (subst (λ (u : Tables). Each ByType u (callsMade ps)) (first .tables) (later .types));
     }
 
 pub mixtures-are-calls : MixturesAreCalls
 mixtures-are-calls t sound ps m =
     let a = all-made t sound ps m in
-    let (kept, after-sound, _) = kept-along t sound (callsIn ps) (a .types) in
+    let (kept, after-sound, _) = kept-along t sound (callsMade ps) (a .types) in
     record {
       tables = a .tables;
       answers = a .answers;
-      history = rw (a .answers) (paired-history t (callsIn ps));
-      answered = each-always (λ u q. Answered u q (made u q)) demand-1 t (callsIn ps);
+      history = rw (a .answers) (paired-history t (callsMade ps));
+      answered = each-always (λ u q. Answered u q (made u q)) demand-1 t (callsMade ps);
       kept = kept;
       sound = rw (a .tables) after-sound;
       types = a .types;

@@ -13,7 +13,7 @@ use Rattle.woken_task.specs.WokenTask.{Post, Tells, ValueTells, OfAllThree, sem
 use Rattle.woken_task.proofs.WokenTask.{woken-task}
 use Rattle.no_post_lost.specs.NoPostLost.{CallAndAnswer, history, LastSet, Counting, Balanced}
 use Rattle.no_post_lost.proofs.NoPostLost.{no-post-lost, no-post-lost-from-fresh}
-use Rattle.mixtures.specs.Mixtures.{Piece, Mixture, tablesAfter, callsIn, historyOf}
+use Rattle.mixtures.specs.Mixtures.{Piece, Mixture, tablesAfter, callsMade, historyOf}
 use Rattle.mixtures.specs.Shown.{MixedTells, NoPostLostMixed, NoPostLostMixedFromFresh}
 use Rattle.mixtures.proofs.Appended.{each-of}
 use Rattle.mixtures.proofs.Mixtures.{ByType, mixtures-are-calls}
@@ -28,7 +28,7 @@ tells-along p tells t sound (q ∷ qs) ((typed, words), later) =
     (tells t typed sound q, tells-along p tells (next t q) (demand-2 t typed sound q words .sound) qs later)
 
 mixed-tells : (p : Post) → ValueTells p → MixedTells p
-mixed-tells p tells t sound ps m = tells-along p tells t sound (callsIn ps) (mixtures-are-calls t sound ps m .types)
+mixed-tells p tells t sound ps m = tells-along p tells t sound (callsMade ps) (mixtures-are-calls t sound ps m .types)
 
 pub woken-task-mixed : OfAllThree MixedTells
 woken-task-mixed =
@@ -40,10 +40,10 @@ woken-task-mixed =
 
 -- ---- No. 12: what holds of the calls' own history and tables holds of what the caller has
 module _ (t : Tables) (sound : Sound t) (ps : List Piece) (m : Mixture t ps) where
-  words : AllWords t (callsIn ps)
-  words = each-of ByType (λ u q. Words q) (λ u q types. types .1) t (callsIn ps) (mixtures-are-calls t sound ps m .types)
+  words : AllWords t (callsMade ps)
+  words = each-of ByType (λ u q. Words q) (λ u q types. types .1) t (callsMade ps) (mixtures-are-calls t sound ps m .types)
 
-  told : (P : List CallAndAnswer → Tables → Type 0) → P (history t (callsIn ps)) (after t (callsIn ps)) → P (historyOf ps) (tablesAfter t ps)
+  told : (P : List CallAndAnswer → Tables → Type 0) → P (history t (callsMade ps)) (after t (callsMade ps)) → P (historyOf ps) (tablesAfter t ps)
   told P p = let a = mixtures-are-calls t sound ps m in rw (a .history, a .tables) p
 
 -- the first call tells that the arrays have their types' lengths; without one there is no history
@@ -55,13 +55,13 @@ typed-first t (q ∷ qs) types s x = types .0 .0
 pub no-post-lost-mixed : NoPostLostMixed
 no-post-lost-mixed t sound ps m s now x =
     let a = mixtures-are-calls t sound ps m in
-    let typed : Typed t = typed-first t (callsIn ps) (a .types) s (subst (λ (h : List CallAndAnswer). LastSet s h) (a .history) x) in
+    let typed : Typed t = typed-first t (callsMade ps) (a .types) s (subst (λ (h : List CallAndAnswer). LastSet s h) (a .history) x) in
     told t sound ps m (λ h u. Counting s u → (y : LastSet s h) → Balanced s h y u)
-    (no-post-lost t typed sound (callsIn ps) (words t sound ps m) s) now x
+    (no-post-lost t typed sound (callsMade ps) (words t sound ps m) s) now x
 
 pub no-post-lost-mixed-from-fresh : NoPostLostMixedFromFresh
 no-post-lost-mixed-from-fresh n ps m s =
     let t : Tables = madeFresh n .tables in
     let sound : Sound t = made-fresh-safe n .1 in
     told t sound ps m (λ h u. Counting s u → (x : LastSet s h) × Balanced s h x u)
-    (no-post-lost-from-fresh n (callsIn ps) (words t sound ps m) s)
+    (no-post-lost-from-fresh n (callsMade ps) (words t sound ps m) s)

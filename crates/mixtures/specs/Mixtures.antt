@@ -55,13 +55,13 @@ abbrev pub answersOfPiece : Piece → List Answer
 answersOfPiece (single e) = e .left .answer ∷ []
 answersOfPiece (list l) = ifAccepted l (CallList.answersIn (length (callsOf (l .words))) (l .left .answers))
 
-unfoldable pub callsIn : List Piece → List Asked
-callsIn [] = []
-callsIn (p ∷ ps) = callsOfPiece p ++ callsIn ps
+unfoldable pub callsMade : List Piece → List Asked
+callsMade [] = []
+callsMade (p ∷ ps) = callsOfPiece p ++ callsMade ps
 
-unfoldable pub answersIn : List Piece → List Answer
-answersIn [] = []
-answersIn (p ∷ ps) = answersOfPiece p ++ answersIn ps
+unfoldable pub answersHad : List Piece → List Answer
+answersHad [] = []
+answersHad (p ∷ ps) = answersOfPiece p ++ answersHad ps
 
 -- ---- "the history of calls and answers" of request No. 12: each call with its answer. "counts each call of a list as one call"
 unfoldable pub paired : List Asked → List Answer → List CallAndAnswer
@@ -70,4 +70,4 @@ paired (q ∷ qs) [] = []
 paired (q ∷ qs) (r ∷ rs) = record { asked = q; answer = r } ∷ paired qs rs
 
 abbrev pub historyOf : List Piece → List CallAndAnswer
-historyOf ps = paired (callsIn ps) (answersIn ps)
+historyOf ps = paired (callsMade ps) (answersHad ps)

@@ -19,19 +19,19 @@ use Rattle.demands.specs.Two.{Kept}
 use Rattle.demands.specs.Three.{ArrivalOrder, Turn, pend}
 use Rattle.woken_task.specs.WokenTask.{Post, Tells}
 use Rattle.no_post_lost.specs.NoPostLost.{CallAndAnswer, history, howMany, isPost, LastSet, Counting, Balanced}
-use Rattle.mixtures.specs.Mixtures.{Piece, Mixture, tablesAfter, callsIn, answersIn, historyOf}
+use Rattle.mixtures.specs.Mixtures.{Piece, Mixture, tablesAfter, callsMade, answersHad, historyOf}
 
 -- ---- a mixture is its calls one after the other
 pub record AsMade (t : Tables) (ps : List Piece) : Type 0 where
-  pub tables : tablesAfter t ps ≡ after t (callsIn ps)
-  pub answers : answersIn ps ≡ answersTo t (callsIn ps)
-  pub history : historyOf ps ≡ history t (callsIn ps)
+  pub tables : tablesAfter t ps ≡ after t (callsMade ps)
+  pub answers : answersHad ps ≡ answersTo t (callsMade ps)
+  pub history : historyOf ps ≡ history t (callsMade ps)
   -- demand 1 and demand 2 of each of them; the tables after the last one are sound
-  pub answered : Each (λ u q. Answered u q (made u q)) t (callsIn ps)
-  pub kept : Each (λ u q. Kept u q (made u q)) t (callsIn ps)
+  pub answered : Each (λ u q. Answered u q (made u q)) t (callsMade ps)
+  pub kept : Each (λ u q. Kept u q (made u q)) t (callsMade ps)
   pub sound : Sound (tablesAfter t ps)
   -- what the types say of each
-  pub types : Each (λ u q. Typed u × Words q) t (callsIn ps)
+  pub types : Each (λ u q. Typed u × Words q) t (callsMade ps)
 
 abbrev pub MixturesAreCalls : Type 0
 MixturesAreCalls = (t : Tables) → Sound t → (ps : List Piece) → Mixture t ps → AsMade t ps
@@ -39,10 +39,10 @@ MixturesAreCalls = (t : Tables) → Sound t → (ps : List Piece) → Mixture t 
 -- so it makes no difference how calls are cut into lists
 pub record SameLeft (t : Tables) (ps rs : List Piece) : Type 0 where
   pub tables : tablesAfter t ps ≡ tablesAfter t rs
-  pub answers : answersIn ps ≡ answersIn rs
+  pub answers : answersHad ps ≡ answersHad rs
 
 abbrev pub CutAsYouLike : Type 0
-CutAsYouLike = (t : Tables) → Sound t → (ps rs : List Piece) → Mixture t ps → Mixture t rs → callsIn ps ≡ callsIn rs → SameLeft t ps rs
+CutAsYouLike = (t : Tables) → Sound t → (ps rs : List Piece) → Mixture t ps → Mixture t rs → callsMade ps ≡ callsMade rs → SameLeft t ps rs
 
 -- ---- demand 3. "Demand 3 counts each call of a list as one call."
 -- the calls of a history
@@ -78,7 +78,7 @@ DemandThreeMixed =
 abbrev pub MixedTells : Post → Type 0
 MixedTells p =
     (t : Tables) → Sound t → (ps : List Piece) → Mixture t ps
-    → Each (λ u q. q .number ≡ p .number → made u q .answer .code ≡ 0 → Tells p u q (made u q .answer) (next u q)) t (callsIn ps)
+    → Each (λ u q. q .number ≡ p .number → made u q .answer .code ≡ 0 → Tells p u q (made u q .answer) (next u q)) t (callsMade ps)
 
 -- ---- No. 12
 abbrev pub NoPostLostMixed : Type 0

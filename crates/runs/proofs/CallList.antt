@@ -1,5 +1,5 @@
 -- Laws of a list of calls: how long what it leaves is, what can be read there, and what is refused.
-use Prim.Native.Nat.{ℕ, zero, suc, _+_, _*_, _<_, _≤_}
+use Prim.Native.Nat.{ℕ, zero, suc, _+_, _*_, _/_, _<_, _≤_}
 use mathlib.Core.Path.{_≡_, refl, sym, ap, _∙_}
 use mathlib.Core.Bool.{true, false}
 use mathlib.Core.List.{List, [], _∷_, _++_}
@@ -35,6 +35,22 @@ laid-out zero [] e = refl
 laid-out zero (w ∷ ws) e = absurd (omega (arith, e))
 laid-out (suc n) ws e =
     rw (laid-out n (drop 5 ws) (omega (arith, length-drop 5 ws, e))) (sym (five-words ws (omega (arith, e))))
+
+-- the words of calls are a list of these calls
+pub length-laid-out : (qs : List Asked) → length (laidOut qs) ≡ length qs * 5
+unfolding laidOut
+length-laid-out [] = refl
+length-laid-out (q ∷ qs) = omega (arith, length-laid-out qs)
+
+first-laid-out : (qs : List Asked) → firstCalls (length qs) (laidOut qs) ≡ qs
+unfolding laidOut firstCalls
+first-laid-out [] = refl
+first-laid-out (q ∷ qs) = ap (λ (l : List Asked). q ∷ l) (first-laid-out qs)
+
+pub calls-laid-out : (qs : List Asked) → callsOf (laidOut qs) ≡ qs
+calls-laid-out qs =
+    let n : length (laidOut qs) / 5 ≡ length qs = omega (arith, length-laid-out qs) in
+    rw n (first-laid-out qs)
 
 -- ---- their answers
 -- "Refused calls do not stop the rest.": each has one
