@@ -3,7 +3,7 @@
 use Prim.{tt}
 use Prim.Native.Nat.{ℕ}
 use mathlib.Core.Path.{_≡_, refl, sym, ap, _∙_}
-use mathlib.Core.Logic.{_≢_, _↔_}
+use mathlib.Core.Logic.{_≢_}
 use mathlib.Core.Bool.{true≢false, cond as if}
 use mathlib.Core.List.{List, [], _∷_, _++_, append-nil}
 use native.Mathlib.Omega.{arith}
@@ -102,19 +102,18 @@ not-a-list-as-one-call =
     (ap (λ (h : Handed). threadIn (h .tables)) two-left ∙ runs-last twoTasks to-two-tasks) (runs-last oneTask to-one-task) (λ e. omega arith)
 
 -- ---- "code 10 comes before it": also where the list would be refused with 4. One word, on tables with 17 levels
-abbrev pub TenWhereItFits : Type 0
-TenWhereItFits =
-    (t : Tables) (words room : List ℕ) (s : Handed) → PromisedList t words room s
-    → (s .answer .code ≡ 10) ↔ ((Sound t → ⊥) × Fits words room)
+abbrev pub FourWhateverTheTables : Type 0
+FourWhateverTheTables =
+    (t : Tables) (words room : List ℕ) (s : Handed) → PromisedList t words room s → (Fits words room → ⊥) → s .answer .code ≡ 4
 
 never-sound : Sound (freshWith 17) → ⊥
 never-sound s = true≢false (sym (means-sound (freshWith 17) s) ∙ levels-17)
 
-pub not-four-before-ten : TenWhereItFits → ⊥
+pub not-four-before-ten : FourWhateverTheTables → ⊥
 not-four-before-ten every =
     let p = promised-list (freshWith 17) (0 ∷ []) [] refl (λ s. absurd (never-sound s)) in
-    let (_, fits) = every (freshWith 17) (0 ∷ []) [] _ p .0 (ap (λ (h : Handed). h .answer .code) (refused-10 (freshWith 17) levels-17 (0 ∷ []) [])) in
-    omega (arith, fits .multiple)
+    let ten = ap (λ (h : Handed). h .answer .code) (refused-10 (freshWith 17) levels-17 (0 ∷ []) []) in
+    omega (arith, ten, every (freshWith 17) (0 ∷ []) [] _ p (λ f. omega (arith, f .multiple)))
 
 -- ---- "answers .. the last thread": not the one that ran before
 abbrev pub ThreadFromBefore : Type 0
