@@ -3,6 +3,7 @@ use kernel::Call;
 use rules::Answer;
 ghost use mathlib.Core.Path.{_≡_};
 ghost use Prim.Native.Nat.{_+_, min};
+ghost use denote.Ref.{ptr};
 ghost use lib.ListN.{take};
 ghost use Rattle.runs.specs.CallList.{badList};
 ghost use Rattle.call_lists.specs.CallLists.{callAt, answerPut, answerAt};
@@ -85,9 +86,9 @@ pub fn answer_at(answers: &[u32], i: usize) -> Answer
     }
 }
 
-// The first n words; all where there are fewer.
+// The first n words, as that part; all where there are fewer.
 pub fn front<'a>(words: &'a [u32], n: usize) -> &'a [u32]
-    ensures { λ r. ⌜ now r ≡ take n (now (words .entry)) ⌝ }
+    ensures { λ r. ⌜ (now r ≡ take n (now (words .entry))) × (ptr r ≡ ptr (words .entry)) ⌝ }
 {
     if n < words.len() {
         return &words[..n];

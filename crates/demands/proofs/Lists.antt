@@ -19,13 +19,13 @@ use Rattle.rules.specs.declared.Answer.{Answer}
 use Rattle.rules.specs.declared.Tables.{Tables}
 use Rattle.runs.specs.Run.{Asked, Words, made, next, after, Each}
 use Rattle.runs.specs.CallList.{callsOf, answersTo, wordsOf, badList, Handed, handed, allMade, nothingDone, handOver}
-use Rattle.runs.proofs.CallList.{length-first, length-answers, length-words, answers-stand, laid-out, unsound-left, bad-left, good-left}
+use Rattle.runs.proofs.CallList.{length-first, length-answers, length-words, answers-stand, laid-out, calls-laid-out, unsound-left, bad-left, good-left}
 use Rattle.refusals.proofs.First.{by-bool}
 use Rattle.keeps.proofs.Nothing.{nothing-left}
 use Rattle.demands.specs.One.{threadOf}
 use Rattle.demands.specs.Two.{Kept}
 use Rattle.demands.specs.Sequence.{Entered, Sequence, calls, tablesAfter}
-use Rattle.demands.specs.Lists.{Fits, ListsAreWords, ListAnswered, ListKept, PromisedList, answersOf, lastThread, SameOneByOne, ListsAreCalls, ListsCanBeCalls}
+use Rattle.demands.specs.Lists.{Fits, ListsAreWords, CallsAreLists, ListAnswered, ListKept, PromisedList, answersOf, lastThread, SameOneByOne, ListsAreCalls, ListsCanBeCalls}
 use Rattle.demands.proofs.Two.{demand-2}
 use Rattle.demands.proofs.Promised as Single
 use Rattle.demands.proofs.Sequence.{as-entered}
@@ -193,6 +193,9 @@ pub lists-are-words : ListsAreWords
 lists-are-words ws room f =
     let n : length ws / 5 ≡ f .calls = omega (arith, f .multiple) in
     laid-out (length ws / 5) ws (omega (arith, n, f .multiple))
+
+pub calls-are-lists : CallsAreLists
+calls-are-lists = calls-laid-out
 
 -- ---- the same calls one by one
 answers-of : (t : Tables) (es : List Entered) → Sequence t es → answersOf es ≡ answersTo t (calls es)

@@ -11,7 +11,7 @@ use Rattle.rules.specs.Sound.{Sound}
 use Rattle.rules.specs.declared.Answer.{Answer}
 use Rattle.rules.specs.declared.Tables.{Tables}
 use Rattle.rules.specs.declared.Thread.{Thread}
-use Rattle.runs.specs.Run.{Words, made, after, Each}
+use Rattle.runs.specs.Run.{Asked, Words, made, after, Each}
 use Rattle.runs.specs.CallList.{callsOf, laidOut, answersTo, answersIn, Handed, handed, handOver}
 use Rattle.demands.specs.One.{threadOf}
 use Rattle.demands.specs.Two.{Kept}
@@ -28,6 +28,10 @@ pub record Fits (words room : List ℕ) : Type 0 where
 abbrev pub ListsAreWords : Type 0
 ListsAreWords = (words room : List ℕ) → Fits words room → laidOut (callsOf words) ≡ words
 
+-- and the words of any calls are a list of these calls
+abbrev pub CallsAreLists : Type 0
+CallsAreLists = (qs : List Asked) → callsOf (laidOut qs) ≡ qs
+
 -- ---- demand 1: any tables, any list and any room for answers get an answer
 pub record ListAnswered (t : Tables) (words room : List ℕ) (s : Handed) : Type 0 where
   -- each code exactly in its case. "code 4 for the whole list", "code 10 comes before it"
@@ -38,7 +42,7 @@ pub record ListAnswered (t : Tables) (words room : List ℕ) (s : Handed) : Type
   pub refused : s .answer .code ≢ 0 → s ≡ handed t room (answer (s .answer .code) 0 0) (threadOf t)
   -- "A list accepted, even an empty one, answers code, outcome and value 0"
   pub done : s .answer .code ≡ 0 → s .answer ≡ answer 0 0 0
-  -- and three words for each call are its answer, by demand 1
+  -- and three words for each call are what it is answered
   pub each : s .answer .code ≡ 0 → answersIn (length (callsOf words)) (s .answers) ≡ answersTo t (callsOf words)
 
 -- ---- demand 2: from sound tables a list leaves sound tables, and each of its calls has exactly its effect

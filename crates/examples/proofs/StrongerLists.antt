@@ -1,14 +1,14 @@
 -- Request No. 4 says no more than is true: statements that count a list's calls otherwise, or say more of its code, its thread or its answers, and of each a
 -- list of one or two calls that denies it. What such a list leaves is what its lines say (`Lists`), and two threads, two codes or two lengths differ.
 use Prim.{tt}
-use Prim.Native.Nat.{ℕ}
+use Prim.Native.Nat.{ℕ, _≤_}
 use mathlib.Core.Path.{_≡_, refl, sym, ap, _∙_}
 use mathlib.Core.Logic.{_≢_}
 use mathlib.Core.Bool.{true≢false, cond as if}
 use mathlib.Core.List.{List, [], _∷_, _++_, append-nil}
 use native.Mathlib.Omega.{arith}
 use lib.Dec.{eqb}
-use lib.ListN.{length}
+use lib.ListN.{length, getD}
 use Rattle.rules.specs.Fresh.{fresh, freshWith}
 use Rattle.rules.specs.Sound.{Sound}
 use Rattle.rules.specs.declared.Tables.{Tables}
@@ -154,3 +154,15 @@ not-stopping-at-a-refusal every =
     let two = ap length (mixtures-are-calls fresh fresh-is-sound ps m .answers) ∙ length-answers fresh (callsMade ps) ∙ ap length both-count in
     let one = rw (both-count, code-4) at (every fresh fresh-is-sound ps m) in
     omega (arith, two, one)
+
+-- ---- "Answer words past the last call stay": three words for each call do not, and one call has three
+abbrev pub FromOneWordACall : Type 0
+FromOneWordACall =
+    (t : Tables) (words room : List ℕ) (s : Handed) → PromisedList t words room s → (k : ℕ) → length (callsOf words) ≤ k
+    → getD (s .answers) k 0 ≡ getD room k 0
+
+pub not-from-one-word-a-call : FromOneWordACall → ⊥
+unfolding laidOut
+not-from-one-word-a-call every =
+    let same = every fresh (listOf oneTask) (nines 3) _ (promised-left oneTask to-one-task (nines 3)) 1 (omega (arith, ap length (calls-laid-out (asks (calls oneTask))))) in
+    omega (arith, same, ap (λ (h : Handed). getD (h .answers) 1 0) (lists .one-exact))

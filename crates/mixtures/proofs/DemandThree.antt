@@ -20,12 +20,12 @@ use Rattle.mixtures.proofs.Appended.{after-append, each-split, each-of,
 use Rattle.mixtures.proofs.Mixtures.{ByType, mixtures-are-calls}
 
 -- ---- a place in a history: what was asked before it, its answer, and the history since
-record PlaceIn (t : Tables) (qs : List Asked) (before : List CallAndAnswer) (e : CallAndAnswer) (since : List CallAndAnswer) : Type 0 where
+pub record PlaceIn (t : Tables) (qs : List Asked) (before : List CallAndAnswer) (e : CallAndAnswer) (since : List CallAndAnswer) : Type 0 where
   pub calls : qs ≡ asks before ++ (e .asked ∷ asks since)
   pub answer : e .answer ≡ made (after t (asks before)) (e .asked) .answer
   pub since-is : since ≡ history (next (after t (asks before)) (e .asked)) (asks since)
 
-place-in : (before : List CallAndAnswer) (t : Tables) (qs : List Asked) (e : CallAndAnswer) (since : List CallAndAnswer)
+pub place-in : (before : List CallAndAnswer) (t : Tables) (qs : List Asked) (e : CallAndAnswer) (since : List CallAndAnswer)
     → history t qs ≡ before ++ (e ∷ since) → PlaceIn t qs before e since
 unfolding history asks after
 place-in before t [] e since same = absurd (append-ne-nil-of-right-ne-nil before cons≢nil (sym same))
@@ -92,6 +92,8 @@ module _ (t : Tables) (sound : Sound t) (ps : List Piece) (m : Mixture t ps) (s 
         turn = has-turn;
         sofar = rw (now-is, posts-are) (has-turn .waits .turn (asks (b .since)) words-since);
         inTime = rw posts-are (has-turn .waits .inTime (asks (b .since)) words-since);
+        left = now-is;
+        words = words-since;
       }
 
 pub demand-3-mixed : DemandThreeMixed

@@ -1,34 +1,38 @@
 -- Nos. 8 and 12 of a mixture: its calls are calls one after the other, and its history is theirs.
-use Prim.{tt}
 use Prim.Native.Nat.{ℕ}
-use mathlib.Core.Path.{_≡_, sym, subst}
+use mathlib.Core.Path.{_≡_, sym, ap, subst, _∙_}
 use mathlib.Core.List.{List, [], _∷_, append-ne-nil-of-right-ne-nil, cons≢nil}
 use Rattle.rules.specs.Tables.{Typed}
 use Rattle.rules.specs.Fresh.{madeFresh}
 use Rattle.rules.specs.Sound.{Sound}
+use Rattle.rules.specs.declared.Answer.{Answer}
 use Rattle.rules.specs.declared.Tables.{Tables}
 use Rattle.runs.specs.Run.{Asked, Words, made, next, after, Each, AllWords}
-use Rattle.demands.proofs.Two.{demand-2, made-fresh-safe}
+use Rattle.demands.proofs.Two.{made-fresh-safe}
+use Rattle.demands.proofs.Lists.{kept-along}
 use Rattle.woken_task.specs.WokenTask.{Post, Tells, ValueTells, OfAllThree, semaphorePost, eventPost, mailboxPost}
 use Rattle.woken_task.proofs.WokenTask.{woken-task}
 use Rattle.no_post_lost.specs.NoPostLost.{CallAndAnswer, history, LastSet, Counting, Balanced}
 use Rattle.no_post_lost.proofs.NoPostLost.{no-post-lost, no-post-lost-from-fresh}
 use Rattle.mixtures.specs.Mixtures.{Piece, Mixture, tablesAfter, callsMade, historyOf}
-use Rattle.mixtures.specs.Shown.{MixedTells, NoPostLostMixed, NoPostLostMixedFromFresh}
-use Rattle.mixtures.proofs.Appended.{each-of}
+use Rattle.mixtures.specs.Shown.{asks, MixedTells, NoPostLostMixed, NoPostLostMixedFromFresh}
+use Rattle.mixtures.proofs.Appended.{each-split, each-of}
+use Rattle.mixtures.proofs.DemandThree.{place-in}
 use Rattle.mixtures.proofs.Mixtures.{ByType, mixtures-are-calls}
 
 -- ---- No. 8
--- along calls on sound tables
-tells-along : (p : Post) → ValueTells p → (t : Tables) → Sound t → (qs : List Asked) → Each ByType t qs
-    → Each (λ u q. q .number ≡ p .number → made u q .answer .code ≡ 0 → Tells p u q (made u q .answer) (next u q)) t qs
-unfolding Each
-tells-along p tells t sound [] types = tt
-tells-along p tells t sound (q ∷ qs) ((typed, words), later) =
-    (tells t typed sound q, tells-along p tells (next t q) (demand-2 t typed sound q words .sound) qs later)
-
+-- a call of the history was made on sound tables, and what the caller has of it is its answer there
 mixed-tells : (p : Post) → ValueTells p → MixedTells p
-mixed-tells p tells t sound ps m = tells-along p tells t sound (callsMade ps) (mixtures-are-calls t sound ps m .types)
+unfolding Each
+mixed-tells p tells t sound ps m before e since split number code =
+    let a = mixtures-are-calls t sound ps m in
+    let place = place-in before t (callsMade ps) e since (sym (a .history) ∙ split) in
+    let (first, here) =
+    each-split ByType t (asks before) (e .asked ∷ asks since) (subst (λ (qs : List Asked). Each ByType t qs) (place .calls) (a .types)) in
+    let u : Tables = after t (asks before) in
+    let accepted : made u (e .asked) .answer .code ≡ 0 = ap (λ (r : Answer). r .code) (sym (place .answer)) ∙ code in
+    subst (λ (r : Answer). Tells p u (e .asked) r (next u (e .asked))) (sym (place .answer))
+    (tells u (here .0 .0) (kept-along t sound (asks before) first .1) (e .asked) number accepted)
 
 pub woken-task-mixed : OfAllThree MixedTells
 woken-task-mixed =

@@ -7,6 +7,7 @@ use lib.Dec.{eqb}
 use lib.ListN.{length}
 use Rattle.rules.specs.declared.Answer.{Answer}
 use Rattle.rules.specs.declared.Tables.{Tables}
+use Rattle.rules.specs.declared.Thread.{Thread}
 use Rattle.runs.specs.Run.{Asked}
 use Rattle.runs.specs.CallList as CallList
 use Rattle.runs.specs.CallList.{callsOf, Handed}
@@ -31,6 +32,15 @@ abbrev pub tablesOf : Piece → Tables
 tablesOf (single e) = e .left .tables
 tablesOf (list l) = l .left .tables
 
+-- the thread and the code that it answered, a list's as a whole
+abbrev pub threadOfPiece : Piece → Thread
+threadOfPiece (single e) = e .left .thread
+threadOfPiece (list l) = l .left .thread
+
+abbrev pub codeOfPiece : Piece → ℕ
+codeOfPiece (single e) = e .left .answer .code
+codeOfPiece (list l) = l .left .answer .code
+
 -- each piece is made on the tables that the one before it left, and left what its entry promises
 unfoldable pub Mixture : Tables → List Piece → Type 0
 Mixture t [] = Unit {0}
@@ -41,6 +51,15 @@ Mixture t (list l ∷ ps) = PromisedList t (l .words) (l .room) (l .left) × Mix
 unfoldable pub tablesAfter : Tables → List Piece → Tables
 tablesAfter t [] = t
 tablesAfter t (p ∷ ps) = tablesAfter (tablesOf p) ps
+
+-- the last one's thread, or x where there is none; and all codes
+unfoldable pub threadAfter : Thread → List Piece → Thread
+threadAfter x [] = x
+threadAfter x (p ∷ ps) = threadAfter (threadOfPiece p) ps
+
+unfoldable pub codesOf : List Piece → List ℕ
+codesOf [] = []
+codesOf (p ∷ ps) = codeOfPiece p ∷ codesOf ps
 
 -- ---- the calls that were made, and what the caller has as their answers. A list that was refused made none
 abbrev pub ifAccepted : {A : Type 0} → HandedList → List A → List A

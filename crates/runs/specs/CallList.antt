@@ -29,7 +29,7 @@ callsIn words = words / callWords
 abbrev pub callIn : List ℕ → Asked
 callIn ws = asked (getD ws 0 0) (getD ws 1 0) (getD ws 2 0) (getD ws 3 0) (getD ws 4 0)
 
--- the first n calls of a list, of which it has as many; and all of them
+-- the first n calls of a list that has at least n; and all of them
 unfoldable pub firstCalls : ℕ → List ℕ → List Asked
 firstCalls zero ws = []
 firstCalls (suc n) ws = callIn ws ∷ firstCalls n (drop callWords ws)
