@@ -1,6 +1,7 @@
--- "Demand 3 counts each call of a list as one call.": of the two lists of `Lists` the second begins with the pend by which task 2 waits behind task 1, and its
--- other two calls are posts. Every premise of demand 3 is met there, k is 1, and by the theorem one of the two posts served task 2.
+-- "Demand 3 counts each call of a list as one call.": in one list task 1 begins to wait, then task 2 behind it, and a post wakes task 1. A list that is refused
+-- follows, and a post by a single call. Every premise of demand 3 is met for task 2, k is 1, and by the theorem one of the two posts served it.
 use Prim.{tt}
+use Prim.Native.Nat.{ℕ}
 use mathlib.Core.Path.{_≡_, refl, ap, _∙_}
 use mathlib.Core.List.{List, [], _∷_, _++_}
 use native.Mathlib.Omega.{arith}
@@ -8,73 +9,129 @@ use lib.ListN.{length, drop}
 use Rattle.rules.specs.Answer.{answer}
 use Rattle.rules.specs.Fresh.{fresh}
 use Rattle.rules.specs.Lines.{line, semaphoreLine}
-use Rattle.rules.specs.Tables.{current, semaphore, KIND}
+use Rattle.rules.specs.Sound.{Sound}
+use Rattle.rules.specs.Tables.{Typed, forever, current, semaphore, KIND}
 use Rattle.rules.specs.declared.Tables.{Tables}
+use Rattle.rules.proofs.Agree.{means-sound}
 use Rattle.rules.proofs.Faster.{quickly}
-use Rattle.rules.proofs.Runs.{Said, calls, answers}
-use Rattle.runs.specs.Run.{asked, next, after}
-use Rattle.runs.specs.CallList.{laidOut, Handed, handOver}
+use Rattle.rules.proofs.Runs as Runs
+use Rattle.rules.proofs.Runs.{Line, Said, _⇒_, said, calls, answers, T, post}
+use Rattle.runs.specs.Run.{Asked, asked, Words, made, next, after}
+use Rattle.runs.specs.CallList.{badList, Handed, nothingDone, handOver}
 use Rattle.runs.specs.Turn.{ServedIn}
-use Rattle.runs.proofs.CallList.{calls-laid-out}
+use Rattle.runs.proofs.CallList.{calls-laid-out, bad-left}
 use Rattle.demands.specs.Lists.{PromisedList}
 use Rattle.demands.specs.Three.{pend}
 use Rattle.demands.proofs.Two.{fresh-typed, fresh-is-sound}
+use Rattle.demands.proofs.Promised.{promised}
+use Rattle.demands.proofs.Lists.{promised-list}
 use Rattle.no_post_lost.specs.NoPostLost.{history, howMany}
-use Rattle.mixtures.specs.Mixtures.{Piece, list, Mixture, callsMade, historyOf}
+use Rattle.mixtures.specs.Mixtures.{Piece, single, list, Mixture, callsMade, historyOf}
 use Rattle.mixtures.specs.Shown as Shown
 use Rattle.mixtures.specs.Shown.{Begins}
 use Rattle.mixtures.proofs.Mixtures.{mixtures-are-calls}
 use Rattle.mixtures.proofs.DemandThree.{demand-3-mixed}
-use Rattle.examples.proofs.BySteps.{asks, pass}
+use Rattle.examples.proofs.BySteps.{asks, pass, inWords}
 use Rattle.examples.proofs.Posts.{told, history-told}
-use Rattle.examples.proofs.Lists.{inSteps, listOf, promised-lines, nines, oneWaits, bothWoken, to-one-waits, to-both-woken}
-use Rattle.examples.proofs.Lists.{to-seven, from-fresh, then-woken}
+use Rattle.examples.proofs.Lists.{inSteps, Stepped, by-steps, listOf, leftBy, promised-lines, nines, oneWaits, to-one-waits, from-fresh}
+
+-- ---- task 1 waits, then task 2 behind it, and one post wakes task 1: six calls in one list
+abbrev inOneList : List Line
+inOneList = oneWaits ++ (Runs.pend 0 forever ⇒ said 0 2 0 (T 0) ∷ post 0 ⇒ said 0 0 1 (T 1) ∷ [])
+
+-- then one call by itself
+abbrev oneMore : List Line
+oneMore = post 0 ⇒ said 0 0 2 (T 1) ∷ []
+
+abbrev all : List Line
+all = inOneList ++ oneMore
+
+to-list : Stepped fresh inOneList
+unfolding quickly pass inWords
+to-list = by-steps fresh fresh-typed fresh-is-sound inOneList refl refl
+
+to-all : Stepped fresh all
+unfolding quickly pass inWords
+to-all = by-steps fresh fresh-typed fresh-is-sound all refl refl
+
+-- between them a list of four words, which is refused
+abbrev fourWords : List ℕ
+fourWords = 0x23 ∷ 0 ∷ 0 ∷ 0 ∷ []
 
 abbrev leftFirst : Handed
-leftFirst = handOver fresh (listOf oneWaits) (nines 12)
+leftFirst = handOver fresh (listOf inOneList) (nines 18)
 
-abbrev leftSecond : Handed
-leftSecond = handOver (leftFirst .tables) (listOf bothWoken) (nines 9)
+abbrev leftBad : Handed
+leftBad = handOver (leftFirst .tables) fourWords (nines 3)
+
+abbrev posted : Asked
+posted = asked 0x23 0 0 0 0
 
 abbrev pub pieces : List Piece
 pieces =
-    list record { words = listOf oneWaits; room = nines 12; left = leftFirst }
-    ∷ list record { words = listOf bothWoken; room = nines 9; left = leftSecond }
+    list record { words = listOf inOneList; room = nines 18; left = leftFirst }
+    ∷ list record { words = fourWords; room = nines 3; left = leftBad }
+    ∷ single record { call = posted; left = made (leftBad .tables) posted }
     ∷ []
 
--- the tables in which task 2 begins to wait
-begins-there : leftFirst .tables ≡ inSteps fresh oneWaits .now
-begins-there = ap (λ (h : Handed). h .tables) (from-fresh oneWaits to-one-waits (nines 12) (omega arith) (omega arith)) ∙ to-one-waits .now
+-- ---- what each was made on: the tables after the first list, which are safe
+first-left : leftFirst ≡ leftBy fresh inOneList (nines 18)
+first-left = from-fresh inOneList to-list (nines 18) (omega arith) (omega arith)
 
-second-promised : (t : Tables) → t ≡ inSteps fresh oneWaits .now → PromisedList t (listOf bothWoken) (nines 9) (handOver t (listOf bothWoken) (nines 9))
-second-promised t e =
-    rw e (promised-lines (inSteps fresh oneWaits .now) (to-one-waits .typed) (to-one-waits .sound) bothWoken (to-both-woken .words) (nines 9))
+after-first : leftFirst .tables ≡ inSteps fresh inOneList .now
+after-first = ap (λ (h : Handed). h .tables) first-left ∙ to-list .now
+
+bad-is : (t : Tables) → Sound t → handOver t fourWords (nines 3) ≡ nothingDone t (nines 3) 4
+unfolding badList
+bad-is t sound = bad-left t fourWords (nines 3) (means-sound t sound) refl
+
+abbrev SafeThere : Tables → Type 0
+SafeThere t = Typed t × Sound t
+
+first-safe : SafeThere (leftFirst .tables)
+first-safe = rw after-first (to-list .typed, to-list .sound)
+
+bad-promised : (t : Tables) → Sound t → PromisedList t fourWords (nines 3) (handOver t fourWords (nines 3))
+unfolding nothingDone
+bad-promised t sound =
+    promised-list t fourWords (nines 3) refl
+    (λ _ code. absurd (omega (arith, ap (λ (h : Handed). h .answer .code) (bad-is t sound), code)))
+
+after-bad : leftBad .tables ≡ leftFirst .tables
+unfolding nothingDone
+after-bad = ap (λ (h : Handed). h .tables) (bad-is (leftFirst .tables) (first-safe .1))
+
+in-words : Words posted
+in-words = record { first = omega arith; second = omega arith; third = omega arith; fourth = omega arith }
 
 pub mixed : Mixture fresh pieces
 unfolding Mixture
 mixed = (
-  promised-lines fresh fresh-typed fresh-is-sound oneWaits (to-one-waits .words) (nines 12),
-  (second-promised (leftFirst .tables) begins-there, tt),
+  promised-lines fresh fresh-typed fresh-is-sound inOneList (to-list .words) (nines 18),
+  (
+    bad-promised (leftFirst .tables) (first-safe .1),
+    (promised (leftBad .tables) posted refl (λ _. (rw after-bad (first-safe .0), in-words)), tt),
+  ),
 )
 
--- ---- the calls of both lists, one after the other, and their history
+-- ---- the calls of the list and the single one, one after the other, and their history
 first-accepted : leftFirst .answer .code ≡ 0
-first-accepted = ap (λ (h : Handed). h .answer .code) (from-fresh oneWaits to-one-waits (nines 12) (omega arith) (omega arith))
+first-accepted = ap (λ (h : Handed). h .answer .code) first-left
 
-second-accepted : leftSecond .answer .code ≡ 0
-unfolding laidOut
-second-accepted = ap (λ (h : Handed). h .answer .code) then-woken
+bad-refused : leftBad .answer .code ≡ 4
+unfolding nothingDone
+bad-refused = ap (λ (h : Handed). h .answer .code) (bad-is (leftFirst .tables) (first-safe .1))
 
-all-count : callsMade pieces ≡ asks (calls (oneWaits ++ bothWoken))
+all-count : callsMade pieces ≡ asks (calls all)
 unfolding callsMade
-all-count = rw (first-accepted, second-accepted, calls-laid-out (asks (calls oneWaits)), calls-laid-out (asks (calls bothWoken)))
+all-count = rw (first-accepted, bad-refused, calls-laid-out (asks (calls inOneList)))
 
-is-told : historyOf pieces ≡ told (calls (oneWaits ++ bothWoken)) (answers (oneWaits ++ bothWoken))
+is-told : historyOf pieces ≡ told (calls all) (answers all)
 is-told =
     mixtures-are-calls fresh fresh-is-sound pieces mixed .history
     ∙ ap (history fresh) all-count
-    ∙ history-told fresh (calls (oneWaits ++ bothWoken))
-    ∙ ap (λ (ys : List Said). told (calls (oneWaits ++ bothWoken)) ys) (to-seven .answers .so)
+    ∙ history-told fresh (calls all)
+    ∙ ap (λ (ys : List Said). told (calls all) ys) (to-all .answers .so)
 
 -- ---- the premises: it begins to wait there, at a semaphore of arrival order
 pub begins : Begins 0 (historyOf pieces)
@@ -82,7 +139,7 @@ begins =
     record {
       before = told (calls oneWaits) (answers oneWaits);
       answer = answer 0 2 0;
-      since = drop 1 (told (calls bothWoken) (answers bothWoken));
+      since = drop 5 (told (calls all) (answers all));
       split = is-told;
       waits = refl;
     }
