@@ -14,12 +14,12 @@ use Rattle.rules.specs.declared.Answer.{Answer}
 use Rattle.rules.specs.declared.Step.{Step}
 use Rattle.rules.specs.declared.Tables.{Tables}
 use Rattle.laws.proofs.Calls.{chosen}
-use Rattle.runs.specs.Run.{Asked, asked, made, after, Each}
+use Rattle.runs.specs.Run.{Asked, asked, ByType, made, after, Each}
 use Rattle.runs.specs.CallList.{callIn, firstCalls, callsOf, answersTo, wordsOf}
 use Rattle.kernel.specs.declared.Call.{Call}
 use Rattle.kernel.specs.Safe.{Stepped}
 use Rattle.call_lists.specs.CallLists.{callAt, answerPut}
-use Rattle.call_lists.specs.Made.{ByType, ListMade}
+use Rattle.call_lists.specs.Made.{ListMade}
 use Rattle.call_lists.proofs.Leaves.{a-call, three-words}
 
 -- ---- calls qs₀ from tables t₀ on, with this room: the first of them were made, and left t and out; qs are still to be made, the first of their answers at

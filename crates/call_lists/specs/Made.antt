@@ -3,14 +3,9 @@ use Prim.Native.Nat.{ℕ}
 use mathlib.Core.Path.{_≡_}
 use mathlib.Core.List.{List}
 use lib.Seq.{sets}
-use Rattle.rules.specs.Tables.{Typed}
 use Rattle.rules.specs.declared.Tables.{Tables}
-use Rattle.runs.specs.Run.{Asked, Words, after, Each}
+use Rattle.runs.specs.Run.{Asked, ByType, after, Each}
 use Rattle.runs.specs.CallList.{answersTo, wordsOf}
-
--- what the types say of a call and the tables on which it is made: the arrays' lengths, and that arguments are words
-abbrev pub ByType : Tables → Asked → Type 0
-ByType u q = Typed u × Words q
 
 pub record ListMade (t : Tables) (qs : List Asked) (room : List ℕ) (left : Tables) (out : List ℕ) : Type 0 where
   pub tables : left ≡ after t qs

@@ -17,7 +17,7 @@ use Rattle.rules.specs.Sound.{Sound, sound}
 use Rattle.rules.proofs.Agree.{sound-means, means-sound}
 use Rattle.rules.specs.declared.Answer.{Answer}
 use Rattle.rules.specs.declared.Tables.{Tables}
-use Rattle.runs.specs.Run.{Asked, Words, made, next, after, Each}
+use Rattle.runs.specs.Run.{Asked, ByType, made, next, after, Each}
 use Rattle.runs.specs.CallList.{callsOf, answersTo, wordsOf, badList, Handed, handed, allMade, nothingDone, handOver}
 use Rattle.runs.proofs.CallList.{length-first, length-answers, length-words, answers-stand, laid-out, calls-laid-out, unsound-left, bad-left, good-left}
 use Rattle.refusals.proofs.First.{by-bool}
@@ -129,7 +129,7 @@ module _ (t : Tables) (ws room : List ℕ) where
 
 -- ---- demand 2
 -- along calls of which it is known what the types say
-pub kept-along : (t : Tables) → Sound t → (qs : List Asked) → Each (λ u q. Typed u × Words q) t qs
+pub kept-along : (t : Tables) → Sound t → (qs : List Asked) → Each ByType t qs
     → Each (λ u q. Kept u q (made u q)) t qs × Sound (after t qs) × (Typed t → Typed (after t qs))
 unfolding Each after
 kept-along t s [] w = (tt, s, λ typed. typed)
@@ -152,7 +152,7 @@ module _ (t : Tables) (ws room : List ℕ) (s : Sound t) where
         settled = nothing-left t s;
       }
 
-  good-kept : Each (λ u q. Typed u × Words q) t (callsOf ws) → ListKept t ws (allMade t (callsOf ws) room)
+  good-kept : Each ByType t (callsOf ws) → ListKept t ws (allMade t (callsOf ws) room)
   unfolding allMade
   good-kept w =
       let (each, sound, types) = kept-along t s (callsOf ws) w in
@@ -170,16 +170,16 @@ module _ (t : Tables) (ws room : List ℕ) (s : Sound t) where
   unfolding allMade
   made-code = refl
 
-  pub list-kept : (handOver t ws room .answer .code ≡ 0 → Each (λ u q. Typed u × Words q) t (callsOf ws)) → ListKept t ws (handOver t ws room)
+  pub list-kept : (handOver t ws room .answer .code ≡ 0 → Each ByType t (callsOf ws)) → ListKept t ws (handOver t ws room)
   list-kept =
-      of-a-list t ws room (λ h. (h .answer .code ≡ 0 → Each (λ u q. Typed u × Words q) t (callsOf ws)) → ListKept t ws h)
+      of-a-list t ws room (λ h. (h .answer .code ≡ 0 → Each ByType t (callsOf ws)) → ListKept t ws h)
       (λ not-sound _. absurd (not-sound s))
       (λ _ _ _. bad-kept)
       (λ _ _ w. good-kept (w made-code))
 
 -- ---- a list that leaves the whole leaves what demands 1 and 2 say of it
 pub promised-list : (t : Tables) (ws room : List ℕ) {s : Handed} → s ≡ handOver t ws room
-    → (Sound t → s .answer .code ≡ 0 → Each (λ u q. Typed u × Words q) t (callsOf ws)) → PromisedList t ws room s
+    → (Sound t → s .answer .code ≡ 0 → Each ByType t (callsOf ws)) → PromisedList t ws room s
 promised-list t ws room e types =
     record {
       whole = e;
@@ -249,7 +249,7 @@ pub singly : Tables → List Asked → List Entered
 singly t [] = []
 singly t (q ∷ qs) = record { call = q; left = made t q } ∷ singly (next t q) qs
 
-pub singly-row : (t : Tables) → Sound t → (qs : List Asked) → Each (λ u q. Typed u × Words q) t qs → Sequence t (singly t qs)
+pub singly-row : (t : Tables) → Sound t → (qs : List Asked) → Each ByType t qs → Sequence t (singly t qs)
 unfolding Sequence Each singly
 singly-row t sound [] w = tt
 singly-row t sound (q ∷ qs) ((typed, words), later) = (

@@ -11,7 +11,7 @@ use Rattle.rules.specs.Sound.{Sound}
 use Rattle.rules.specs.declared.Answer.{Answer}
 use Rattle.rules.specs.declared.Tables.{Tables}
 use Rattle.rules.specs.declared.Thread.{Thread}
-use Rattle.runs.specs.Run.{Asked, Words, made, after, Each}
+use Rattle.runs.specs.Run.{Asked, ByType, made, after, Each}
 use Rattle.runs.specs.CallList.{callsOf, laidOut, answersTo, answersIn, Handed, handed, handOver}
 use Rattle.demands.specs.One.{threadOf}
 use Rattle.demands.specs.Two.{Kept}
@@ -61,8 +61,8 @@ pub record PromisedList (t : Tables) (words room : List ℕ) (s : Handed) : Type
   pub whole : s ≡ handOver t words room
   pub answered : ListAnswered t words room s
   pub kept : Sound t → ListKept t words s
-  -- what the types say of each call that was made: the arrays' lengths, and that arguments are words
-  pub types : Sound t → s .answer .code ≡ 0 → Each (λ u q. Typed u × Words q) t (callsOf words)
+  -- what the types say of each call that was made
+  pub types : Sound t → s .answer .code ≡ 0 → Each ByType t (callsOf words)
 
 -- ---- "The final tables and every answer must equal those of the same calls made one after the other.": by the entry for one call
 -- what such calls were answered

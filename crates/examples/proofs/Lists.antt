@@ -22,13 +22,12 @@ use Rattle.rules.proofs.Faster.{quickly}
 use Rattle.rules.proofs.Runs.{Line, Said, _⇒_, _runs_, said, saw, look, says, calls, answers, T, createTask, createSemaphore, pend, post}
 use Rattle.rules.proofs.Runs.{createEvent, pendEvent, postEvent}
 use Rattle.rules.proofs.Runs as Runs
-use Rattle.runs.specs.Run.{Asked, asked, made, next, after, Each, AllWords}
+use Rattle.runs.specs.Run.{Asked, asked, ByType, made, next, after, Each, AllWords}
 use Rattle.runs.specs.CallList.{callsOf, laidOut, answersTo, wordsOf, badList, Handed, handed, allMade, nothingDone, handOver}
 use Rattle.runs.proofs.CallList.{length-laid-out, calls-laid-out, unsound-left, bad-left}
 use Rattle.demands.specs.Lists.{Fits, PromisedList}
 use Rattle.demands.proofs.Lists.{of-a-list, promised-list}
 use Rattle.demands.proofs.Two.{demand-2, fresh-typed, fresh-is-sound}
-use Rattle.mixtures.proofs.Mixtures.{ByType}
 use Rattle.examples.proofs.BySteps.{asks, Pass, pass, inWords, Leads, leads, anything}
 use Rattle.examples.proofs.StrongerAnswers.{stray, not-sound}
 

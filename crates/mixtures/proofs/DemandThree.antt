@@ -7,7 +7,7 @@ use Rattle.rules.specs.Lines.{line, semaphoreLine}
 use Rattle.rules.specs.Sound.{Sound}
 use Rattle.rules.specs.declared.Answer.{Answer}
 use Rattle.rules.specs.declared.Tables.{Tables}
-use Rattle.runs.specs.Run.{Asked, Words, made, next, after, Each, AllWords}
+use Rattle.runs.specs.Run.{Asked, Words, ByType, made, next, after, Each, AllWords}
 use Rattle.runs.specs.Turn.{posts}
 use Rattle.demands.specs.Three.{ArrivalOrder, Turn, pend}
 use Rattle.demands.proofs.Three.{demand-3}
@@ -17,7 +17,7 @@ use Rattle.no_post_lost.proofs.DemandThree.{posts-of-demand-3}
 use Rattle.mixtures.specs.Mixtures.{Piece, Mixture, tablesAfter, callsMade, historyOf}
 use Rattle.mixtures.specs.Shown.{asks, Begins, TurnSince, DemandThreeMixed}
 use Rattle.mixtures.proofs.Appended.{after-append, each-split, each-of, asks-history}
-use Rattle.mixtures.proofs.Mixtures.{ByType, mixtures-are-calls}
+use Rattle.mixtures.proofs.Mixtures.{mixtures-are-calls}
 
 -- ---- a place in a history: what was asked before it, its answer, and the history since
 pub record PlaceIn (t : Tables) (qs : List Asked) (before : List CallAndAnswer) (e : CallAndAnswer) (since : List CallAndAnswer) : Type 0 where

@@ -6,7 +6,6 @@ use mathlib.Core.Bool.{false, true≢false}
 use mathlib.Core.List.{List, [], _∷_}
 use borrow.Author.Tests.{eq-eqb, eqb-true}
 use lib.Dec.{eqb}
-use Rattle.rules.specs.Tables.{Typed}
 use Rattle.rules.specs.Answer.{answer}
 use Rattle.rules.specs.Dispatch.{running}
 use Rattle.rules.specs.Sound.{Sound, sound}
@@ -16,7 +15,7 @@ use Rattle.rules.specs.declared.Step.{Step}
 use Rattle.rules.specs.declared.Tables.{Tables}
 use Rattle.rules.specs.declared.Thread.{Thread}
 use Rattle.rules.specs.declared.Thread.the-variants.{Task}
-use Rattle.runs.specs.Run.{Asked, Words, made, after, Each}
+use Rattle.runs.specs.Run.{ByType, made, after, Each}
 use Rattle.runs.specs.CallList.{answersTo, Handed, nothingDone}
 use Rattle.runs.proofs.CallList.{unsound-left}
 use Rattle.refusals.proofs.First.{by-bool}
@@ -30,10 +29,6 @@ use Rattle.demands.proofs.Lists.{kept-along}
 use Rattle.mixtures.specs.Mixtures.{HandedList, Piece, single, list, tablesOf, threadOfPiece, codeOfPiece, Mixture, tablesAfter, threadAfter, codesOf, callsOfPiece, answersOfPiece, callsMade, answersHad}
 use Rattle.mixtures.specs.Shown.{MixturesAreCalls, CutAsYouLike, AllTen, UnsoundStay}
 use Rattle.mixtures.proofs.Appended.{after-append, answers-append, each-append, each-always, paired-history}
-
--- what the types say of a call and the tables on which it is made
-abbrev pub ByType : Tables → Asked → Type 0
-ByType u q = Typed u × Words q
 
 -- ---- a piece made on tables t
 pub record PieceMade (t : Tables) (p : Piece) : Type 0 where

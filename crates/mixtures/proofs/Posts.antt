@@ -7,7 +7,7 @@ use Rattle.rules.specs.Fresh.{madeFresh}
 use Rattle.rules.specs.Sound.{Sound}
 use Rattle.rules.specs.declared.Answer.{Answer}
 use Rattle.rules.specs.declared.Tables.{Tables}
-use Rattle.runs.specs.Run.{Asked, Words, made, next, after, Each, AllWords}
+use Rattle.runs.specs.Run.{Asked, Words, ByType, made, next, after, Each, AllWords}
 use Rattle.demands.proofs.Two.{made-fresh-safe}
 use Rattle.demands.proofs.Lists.{kept-along}
 use Rattle.woken_task.specs.WokenTask.{Post, Tells, ValueTells, OfAllThree, semaphorePost, eventPost, mailboxPost}
@@ -18,7 +18,7 @@ use Rattle.mixtures.specs.Mixtures.{Piece, Mixture, tablesAfter, callsMa
 use Rattle.mixtures.specs.Shown.{asks, MixedTells, NoPostLostMixed, NoPostLostMixedFromFresh}
 use Rattle.mixtures.proofs.Appended.{each-split, each-of}
 use Rattle.mixtures.proofs.DemandThree.{place-in}
-use Rattle.mixtures.proofs.Mixtures.{ByType, mixtures-are-calls}
+use Rattle.mixtures.proofs.Mixtures.{mixtures-are-calls}
 
 -- ---- No. 8
 -- a call of the history was made on sound tables, and what the caller has of it is its answer there

@@ -4,7 +4,7 @@ use mathlib.Core.Path.{_≡_}
 use mathlib.Core.Logic.{_⊎_}
 use mathlib.Core.List.{List, [], _∷_, _++_}
 use lib.ListN.{length, replicate}
-use Rattle.rules.specs.Tables.{Typed, current}
+use Rattle.rules.specs.Tables.{current}
 use Rattle.rules.specs.Answer.{nowWaiting}
 use Rattle.rules.specs.Dispatch.{running}
 use Rattle.rules.specs.Fresh.{madeFresh}
@@ -12,7 +12,7 @@ use Rattle.rules.specs.Lines.{line, semaphoreLine}
 use Rattle.rules.specs.Sound.{Sound}
 use Rattle.rules.specs.declared.Answer.{Answer}
 use Rattle.rules.specs.declared.Tables.{Tables}
-use Rattle.runs.specs.Run.{Asked, Words, made, next, after, Each, Always, AllWords}
+use Rattle.runs.specs.Run.{Asked, ByType, made, next, after, Each, Always, AllWords}
 use Rattle.runs.specs.CallList.{answersTo}
 use Rattle.runs.specs.Turn.{BlockedOn, beforeAt, ServedIn}
 use Rattle.demands.specs.One.{Answered, threadOf}
@@ -33,7 +33,7 @@ pub record AsMade (t : Tables) (ps : List Piece) : Type 0 where
   pub kept : Each (λ u q. Kept u q (made u q)) t (callsMade ps)
   pub sound : Sound (tablesAfter t ps)
   -- what the types say of each
-  pub types : Each (λ u q. Typed u × Words q) t (callsMade ps)
+  pub types : Each ByType t (callsMade ps)
 
 abbrev pub MixturesAreCalls : Type 0
 MixturesAreCalls = (t : Tables) → Sound t → (ps : List Piece) → Mixture t ps → AsMade t ps

@@ -2,7 +2,7 @@
 use Prim.{Unit}
 use Prim.Native.Nat.{ℕ, _<_}
 use mathlib.Core.List.{List, [], _∷_}
-use Rattle.rules.specs.Tables.{wordEnd}
+use Rattle.rules.specs.Tables.{wordEnd, Typed}
 use Rattle.rules.specs.Step.{call}
 use Rattle.rules.specs.declared.Tables.{Tables}
 use Rattle.rules.specs.declared.Step.{Step}
@@ -24,6 +24,10 @@ pub record Words (q : Asked) : Type 0 where
   pub second : q .b < wordEnd
   pub third : q .c < wordEnd
   pub fourth : q .d < wordEnd
+
+-- what the types say of a call and of the tables on which it is made: the arrays' lengths, and that arguments are words
+abbrev pub ByType : Tables → Asked → Type 0
+ByType t q = Typed t × Words q
 
 -- the call made on these tables
 abbrev pub made : Tables → Asked → Step
