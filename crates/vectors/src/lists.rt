@@ -1,14 +1,10 @@
 // The calls of a log by lists on lent tables, and the same calls one by one on tables by value: all that the two leave is compared.
-use call_lists::ANSWER_WORDS;
-use call_lists::CALL_WORDS;
-use call_lists::MOST_CALLS;
-use call_lists::answer_at;
-use call_lists::call_at;
 use call_lists::end_of;
 use call_lists::front;
 use comparing::same_answer;
 use comparing::same_tables;
 use comparing::same_thread;
+use kernel::Call;
 use kernel::Said;
 use rules::Answer;
 use rules::Clocks;
@@ -26,15 +22,25 @@ use rules::Thread;
 use text::Text;
 ghost use Prim.Native.Nat.{_≤_, _<_};
 
-// The calls of a log, of which it has at most 2,000.
-const LOG_CALLS: usize = 2000;
+// What a list and its answers look like is said here again and not taken from the core: a test must not move with what it tests.
+// A call's number and its four arguments.
+const CALL_WORDS: usize = 5;
+
+// An answer's code, outcome and value.
+const ANSWER_WORDS: usize = 3;
+
+// The calls of a log, of which it has at most 4,000.
+const LOG_CALLS: usize = 4000;
 
 type Calls = [u32; LOG_CALLS * CALL_WORDS];
+
+// A list has at most so many calls.
+const LIST_CALLS: usize = 256;
 
 // The room for answers has so many words more than are needed.
 const MORE_ROOM: usize = 8;
 
-const MOST_ROOM: usize = MOST_CALLS * ANSWER_WORDS + MORE_ROOM;
+const MOST_ROOM: usize = LIST_CALLS * ANSWER_WORDS + MORE_ROOM;
 
 type Room = [u32; MOST_ROOM];
 
@@ -76,6 +82,42 @@ fn read_calls(log: &[u8], calls: &mut Calls) -> usize {
     k * CALL_WORDS
 }
 
+// Call i of a list; past its last one a call with no call's number.
+fn call_at(calls: &[u32], i: usize) -> Call {
+    if calls.len() / CALL_WORDS <= i {
+        return Call {
+            number: u32::MAX,
+            a: 0,
+            b: 0,
+            c: 0,
+            d: 0,
+        };
+    }
+    Call {
+        number: calls[i * CALL_WORDS],
+        a: calls[i * CALL_WORDS + 1],
+        b: calls[i * CALL_WORDS + 2],
+        c: calls[i * CALL_WORDS + 3],
+        d: calls[i * CALL_WORDS + 4],
+    }
+}
+
+// The answer to call i as it stands in the room; no answer past the room.
+fn answer_at(room: &Room, i: usize) -> Answer {
+    if LIST_CALLS <= i {
+        return Answer {
+            code: UNTOUCHED,
+            outcome: UNTOUCHED,
+            value: UNTOUCHED,
+        };
+    }
+    Answer {
+        code: room[i * ANSWER_WORDS],
+        outcome: room[i * ANSWER_WORDS + 1],
+        value: room[i * ANSWER_WORDS + 2],
+    }
+}
+
 // The sum goes on by the first n answers, each with the thread that the list gave.
 fn add_answers(from: u32, room: &Room, n: usize, thread: Thread) -> u32 {
     let mut sum = from;
@@ -104,7 +146,7 @@ fn room_for(words: usize) -> usize
     ensures { λ r. ⌜ r ≤ 776 ⌝ }
 {
     let n = words / CALL_WORDS;
-    if MOST_CALLS <= n {
+    if LIST_CALLS <= n {
         return MOST_ROOM;
     }
     n * ANSWER_WORDS + MORE_ROOM
@@ -299,7 +341,7 @@ fn print_sum(levels: u32, calls: &[u32], n: usize)
 fn print_calls(levels: u32, calls: &[u32]) {
     print_sum(levels, calls, 1);
     print_sum(levels, calls, 7);
-    print_sum(levels, calls, MOST_CALLS);
+    print_sum(levels, calls, LIST_CALLS);
 }
 
 // The calls of the first words.

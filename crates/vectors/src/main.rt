@@ -3,6 +3,11 @@ mod lists;
 
 use lists::print_sums;
 
+// A log has at most so many bytes here, and its text so many.
+const MOST_BYTES: usize = 80000;
+
+const MOST_TEXT: usize = 100100;
+
 // The log's name in a line.
 fn print_name(name: &[u8]) {
     io::write_all(libc::STDOUT_FILENO, name);
@@ -11,7 +16,7 @@ fn print_name(name: &[u8]) {
 
 // The text of a log.
 fn print_text(log: &[u8]) {
-    let mut out = io::large_buffer();
+    let mut out = [0u8; MOST_TEXT];
     let put = whole::replay_log(log, &mut out);
     io::write_all(libc::STDOUT_FILENO, text::front(&out, put));
 }
@@ -27,15 +32,15 @@ fn has_ended(fd: i32, name: &[u8]) -> bool {
         io::write_all(libc::STDERR_FILENO, name);
         io::write_all(
             libc::STDERR_FILENO,
-            b": was not read to its end, and a log has at most 40,000 bytes here\n",
+            b": was not read to its end, and a log has at most 80,000 bytes here\n",
         );
     }
     got == 0
 }
 
-// The log that can be read at fd. It has at most 2,000 records, each with a line of at most 25 bytes, so that the text fits.
+// The log that can be read at fd. It has at most 4,000 records, each with a line of at most 25 bytes, so that the text fits.
 fn replay_whole(fd: i32, name: &[u8]) {
-    let mut log = [0u8; 40000];
+    let mut log = [0u8; MOST_BYTES];
     let length = io::read_full(fd, &mut log);
     if has_ended(fd, name) {
         print_text(&log[..length]);

@@ -12,22 +12,13 @@ abbrev μ-loop : tie.MeasureT-loop
 μ-loop calls room n tables₀ thread₀ same₀ i₀ tables thread same i = n - i
 
 add-i : tie.Need-add-i Inv-loop μ-loop
-add-i c =
-    let at-call = c .before .before .before .before .before in
-    let at-test = at-call .before in
-    omega (arith, at-test .loop-test .taken, at-test .before .loop .inv)
+add-i c = omega (arith, c .before .before .before .before .before .loop-test .taken, c .before .before .before .before .before .before .loop .inv)
 
 loop-less : tie.Need-loop-less Inv-loop μ-loop
-loop-less c =
-    let at-call = c .before .before .before .before .before in
-    let at-test = at-call .before in
-    omega (arith, at-test .loop-test .taken, at-test .before .loop .inv)
+loop-less c = omega (arith, c .before .before .before .before .before .loop-test .taken, c .before .before .before .before .before .before .loop .inv)
 
 loop-again : tie.Need-loop-again Inv-loop μ-loop
-loop-again c =
-    let at-call = c .before .before .before .before .before in
-    let at-test = at-call .before in
-    omega (arith, at-test .loop-test .taken, at-test .before .loop .inv)
+loop-again c = omega (arith, c .before .before .before .before .before .loop-test .taken, c .before .before .before .before .before .before .loop .inv)
 
 pub make-singly-spec : {M : Type 1} → statement M
 make-singly-spec =

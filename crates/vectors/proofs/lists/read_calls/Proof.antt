@@ -5,10 +5,10 @@ use Rattle.vectors.proofs.lists.read_calls.Statement.{statement}
 use Rattle.vectors.proofs.lists.read_calls.Tie as tie
 
 abbrev Inv-loop : tie.InvT-loop
-Inv-loop log calls₀ at₀ k₀ calls at k = k ≤ 2000
+Inv-loop log calls₀ at₀ k₀ calls at k = k ≤ 4000
 
 abbrev μ-loop : tie.MeasureT-loop
-μ-loop log calls₀ at₀ k₀ calls at k = 2000 - k
+μ-loop log calls₀ at₀ k₀ calls at k = 4000 - k
 
 pub read-calls-spec : {M : Type 1} → statement M
 read-calls-spec =
