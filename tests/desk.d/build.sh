@@ -5,7 +5,7 @@ b=$room/b
 fresh() { # a checkout that is not built, of six parts
     rm -rf "$b"
     clone b
-    printf '%s\n' '# six parts' 'fold:' 'rules: fold' 'text: rules' 'desk: rules text' 'replay: desk io libc os' 'trace: rules text io libc os' >"$b/crates.txt"
+    printf '%s\n' '# six parts' 'basics:' 'rules: basics' 'text: rules' 'desk: rules text' 'replay: desk io libc os' 'trace: rules text io libc os' >"$b/crates.txt"
     : >"$room/kit/calls"
 }
 later() { touch -d '+2 seconds' "$1"; } # saved after all that is there
@@ -33,7 +33,7 @@ row 'build builds both' 0 'both programs are built: replay and trace' 'tebalung:
 check 'build: rt is called once for both' [ "$(cat "$room/kit/calls")" = 'check replay trace' ]
 
 # A change: of a source, of a folder of sources, of the list, of the kit's name; not of an edit.
-for changed in crates/fold/src/lib.rt crates/rules/specs crates.txt KIT; do
+for changed in crates/basics/src/lib.rt crates/rules/specs crates.txt KIT; do
     later "$b/$changed"
     row "$changed is newer" 0 "$told" "tebalung: replay is older than the sources${nl}tebalung: replay is proved and built anew: * of 5 parts, 0:0*" "$b/replay" "$sample"
     find "$b" -newer "$b/target/front.begun" -exec touch -r "$b/target/front.begun" {} +
@@ -51,7 +51,7 @@ row 'a program that rt did not finish' 0 "$told" '*proved and built anew*' "$b/r
 fresh
 (DESK_PAUSE=0.3 "$b/replay" "$sample" >"$room/out1" 2>&1) &
 soon [ -f "$b/target/stamp/text" ]
-touch "$b/crates/fold/src/lib.rt"
+touch "$b/crates/basics/src/lib.rt"
 wait
 n=$(calls)
 row 'a source was saved during the build' 0 "$told" '*proved and built anew*' "$b/replay" "$sample"
@@ -78,13 +78,13 @@ many() { # CHECK: eight replays, four explains and a build
 not() { ! "$@"; }
 fresh
 many 'nothing built, many at once'
-echo '// changed' >>"$b/crates/fold/src/lib.rt"
-later "$b/crates/fold/src/lib.rt"
+echo '// changed' >>"$b/crates/basics/src/lib.rt"
+later "$b/crates/basics/src/lib.rt"
 many 'a source changed, many at once'
 fresh
 "$b/tebalung" build >"$room/out1" 2>&1
 : >"$room/kit/calls"
-later "$b/crates/fold/src/lib.rt"
+later "$b/crates/basics/src/lib.rt"
 (DESK_PAUSE=0.2 "$b/replay" "$sample" >"$room/out1" 2>&1) &
 (DESK_PAUSE=0.2 "$b/replay" "$sample" >"$room/out2" 2>&1) &
 wait
@@ -128,9 +128,9 @@ ended() { # SIGNAL STATUS SHELL
     check "$1 during a build, $3: no process" none_running kit
     check "$1 during a build, $3: no process of ours" none_running b
     check "$1 during a build, $3: no lock" soon unlocked
-    check "$1 during a build, $3: what is proved is kept" [ -f "$b/target/stamp/fold" ]
+    check "$1 during a build, $3: what is proved is kept" [ -f "$b/target/stamp/basics" ]
     row "$1 during a build, $3: then it goes on" 0 "$told" '?*' "$b/replay" "$sample"
-    check "$1 during a build, $3: what was proved is not proved again" grep -q 'rt: fold proved (unchanged' "$b/target/front.out"
+    check "$1 during a build, $3: what was proved is not proved again" grep -q 'rt: basics proved (unchanged' "$b/target/front.out"
 }
 for shell in sh bash 'busybox sh'; do ! command -v "${shell%% *}" >/dev/null || ended INT 130 "$shell"; done
 ended TERM 143 sh
@@ -172,8 +172,8 @@ row 'a crate is not proved' 2 '' '*tebalung: replay could not be built: FAILED: 
 check 'a crate is not proved: no lock' unlocked
 row 'rt leaves no program' 2 '' '*tebalung: replay could not be built: rt says that it is proved, and left no *' env DESK_BIN="$room/nosuch" "$b/replay" "$sample"
 row 'a crate is not proved: mended' 0 "$told" '?*' "$b/replay" "$sample"
-echo '// changed' >>"$b/crates/fold/src/lib.rt"
-later "$b/crates/fold/src/lib.rt"
+echo '// changed' >>"$b/crates/basics/src/lib.rt"
+later "$b/crates/basics/src/lib.rt"
 row 'a change is not proved: the old program is not run' 2 '' '*tebalung: replay could not be built: FAILED: rules *' env DESK_FAIL=rules "$b/replay" "$sample"
 fresh
 row 'no kit' 2 '' 'tebalung: replay is not built yet, and building needs the Rattle kit: put its rt on the PATH, or set RATTLE_HOME' env PATH="$room/tools" "$b/replay" "$sample"

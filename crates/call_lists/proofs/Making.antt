@@ -13,10 +13,10 @@ use Rattle.rules.proofs.Agree.{means-sound}
 use Rattle.rules.specs.declared.Answer.{Answer}
 use Rattle.rules.specs.declared.Step.{Step}
 use Rattle.rules.specs.declared.Tables.{Tables}
-use Rattle.laws.proofs.Calls.{chosen}
-use Rattle.runs.specs.Run.{Asked, asked, ByType, made, after, Each}
+use Rattle.rules_laws.proofs.Calls.{chosen}
+use Rattle.runs.specs.Run.{ByType, made, after, Each}
 use Rattle.runs.specs.CallList.{callIn, firstCalls, callsOf, answersTo, wordsOf}
-use Rattle.kernel.specs.declared.Call.{Call}
+use Rattle.rules.specs.declared.Call.{Call}
 use Rattle.kernel.specs.Safe.{Stepped}
 use Rattle.call_lists.specs.CallLists.{callAt, answerPut}
 use Rattle.call_lists.specs.Made.{ListMade}
@@ -24,16 +24,16 @@ use Rattle.call_lists.proofs.Leaves.{a-call, three-words}
 
 -- ---- calls qs₀ from tables t₀ on, with this room: the first of them were made, and left t and out; qs are still to be made, the first of their answers at
 -- word k. If they are, it is as if all had been made
-pub record OnTheWay (t₀ : Tables) (qs₀ : List Asked) (room : List ℕ) (t : Tables) (qs : List Asked) (out : List ℕ) (k : ℕ) : Type 0 where
+pub record OnTheWay (t₀ : Tables) (qs₀ : List Call) (room : List ℕ) (t : Tables) (qs : List Call) (out : List ℕ) (k : ℕ) : Type 0 where
   pub tables : after t qs ≡ after t₀ qs₀
   pub answers : sets out k (wordsOf (answersTo t qs)) ≡ sets room 0 (wordsOf (answersTo t₀ qs₀))
   pub types : Each ByType t qs → Each ByType t₀ qs₀
 
-pub not-begun : (t : Tables) (qs : List Asked) (room : List ℕ) → OnTheWay t qs room t qs room 0
+pub not-begun : (t : Tables) (qs : List Call) (room : List ℕ) → OnTheWay t qs room t qs room 0
 not-begun t qs room = record { tables = refl; answers = refl; types = λ e. e }
 
-module _ (t₀ : Tables) (qs₀ : List Asked) (room : List ℕ) (t : Tables) (out : List ℕ) (k : ℕ) where
-  pub one-made : (q : Asked) (qs : List Asked) → OnTheWay t₀ qs₀ room t (q ∷ qs) out k → ByType t q → {s : Step} {next : List ℕ} → s ≡ made t q
+module _ (t₀ : Tables) (qs₀ : List Call) (room : List ℕ) (t : Tables) (out : List ℕ) (k : ℕ) where
+  pub one-made : (q : Call) (qs : List Call) → OnTheWay t₀ qs₀ room t (q ∷ qs) out k → ByType t q → {s : Step} {next : List ℕ} → s ≡ made t q
       → next ≡ sets out k (wordsOf (s .answer ∷ []))
       → (j : ℕ) → j ≡ k + 3 → OnTheWay t₀ qs₀ room (s .tables) qs next j
   unfolding after answersTo wordsOf Each
@@ -50,20 +50,17 @@ module _ (t₀ : Tables) (qs₀ : List Asked) (room : List ℕ) (t : Tables) (ou
   all-made w = record { tables = w .tables; answers = w .answers; types = w .types tt }
 
 -- ---- the calls of a list from call i on
-abbrev callsFrom : List ℕ → ℕ → List Asked
+abbrev callsFrom : List ℕ → ℕ → List Call
 callsFrom ws i = firstCalls (length ws / 5 - i) (drop (i * 5) ws)
 
-abbrev askedBy : Call → Asked
-askedBy q = asked (q .number) (q .a) (q .b) (q .c) (q .d)
-
 -- the call in front of what is left is the one whose words begin there
-in-front : (ws : List ℕ) (i : ℕ) → i < length ws / 5 → callIn (drop (i * 5) ws) ≡ askedBy (callAt ws i)
+in-front : (ws : List ℕ) (i : ℕ) → i < length ws / 5 → callIn (drop (i * 5) ws) ≡ callAt ws i
 in-front ws i inside =
     let word : (k : ℕ) → getD (drop (i * 5) ws) k 0 ≡ getD ws (i * 5 + k) 0 = λ k. getD-drop (i * 5) ws k 0 in
     let none : i * 5 + 0 ≡ i * 5 = omega arith in
     rw (sym (a-call ws i inside), word 0, word 1, word 2, word 3, word 4, none)
 
-calls-from : (ws : List ℕ) (i : ℕ) → i < length ws / 5 → callsFrom ws i ≡ askedBy (callAt ws i) ∷ callsFrom ws (i + 1)
+calls-from : (ws : List ℕ) (i : ℕ) → i < length ws / 5 → callsFrom ws i ≡ callAt ws i ∷ callsFrom ws (i + 1)
 unfolding firstCalls
 calls-from ws i inside =
     let one : length ws / 5 - i ≡ suc (length ws / 5 - (i + 1)) = omega arith in
@@ -100,18 +97,16 @@ length-put out i r =
     chosen (λ (l : List ℕ). length l ≡ length out) (ltb i (length out / 3)) _ _ (λ _. length-sets out (i * 3) (wordsOf (r ∷ []))) (λ _. refl)
 
 -- a call that `step` made on sound tables, as a call by itself
-is-made : (t : Tables) (q : Call) {s : Step} → Sound t → Stepped t (q .number) (q .a) (q .b) (q .c) (q .d) s → s ≡ made t (askedBy q)
+is-made : (t : Tables) (q : Call) {s : Step} → Sound t → Stepped t q s → s ≡ made t q
 unfolding call
 is-made t q sound p = p .is ∙ rw (means-sound t sound)
 
-by-type : (t : Tables) (q : Call) {s : Step} → Stepped t (q .number) (q .a) (q .b) (q .c) (q .d) s → ByType t (askedBy q)
-by-type t q p =
-    let w = p .words in
-    (p .typed, record { first = w .first; second = w .second; third = w .third; fourth = w .fourth })
+by-type : (t : Tables) (q : Call) {s : Step} → Stepped t q s → ByType t q
+by-type t q p = (p .typed, p .words)
 
 module _ (ws : List ℕ) (t₀ : Tables) (room : List ℕ) (i : ℕ) (t : Tables) (out : List ℕ) (l : Making ws t₀ room i t out) where
   pub one-more : i < length ws / 5 → (q : Call) → q ≡ callAt ws i → {s : Step} {next : List ℕ}
-      → (Sound t → Stepped t (q .number) (q .a) (q .b) (q .c) (q .d) s) → next ≡ answerPut out i (s .answer)
+      → (Sound t → Stepped t q s) → next ≡ answerPut out i (s .answer)
       → Making ws t₀ room (i + 1) (s .tables) next
   one-more more q is {s} {next} step put =
       record {
@@ -121,8 +116,8 @@ module _ (ws : List ℕ) (t₀ : Tables) (room : List ℕ) (i : ℕ) (t : Tables
         way = λ sound enough.
             let stepped = step (l .sound sound) in
             let fits : i < length out / 3 = omega (arith, l .space, enough, more) in
-            one-made t₀ (callsOf ws) room t out (i * 3) (askedBy q) (callsFrom ws (i + 1))
-            (subst (λ (qs : List Asked). OnTheWay t₀ (callsOf ws) room t qs out (i * 3)) (rw (calls-from ws i more, is)) (l .way sound enough))
+            one-made t₀ (callsOf ws) room t out (i * 3) q (callsFrom ws (i + 1))
+            (subst (λ (qs : List Call). OnTheWay t₀ (callsOf ws) room t qs out (i * 3)) (rw (calls-from ws i more, is)) (l .way sound enough))
             (by-type t q stepped)
             (is-made t q (l .sound sound) stepped)
             (put ∙ sym (three-words out i (s .answer) fits))
@@ -132,4 +127,4 @@ module _ (ws : List ℕ) (t₀ : Tables) (room : List ℕ) (i : ℕ) (t : Tables
   pub list-made : length ws / 5 ≤ i → Sound t₀ → length ws / 5 * 3 ≤ length room → ListMade t₀ (callsOf ws) room t out
   list-made past sound enough =
       all-made t₀ (callsOf ws) room t out (i * 3)
-      (subst (λ (qs : List Asked). OnTheWay t₀ (callsOf ws) room t qs out (i * 3)) (calls-from-last ws i past) (l .way sound enough))
+      (subst (λ (qs : List Call). OnTheWay t₀ (callsOf ws) room t qs out (i * 3)) (calls-from-last ws i past) (l .way sound enough))

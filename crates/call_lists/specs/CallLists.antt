@@ -7,7 +7,7 @@ use lib.ListN.{length, getD, drop}
 use lib.Seq.{sets}
 use Rattle.rules.specs.Answer.{answer}
 use Rattle.rules.specs.declared.Answer.{Answer}
-use Rattle.kernel.specs.declared.Call.{Call}
+use Rattle.rules.specs.declared.Call.{Call}
 use Rattle.runs.specs.CallList.{callWords, callsIn, answerWords, wordsOf, answerIn}
 
 -- what is given past the last call: "unknown call number"

@@ -1,12 +1,13 @@
 // A list of calls, five words to a call, and the list of their answers, three words to a call (request No. 4).
-use kernel::Call;
 use rules::Answer;
+use rules::Call;
 ghost use mathlib.Core.Path.{_≡_};
 ghost use Prim.Native.Nat.{_+_, min};
 ghost use denote.Ref.{ptr};
 ghost use lib.ListN.{take};
 ghost use Rattle.runs.specs.CallList.{badList};
 ghost use Rattle.call_lists.specs.CallLists.{callAt, answerPut, answerAt};
+ghost use Rattle.tables.specs.Lent.{old, new};
 
 // A call's number and its four arguments.
 pub const CALL_WORDS: usize = 5;
@@ -33,7 +34,7 @@ pub fn is_bad(words: usize, room: usize) -> bool
 
 // Call i of a list; past its last one a call with no call's number.
 pub fn call_at(calls: &[u32], i: usize) -> Call
-    ensures { λ r. ⌜ r ≡ callAt (now (calls .entry)) i ⌝ }
+    ensures { λ r. ⌜ r ≡ callAt (old calls) i ⌝ }
 {
     if calls.len() / CALL_WORDS <= i {
         return Call {
@@ -56,7 +57,7 @@ pub fn call_at(calls: &[u32], i: usize) -> Call
 
 // The answer to call i into its three words; no change where there is no room for three.
 pub fn put_answer(answers: &mut [u32], i: usize, answer: Answer)
-    ensures { λ _. ⌜ now (answers .exit) ≡ answerPut (now (answers .entry)) i answer ⌝ }
+    ensures { λ _. ⌜ new answers ≡ answerPut (old answers) i answer ⌝ }
 {
     if answers.len() / ANSWER_WORDS <= i {
         return;
@@ -69,7 +70,7 @@ pub fn put_answer(answers: &mut [u32], i: usize, answer: Answer)
 
 // The answer to call i as it stands in the list of answers; past the last one a code that no answer has.
 pub fn answer_at(answers: &[u32], i: usize) -> Answer
-    ensures { λ r. ⌜ r ≡ answerAt (now (answers .entry)) i ⌝ }
+    ensures { λ r. ⌜ r ≡ answerAt (old answers) i ⌝ }
 {
     if answers.len() / ANSWER_WORDS <= i {
         return Answer {
@@ -88,7 +89,7 @@ pub fn answer_at(answers: &[u32], i: usize) -> Answer
 
 // The first n words, as that part; all where there are fewer.
 pub fn front<'a>(words: &'a [u32], n: usize) -> &'a [u32]
-    ensures { λ r. ⌜ (now r ≡ take n (now (words .entry))) × (ptr r ≡ ptr (words .entry)) ⌝ }
+    ensures { λ r. ⌜ (now r ≡ take n (old words)) × (ptr r ≡ ptr (words .entry)) ⌝ }
 {
     if n < words.len() {
         return &words[..n];

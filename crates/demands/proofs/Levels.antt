@@ -10,28 +10,29 @@ use Rattle.rules.specs.Fresh.{freshWith, fresh, isLevels, madeFresh}
 use Rattle.rules.specs.Log.{versionOf, secondEdition, levelsFor}
 use Rattle.rules.specs.declared.Tables.{Tables}
 use Rattle.rules.specs.declared.Step.{Step}
-use Rattle.runs.specs.Run.{Asked, next, after}
-use Rattle.laws.proofs.Calls.{chosen}
-use Rattle.laws.proofs.Levels as Laws
+use Rattle.runs.specs.Run.{next, after}
+use Rattle.rules_laws.proofs.Calls.{chosen}
+use Rattle.rules_laws.proofs.Levels as Laws
 use Rattle.demands.proofs.Two.{either-levels}
 use Rattle.demands.specs.Levels.{LevelsKept, LevelsStay, LevelsOfALog}
+use Rattle.rules.specs.declared.Call.{Call}
 
 pub levels-kept : LevelsKept
 levels-kept t q = Laws.levels-kept t (q .number) (q .a) (q .b) (q .c) (q .d)
 
-along : (t : Tables) (qs : List Asked) → state (after t qs .state) LEVELS ≡ state (t .state) LEVELS
+along : (t : Tables) (qs : List Call) → state (after t qs .state) LEVELS ≡ state (t .state) LEVELS
 unfolding after
 along t [] = refl
 along t (q ∷ qs) = along (next t q) qs ∙ levels-kept t q
 
 -- of fresh tables with n levels, where n is one of the two numbers
-with-levels : (n : ℕ) → (n ≡ fewLevels) ⊎ (n ≡ mostLevels) → (qs : List Asked) → levels (after (freshWith n) qs .state) ≡ n
+with-levels : (n : ℕ) → (n ≡ fewLevels) ⊎ (n ≡ mostLevels) → (qs : List Call) → levels (after (freshWith n) qs .state) ≡ n
 unfolding levels freshWith
 with-levels n (inl few) qs = rw (along (freshWith n) qs, few)
 with-levels n (inr most) qs = rw (along (freshWith n) qs, most)
 
 -- what is asked for is one of them, or it is refused
-by-test : (b : Bool) (n : ℕ) (qs : List Asked) → (b ≡ true → (n ≡ fewLevels) ⊎ (n ≡ mostLevels))
+by-test : (b : Bool) (n : ℕ) (qs : List Call) → (b ≡ true → (n ≡ fewLevels) ⊎ (n ≡ mostLevels))
     → levels (after (if b (freshWith n) fresh) qs .state) ≡ if b n fewLevels
 by-test true n qs h = with-levels n (h refl) qs
 by-test false n qs h = with-levels fewLevels (inl refl) qs

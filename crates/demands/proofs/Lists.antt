@@ -9,19 +9,19 @@ use native.Mathlib.Omega.{arith}
 use borrow.Author.Tests.{eq-eqb, ne-eqb, lt-ltb, le-ltb}
 use lib.ListN.{length}
 use lib.Seq.{length-sets}
-use Rattle.fold.proofs.Laws.{same?, lt-or-le}
-use Rattle.fold.proofs.Runs.{getD-sets-out}
+use Rattle.basics.proofs.Laws.{same?, lt-or-le}
+use Rattle.basics.proofs.Runs.{getD-sets-out}
 use Rattle.rules.specs.Tables.{Typed}
 use Rattle.rules.specs.Answer.{answer}
 use Rattle.rules.specs.Sound.{Sound, sound}
 use Rattle.rules.proofs.Agree.{sound-means, means-sound}
 use Rattle.rules.specs.declared.Answer.{Answer}
 use Rattle.rules.specs.declared.Tables.{Tables}
-use Rattle.runs.specs.Run.{Asked, ByType, made, next, after, Each}
+use Rattle.runs.specs.Run.{ByType, made, next, after, Each}
 use Rattle.runs.specs.CallList.{callsOf, answersTo, wordsOf, badList, Handed, handed, allMade, nothingDone, handOver}
 use Rattle.runs.proofs.CallList.{length-first, length-answers, length-words, answers-stand, laid-out, calls-laid-out, unsound-left, bad-left, good-left}
-use Rattle.refusals.proofs.First.{by-bool}
-use Rattle.keeps.proofs.Nothing.{nothing-left}
+use Rattle.demand_1_refusals.proofs.First.{by-bool}
+use Rattle.demand_2_soundness.proofs.Nothing.{nothing-left}
 use Rattle.demands.specs.One.{threadOf}
 use Rattle.demands.specs.Two.{Kept}
 use Rattle.demands.specs.Sequence.{Entered, Sequence, calls, tablesAfter}
@@ -29,6 +29,7 @@ use Rattle.demands.specs.Lists.{Fits, ListsAreWords, CallsAreLists, List
 use Rattle.demands.proofs.Two.{demand-2}
 use Rattle.demands.proofs.Promised as Single
 use Rattle.demands.proofs.Sequence.{as-entered}
+use Rattle.rules.specs.declared.Call.{Call}
 
 -- ---- a list fits, or it is bad
 module _ (ws room : List ℕ) where
@@ -129,7 +130,7 @@ module _ (t : Tables) (ws room : List ℕ) where
 
 -- ---- demand 2
 -- along calls of which it is known what the types say
-pub kept-along : (t : Tables) → Sound t → (qs : List Asked) → Each ByType t qs
+pub kept-along : (t : Tables) → Sound t → (qs : List Call) → Each ByType t qs
     → Each (λ u q. Kept u q (made u q)) t qs × Sound (after t qs) × (Typed t → Typed (after t qs))
 unfolding Each after
 kept-along t s [] w = (tt, s, λ typed. typed)
@@ -245,11 +246,11 @@ lists-are-calls t ws room s p code es row same =
     rw (p .whole, accepted-left t ws room sound f, sym same) (made-one-by-one t room sound es row enough)
 
 -- each call of an accepted list can be made by an entry
-pub singly : Tables → List Asked → List Entered
+pub singly : Tables → List Call → List Entered
 singly t [] = []
 singly t (q ∷ qs) = record { call = q; left = made t q } ∷ singly (next t q) qs
 
-pub singly-row : (t : Tables) → Sound t → (qs : List Asked) → Each ByType t qs → Sequence t (singly t qs)
+pub singly-row : (t : Tables) → Sound t → (qs : List Call) → Each ByType t qs → Sequence t (singly t qs)
 unfolding Sequence Each singly
 singly-row t sound [] w = tt
 singly-row t sound (q ∷ qs) ((typed, words), later) = (
@@ -257,10 +258,10 @@ singly-row t sound (q ∷ qs) ((typed, words), later) = (
   singly-row (next t q) (demand-2 t typed sound q words .sound) qs later,
 )
 
-pub singly-calls : (t : Tables) (qs : List Asked) → calls (singly t qs) ≡ qs
+pub singly-calls : (t : Tables) (qs : List Call) → calls (singly t qs) ≡ qs
 unfolding calls singly
 singly-calls t [] = refl
-singly-calls t (q ∷ qs) = ap (λ (l : List Asked). q ∷ l) (singly-calls (next t q) qs)
+singly-calls t (q ∷ qs) = ap (λ (l : List Call). q ∷ l) (singly-calls (next t q) qs)
 
 pub lists-can-be-calls : ListsCanBeCalls
 lists-can-be-calls t ws room s p code =

@@ -9,7 +9,7 @@ use borrow.Author.Tests.{eq-eqb, ne-eqb, lt-ltb, le-ltb}
 use lib.Dec.{eqb, ltb}
 use lib.ListN.{length, take, drop, getD, take-append-drop, length-append, length-drop}
 use lib.Seq.{drop-cons, drop-drop, getD-drop, take-at, length-take-le}
-use Rattle.fold.proofs.Laws.{same?, lt-or-le}
+use Rattle.basics.proofs.Laws.{same?, lt-or-le}
 use Rattle.rules.specs.Log.{versionOf, isVersion, halfAt, readIn, readAt, argumentBytes, handedOut, argument, moveTo}
 use Rattle.rules.specs.declared.Read.{Read}
 use Rattle.rules.specs.declared.Read.the-variants.{Record, End, Cut, Length, Version}

@@ -2,7 +2,7 @@
 use mathlib.Core.Path.{_≡_, ap, _∙_}
 use mathlib.Core.Bool.{cond as if}
 use native.Mathlib.Omega.{arith}
-use Rattle.fold.specs.Lists.{ahead, allOf}
+use Rattle.basics.specs.Lists.{ahead, allOf}
 use Rattle.rules.specs.Answer.{answer}
 use Rattle.rules.specs.Dispatch.{running}
 use Rattle.rules.specs.Sound.{sound}
@@ -11,10 +11,10 @@ use Rattle.rules.specs.declared.Tables.{Tables}
 use Rattle.rules.specs.declared.Thread.{Thread}
 use Rattle.rules.specs.declared.Thread.the-variants.{Task}
 use Rattle.runs.specs.Run.{made}
-use Rattle.refusals.specs.Refusals.{valueOf}
-use Rattle.refusals.proofs.Named.{apart}
-use Rattle.refusals.proofs.Demand.{code-is, exactly-in, accepted-in, left-alone}
-use Rattle.refusals.proofs.First.{by-bool}
+use Rattle.demand_1_refusals.specs.Refusals.{valueOf}
+use Rattle.demand_1_refusals.proofs.Named.{apart}
+use Rattle.demand_1_refusals.proofs.Demand.{code-is, exactly-in, accepted-in, left-alone}
+use Rattle.demand_1_refusals.proofs.First.{by-bool}
 use Rattle.demands.specs.One.{DemandOne, threadOf}
 
 -- the thread that a refusal leaves is the tables' own, on sound tables and on others

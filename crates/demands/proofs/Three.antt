@@ -6,24 +6,25 @@ use mathlib.Core.Logic.{inl, inr, ⊎-elim}
 use mathlib.Core.List.{List, [], _∷_, _++_}
 use native.Mathlib.Omega.{arith}
 use lib.ListN.{length}
-use Rattle.rules.specs.Answer.{nowWaiting}
+use Rattle.rules.specs.Answer.{nowWaiting, Words}
 use Rattle.rules.specs.Tables.{Typed, wordEnd, task, current}
 use Rattle.rules.specs.Lines.{line, semaphoreLine}
 use Rattle.rules.specs.Sound.{Sound}
 use Rattle.rules.specs.declared.Tables.{Tables}
-use Rattle.runs.specs.Run.{Asked, Words, made, next, after, Each, AllWords}
+use Rattle.runs.specs.Run.{made, next, after, Each, AllWords}
 use Rattle.runs.specs.Turn.{beforeAt, ServedIn, ReadyAt, Undisturbed}
-use Rattle.turns.proofs.Made.{next-typed, next-sound}
-use Rattle.turns.proofs.Begins.{begins, behind, at-back}
-use Rattle.turns.proofs.Waits.{turn, in-time}
-use Rattle.turns.proofs.Ahead.{sub-length}
-use Rattle.turns.proofs.Queues as InTurn
-use Rattle.turns.proofs.Fronts.{at-front, nobody-before, runs-there}
+use Rattle.demand_3_turns.proofs.Made.{next-typed, next-sound}
+use Rattle.demand_3_turns.proofs.Begins.{begins, behind, at-back}
+use Rattle.demand_3_turns.proofs.Waits.{turn, in-time}
+use Rattle.demand_3_turns.proofs.Ahead.{sub-length}
+use Rattle.demand_3_turns.proofs.Queues as InTurn
+use Rattle.demand_3_turns.proofs.Fronts.{at-front, nobody-before, runs-there}
 use Rattle.demands.specs.Three.{DemandThree, Queues, ArrivalOrder, Turn, pend}
 use Rattle.demands.proofs.Two.{sound-after}
+use Rattle.rules.specs.declared.Call.{Call}
 
 -- what follows of each call from what is known of each
-each-of : (P Q : Tables → Asked → Type 0) (t : Tables) (qs : List Asked) → Each P t qs → ((u : Tables) (q : Asked) → P u q → Q u q) → Each Q t qs
+each-of : (P Q : Tables → Call → Type 0) (t : Tables) (qs : List Call) → Each P t qs → ((u : Tables) (q : Call) → P u q → Q u q) → Each Q t qs
 unfolding Each
 each-of P Q t [] e f = tt
 each-of P Q t (q ∷ qs) (here, later) f = (f t q here, each-of P Q (next t q) qs later f)
@@ -58,7 +59,7 @@ queues-in-turn v typed sound p i r =
     }
 
 -- the first calls of a run, and the one after them, are words too
-words-before : (u : Tables) (qs : List Asked) (q : Asked) (rest : List Asked) → AllWords u (qs ++ (q ∷ rest)) → AllWords u qs × Words q
+words-before : (u : Tables) (qs : List Call) (q : Call) (rest : List Call) → AllWords u (qs ++ (q ∷ rest)) → AllWords u qs × Words q
 unfolding Each
 words-before u [] q rest w = (tt, w .0)
 words-before u (p ∷ qs) q rest w = let (before, here) = words-before (next u p) qs q rest (w .1) in ((w .0, before), here)
@@ -76,7 +77,7 @@ module _ (t : Tables) (typed : Typed t) (sound : Sound t) (s : ℕ) (word : s < 
   behind-them : length (beforeAt s (current (t .state)) (next t (pend s))) ≤ length (line (t .lines) (semaphoreLine s))
   behind-them = omega (arith, ap length behind-others)
 
-  moment-sound : (qs : List Asked) → AllWords (next t (pend s)) qs
+  moment-sound : (qs : List Call) → AllWords (next t (pend s)) qs
       → (x : ServedIn s (current (t .state)) (length (line (t .lines) (semaphoreLine s))) (next t (pend s)) qs) → Typed (x .moment) × Sound (x .moment)
   moment-sound qs w x =
       let (before, here) = words-before (next t (pend s)) (x .before) (x .post) (x .rest) (rw (x .split) at w) in

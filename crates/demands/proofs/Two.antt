@@ -8,9 +8,9 @@ use mathlib.Core.List.{List, [], _∷_}
 use native.Mathlib.Omega.{arith}
 use borrow.Author.Tests.{leb-true, eqb-true, ne-eqb}
 use lib.Dec.{leb}
-use Rattle.fold.proofs.Laws.{same?}
-use Rattle.fold.specs.Lists.{count, allOf}
-use Rattle.rules.specs.Answer.{Cases, order, firstGiven}
+use Rattle.basics.proofs.Laws.{same?}
+use Rattle.basics.specs.Lists.{count, allOf}
+use Rattle.rules.specs.Answer.{Cases, order, firstGiven, Words}
 use Rattle.rules.specs.Tables.{Typed, fewLevels, mostLevels}
 use Rattle.rules.specs.Fresh.{fresh, freshWith, isLevels, madeFresh}
 use Rattle.rules.specs.Dispatch.{running}
@@ -20,16 +20,17 @@ use Rattle.rules.proofs.Agree.{sound-means, means-sound}
 use Rattle.rules.proofs.Faster.{fresh-sound, fresh-for-sound}
 use Rattle.rules.specs.declared.Tables.{Tables}
 use Rattle.rules.specs.declared.Step.{Step}
-use Rattle.runs.specs.Run.{Asked, Words, made, next, after, Each, AllWords}
-use Rattle.refusals.proofs.Demand.{exactly-in, code-is}
-use Rattle.refusals.proofs.First.{by-bool}
-use Rattle.refusals.specs.Refusals.{refusal}
-use Rattle.laws.proofs.Calls.{chosen}
-use Rattle.keeps.proofs.Nothing.{nothing-left}
-use Rattle.turns.proofs.Made.{is-step, next-typed, next-sound}
+use Rattle.runs.specs.Run.{made, next, after, Each, AllWords}
+use Rattle.demand_1_refusals.proofs.Demand.{exactly-in, code-is}
+use Rattle.demand_1_refusals.proofs.First.{by-bool}
+use Rattle.demand_1_refusals.specs.Refusals.{refusal}
+use Rattle.rules_laws.proofs.Calls.{chosen}
+use Rattle.demand_2_soundness.proofs.Nothing.{nothing-left}
+use Rattle.demand_3_turns.proofs.Made.{is-step, next-typed, next-sound}
 use Rattle.demands.specs.Two.{DemandTwo, Kept}
+use Rattle.rules.specs.declared.Call.{Call}
 
-step-thread : (t : Tables) (q : Asked)
+step-thread : (t : Tables) (q : Call)
     → step t (q .number) (q .a) (q .b) (q .c) (q .d) .thread
     ≡ running (step t (q .number) (q .a) (q .b) (q .c) (q .d) .tables .lines) (step t (q .number) (q .a) (q .b) (q .c) (q .d) .tables .state)
 unfolding step finished
@@ -44,7 +45,7 @@ given-to n (k ∷ ks) c e =
     by-bool (c k) (λ h. rw h (leb-true k n here)) (λ h. rw h (given-to n ks c later))
 
 -- ---- one call
-module _ (t : Tables) (typed : Typed t) (s : Sound t) (q : Asked) (w : Words q) where
+module _ (t : Tables) (typed : Typed t) (s : Sound t) (q : Call) (w : Words q) where
   not-10 : made t q .answer .code ≢ 10
   unfolding count refusal
   not-10 e = false≢true (sym (ap not (means-sound t s)) ∙ exactly-in t q 10 (omega arith) .0 e .0)
@@ -102,14 +103,14 @@ made-fresh-safe n =
     (λ _. (fresh-typed, fresh-is-sound))
 
 -- ---- along any sequence of calls from sound tables: each call keeps them so
-pub along : (t : Tables) → Typed t → Sound t → (qs : List Asked) → AllWords t qs → Each (λ u q. Sound u × Kept u q (made u q)) t qs
+pub along : (t : Tables) → Typed t → Sound t → (qs : List Call) → AllWords t qs → Each (λ u q. Sound u × Kept u q (made u q)) t qs
 unfolding Each
 along t typed s [] w = tt
 along t typed s (q ∷ qs) w =
     let k = demand-2 t typed s q (w .0) in
     ((s, k), along (next t q) (k .typed) (k .sound) qs (w .1))
 
-pub sound-after : (t : Tables) → Typed t → Sound t → (qs : List Asked) → AllWords t qs → Typed (after t qs) × Sound (after t qs)
+pub sound-after : (t : Tables) → Typed t → Sound t → (qs : List Call) → AllWords t qs → Typed (after t qs) × Sound (after t qs)
 unfolding Each after
 sound-after t typed s [] w = (typed, s)
 sound-after t typed s (q ∷ qs) w =

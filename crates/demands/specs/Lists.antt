@@ -11,11 +11,12 @@ use Rattle.rules.specs.Sound.{Sound}
 use Rattle.rules.specs.declared.Answer.{Answer}
 use Rattle.rules.specs.declared.Tables.{Tables}
 use Rattle.rules.specs.declared.Thread.{Thread}
-use Rattle.runs.specs.Run.{Asked, ByType, made, after, Each}
+use Rattle.runs.specs.Run.{ByType, made, after, Each}
 use Rattle.runs.specs.CallList.{callsOf, laidOut, answersTo, answersIn, Handed, handed, handOver}
 use Rattle.demands.specs.One.{threadOf}
 use Rattle.demands.specs.Two.{Kept}
 use Rattle.demands.specs.Sequence.{Entered, Sequence, calls, tablesAfter}
+use Rattle.rules.specs.declared.Call.{Call}
 
 -- a list with none of the faults of "its length is not a multiple of five, exceeds 256 calls, or the answer room is short"
 pub record Fits (words room : List ℕ) : Type 0 where
@@ -30,7 +31,7 @@ ListsAreWords = (words room : List ℕ) → Fits words room → laidOut (callsOf
 
 -- and the words of any calls are a list of these calls
 abbrev pub CallsAreLists : Type 0
-CallsAreLists = (qs : List Asked) → callsOf (laidOut qs) ≡ qs
+CallsAreLists = (qs : List Call) → callsOf (laidOut qs) ≡ qs
 
 -- ---- demand 1: any tables, any list and any room for answers get an answer
 pub record ListAnswered (t : Tables) (words room : List ℕ) (s : Handed) : Type 0 where

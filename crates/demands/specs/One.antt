@@ -5,7 +5,7 @@ use Prim.Native.Nat.{ℕ, _<_}
 use mathlib.Core.Path.{_≡_}
 use mathlib.Core.Logic.{_≢_, _↔_}
 use mathlib.Core.Bool.{true, false, _&&_, cond as if}
-use Rattle.fold.specs.Lists.{count, ahead}
+use Rattle.basics.specs.Lists.{count, ahead}
 use Rattle.rules.specs.Answer.{order, codeOf, answer}
 use Rattle.rules.specs.Dispatch.{running}
 use Rattle.rules.specs.Sound.{sound}
@@ -14,16 +14,17 @@ use Rattle.rules.specs.declared.Tables.{Tables}
 use Rattle.rules.specs.declared.Step.{Step}
 use Rattle.rules.specs.declared.Thread.{Thread}
 use Rattle.rules.specs.declared.Thread.the-variants.{Task}
-use Rattle.runs.specs.Run.{Asked, made}
-use Rattle.refusals.specs.Refusals.{refusal, valueOf, None}
+use Rattle.runs.specs.Run.{made}
+use Rattle.demand_1_refusals.specs.Refusals.{refusal, valueOf, None}
+use Rattle.rules.specs.declared.Call.{Call}
 
 -- the running thread of any tables: "with code 10 the thread given is T0"
 abbrev pub threadOf : Tables → Thread
 threadOf t = if (sound t) (running (t .lines) (t .state)) (Task 0)
 
--- `refusal t q k` is the case of code k in 01's table, `valueOf q k` the value that a refusal with code k has (refusals/specs); `None ks (refusal t q)`
+-- `refusal t q k` is the case of code k in 01's table, `valueOf q k` the value that a refusal with code k has (demand_1_refusals/specs); `None ks (refusal t q)`
 -- says that no case of these codes holds
-pub record Answered (t : Tables) (q : Asked) (s : Step) : Type 0 where
+pub record Answered (t : Tables) (q : Call) (s : Step) : Type 0 where
   -- the first case that holds gives its code; 0 where none does
   pub code : s .answer .code ≡ codeOf (refusal t q)
   -- "a code is given exactly in its case", and no earlier one's holds
@@ -37,4 +38,4 @@ pub record Answered (t : Tables) (q : Asked) (s : Step) : Type 0 where
 
 -- the demand: of any tables and any call
 abbrev pub DemandOne : Type 0
-DemandOne = (t : Tables) (q : Asked) → Answered t q (made t q)
+DemandOne = (t : Tables) (q : Call) → Answered t q (made t q)

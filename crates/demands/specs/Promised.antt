@@ -4,12 +4,14 @@ use Rattle.rules.specs.Tables.{Typed}
 use Rattle.rules.specs.Sound.{Sound}
 use Rattle.rules.specs.declared.Tables.{Tables}
 use Rattle.rules.specs.declared.Step.{Step}
-use Rattle.runs.specs.Run.{Asked, Words, made}
+use Rattle.runs.specs.Run.{made}
 use Rattle.demands.specs.One.{Answered}
 use Rattle.demands.specs.Two.{Kept}
+use Rattle.rules.specs.Answer.{Words}
+use Rattle.rules.specs.declared.Call.{Call}
 
 -- the call q on tables t left s: the next tables, the answer and the running thread
-pub record Promised (t : Tables) (q : Asked) (s : Step) : Type 0 where
+pub record Promised (t : Tables) (q : Call) (s : Step) : Type 0 where
   pub whole : s ≡ made t q
   pub answered : Answered t q s
   pub kept : Sound t → Kept t q s

@@ -6,18 +6,19 @@ use mathlib.Core.Path.{_≡_}
 use mathlib.Core.Bool.{Bool, _&&_}
 use mathlib.Core.List.{List, [], _∷_}
 use lib.Dec.{eqb}
-use Rattle.fold.specs.Lists.{bit}
+use Rattle.basics.specs.Lists.{bit}
 use Rattle.rules.specs.Tables.{Typed}
 use Rattle.rules.specs.Sound.{Sound}
 use Rattle.rules.specs.declared.Tables.{Tables}
 use Rattle.rules.specs.declared.Step.{Step}
-use Rattle.runs.specs.Run.{Asked, after, AllWords}
+use Rattle.runs.specs.Run.{after, AllWords}
 use Rattle.runs.specs.Turn.{posts}
 use Rattle.demands.specs.Promised.{Promised}
+use Rattle.rules.specs.declared.Call.{Call}
 
 -- an entry call: what was asked, and what it left
 pub record Entered : Type 0 where
-  pub call : Asked
+  pub call : Call
   pub left : Step
 
 -- each of these is an entry call on the tables that the one before it left, and left what an entry promises
@@ -26,7 +27,7 @@ Sequence t [] = Unit {0}
 Sequence t (e ∷ es) = Promised t (e .call) (e .left) × Sequence (e .left .tables) es
 
 -- the calls, the tables after the last one, and how many were posts on semaphore s that were answered with code 0
-unfoldable pub calls : List Entered → List Asked
+unfoldable pub calls : List Entered → List Call
 calls [] = []
 calls (e ∷ es) = e .call ∷ calls es
 

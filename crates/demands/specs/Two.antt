@@ -8,10 +8,12 @@ use Rattle.rules.specs.Sound.{Sound}
 use Rattle.rules.specs.Step.{step}
 use Rattle.rules.specs.declared.Tables.{Tables}
 use Rattle.rules.specs.declared.Step.{Step}
-use Rattle.runs.specs.Run.{Asked, Words, made}
+use Rattle.runs.specs.Run.{made}
+use Rattle.rules.specs.Answer.{Words}
+use Rattle.rules.specs.declared.Call.{Call}
 
 -- the call q on sound tables t left s
-pub record Kept (t : Tables) (q : Asked) (s : Step) : Type 0 where
+pub record Kept (t : Tables) (q : Call) (s : Step) : Type 0 where
   -- what the call does is the definition's step: the test of soundness may be skipped, and code 10 never comes
   pub effect : s ≡ step t (q .number) (q .a) (q .b) (q .c) (q .d)
   pub tested : s .answer .code ≢ 10
@@ -25,4 +27,4 @@ pub record Kept (t : Tables) (q : Asked) (s : Step) : Type 0 where
 
 -- the demand: of sound tables whose arrays have their types' lengths, and any call whose arguments are words
 abbrev pub DemandTwo : Type 0
-DemandTwo = (t : Tables) → Typed t → Sound t → (q : Asked) → Words q → Kept t q (made t q)
+DemandTwo = (t : Tables) → Typed t → Sound t → (q : Call) → Words q → Kept t q (made t q)

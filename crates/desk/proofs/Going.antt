@@ -8,8 +8,8 @@ use native.Mathlib.Nat.{zero-add}
 use native.Mathlib.Omega.{arith}
 use lib.ListN.{length, take, drop, length-take}
 use lib.Seq.{sets, sets-eq, take-all, take-add, take-append-seam, drop-length}
-use Rattle.fold.specs.Lists.{bit}
-use Rattle.fold.proofs.Laws.{lt-or-le}
+use Rattle.basics.specs.Lists.{bit}
+use Rattle.basics.proofs.Laws.{lt-or-le}
 use Rattle.rules.specs.Tables.{tables}
 use Rattle.rules.specs.Log.{readIn}
 use Rattle.rules.specs.declared.Read.{Read}
@@ -18,14 +18,14 @@ use Rattle.rules.specs.declared.Tables.{Tables}
 use Rattle.rules.proofs.Read as R
 use Rattle.text.specs.Put.{Put}
 use Rattle.text.proofs.Puts.{fits, put-none, put-more}
-use Rattle.calllog.proofs.Records.{record-fits}
-use Rattle.parts.specs.Part.{kept, Left, textBefore, waiting, versionBy, readable, partOf, begunState, begun, turn}
-use Rattle.reads.specs.declared.Ran.{Ran}
+use Rattle.call_log.proofs.Records.{record-fits}
+use Rattle.desk_parts.specs.Part.{kept, Left, textBefore, waiting, versionBy, readable, partOf, begunState, begun, turn}
+use Rattle.desk_reads.specs.declared.Ran.{Ran}
 use Rattle.desk.specs.declared.Progress.{Progress}
-use Rattle.reads.specs.Done.{ranTo, oneFor, Went}
+use Rattle.desk_reads.specs.Done.{ranTo, oneFor, Went}
 use Rattle.desk.specs.Done.{comeTo, leftOf, progressOf, behind, Gone, Turned}
-use Rattle.parts.proofs.Steps.{partAt, part-whole, part-step}
-use Rattle.parts.proofs.Bounds.{part-bounded}
+use Rattle.desk_parts.proofs.Steps.{partAt, part-whole, part-step}
+use Rattle.desk_parts.proofs.Bounds.{part-bounded}
 
 -- ---- what a turn comes to
 pub come-is : (o : ℕ) (r : Ran) (held : ℕ) {offset : ℕ} → offset ≡ kept (o + r .at)

@@ -8,7 +8,7 @@ use native.Mathlib.Nat.{zero-add}
 use native.Mathlib.Omega.{arith}
 use lib.ListN.{length, getD, take, drop, set, length-take, length-drop}
 use lib.Seq.{sets, length-sets, take-all, take-suc, getD-drop, getD-take, length-take-le}
-use Rattle.fold.proofs.Runs.{getD-sets-out, sets-snoc}
+use Rattle.basics.proofs.Runs.{getD-sets-out, sets-snoc}
 
 -- those from `at` on, of the first n of part xs
 module _ (xs : List ℕ) (at n : ℕ) where

@@ -6,9 +6,9 @@ use native.Mathlib.Omega.{arith}
 use lib.ListN.{length, length-drop}
 use Rattle.rules.specs.declared.Tables.{Tables}
 use Rattle.text.proofs.OneAnswer.{put-one-answer}
-use Rattle.parts.specs.Part.{Left}
-use Rattle.reads.specs.declared.Ran.{Ran}
-use Rattle.reads.proofs.OneAnswer.{ran-same}
+use Rattle.desk_parts.specs.Part.{Left}
+use Rattle.desk_reads.specs.declared.Ran.{Ran}
+use Rattle.desk_reads.proofs.OneAnswer.{ran-same}
 use Rattle.desk.specs.declared.Progress.{Progress}
 use Rattle.desk.specs.Done.{Gone, Turned}
 

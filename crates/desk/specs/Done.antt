@@ -6,10 +6,10 @@ use lib.ListN.{length, take, drop}
 use lib.Seq.{sets}
 use denote.Ref.{now}
 use Rattle.rules.specs.declared.Tables.{Tables}
-use Rattle.lent.specs.Lent.{Over}
+use Rattle.tables.specs.Lent.{Over}
 use Rattle.text.specs.Put.{Put}
-use Rattle.parts.specs.Part.{kept, Left}
-use Rattle.reads.specs.declared.Ran.{Ran}
+use Rattle.desk_parts.specs.Part.{kept, Left}
+use Rattle.desk_reads.specs.declared.Ran.{Ran}
 use Rattle.desk.specs.declared.Progress.{Progress}
 
 -- what a replay has come to where records of a part at an offset stopped, with so many bytes that wait

@@ -1,9 +1,9 @@
 // The replay of a log that comes part by part, as text. The calls are made on lent tables, and of the log only the bytes of a record
 // that is not whole yet are kept.
-use reads::Ran;
-use reads::begin;
-use reads::next_line;
-use reads::ran_to;
+use desk_reads::Ran;
+use desk_reads::begin;
+use desk_reads::next_line;
+use desk_reads::ran_to;
 use rules::Clocks;
 use rules::Events;
 use rules::Heap;
@@ -19,8 +19,8 @@ ghost use Prim.Native.Nat.{_+_, min};
 ghost use lib.Dec.{eqb};
 ghost use lib.ListN.{length, take, drop};
 ghost use lib.Seq.{sets};
-ghost use Rattle.lent.specs.Lent.{lent, before, leaves};
-ghost use Rattle.parts.specs.Part.{partOf, turn, start};
+ghost use Rattle.tables.specs.Lent.{lent, old, new, tablesOld, tablesNew};
+ghost use Rattle.desk_parts.specs.Part.{partOf, turn, start};
 ghost use Rattle.kernel.specs.Safe.{Safe};
 ghost use Rattle.desk.specs.Done.{comeTo, progressOf, Gone, had, came, Turns};
 
@@ -45,8 +45,9 @@ fn records(
     out: &mut Text,
 ) -> Ran
     requires { ⌜ Safe (lent tasks lines semaphores events mailboxes swis clocks heap state) ⌝ }
-    ensures { λ r. ⌜ Gone (partOf last (now (log .entry)) offset count (before tasks lines semaphores events mailboxes swis clocks heap state)) (now (log .entry)) offset (leaves tasks lines semaphores events mailboxes swis clocks heap state) (now (out .entry)) (now (out .exit)) r ⌝ }
-    ensures { λ _. ⌜ Safe (leaves tasks lines semaphores events mailboxes swis clocks heap state) ⌝ }
+    ensures { λ r. ⌜ Gone (partOf last (old log) offset count (tablesOld tasks lines semaphores events mailboxes swis clocks heap state))
+        (old log) offset (tablesNew tasks lines semaphores events mailboxes swis clocks heap state) (old out) (new out) r ⌝ }
+    ensures { λ _. ⌜ Safe (tablesNew tasks lines semaphores events mailboxes swis clocks heap state) ⌝ }
 {
     let mut ran = ran_to(0, count, 0, false);
     while !ran.ended & (last | (20 <= log.len() - ran.at)) {
@@ -71,10 +72,9 @@ fn records(
 
 // Of the first n bytes, those from `at` on to the front; how many they are.
 fn to_front(part: &mut [u8], at: usize, n: usize) -> usize
-    ensures { λ r. ⌜ (now (part .exit) ≡ sets (now (part .entry)) 0 (drop at (take n (now (part .entry)))))
-        × (r ≡ length (drop at (take n (now (part .entry))))) ⌝ }
+    ensures { λ r. ⌜ (new part ≡ sets (old part) 0 (drop at (take n (old part)))) × (r ≡ length (drop at (take n (old part)))) ⌝ }
 {
-    let end = rows::lines::least(n, part.len());
+    let end = basics::least(n, part.len());
     let mut from = at;
     let mut i = 0;
     while from < end {
@@ -125,7 +125,7 @@ pub fn begun() -> Progress
 fn end_of(held: usize, more: usize) -> usize
     ensures { λ r. ⌜ r ≡ min held 2560 + min more 2560 ⌝ }
 {
-    rows::lines::least(held, 2560) + rows::lines::least(more, 2560)
+    basics::least(held, 2560) + basics::least(more, 2560)
 }
 
 // A buffer of text has its type's length. A reference to it does not tell a proof so, the buffer by value does; nothing is done, and nothing is left
@@ -152,8 +152,10 @@ pub fn replay_part(
     out: &mut Text,
 ) -> Progress
     requires { ⌜ Safe (lent tasks lines semaphores events mailboxes swis clocks heap state) ⌝ }
-    ensures { λ r. ⌜ Turns (turn (eqb more 0) (came part p more) (had (before tasks lines semaphores events mailboxes swis clocks heap state) part out p)) (leaves tasks lines semaphores events mailboxes swis clocks heap state) part out r ⌝ }
-    ensures { λ _. ⌜ Safe (leaves tasks lines semaphores events mailboxes swis clocks heap state) ⌝ }
+    ensures { λ r. ⌜ Turns
+        (turn (eqb more 0) (came part p more) (had (tablesOld tasks lines semaphores events mailboxes swis clocks heap state) part out p))
+        (tablesNew tasks lines semaphores events mailboxes swis clocks heap state) part out r ⌝ }
+    ensures { λ _. ⌜ Safe (tablesNew tasks lines semaphores events mailboxes swis clocks heap state) ⌝ }
 {
     sized(*out);
     let n = end_of(p.held, more);

@@ -1,23 +1,36 @@
 // Who runs, and what is done after each accepted call.
+pub mod due;
+
 use rules::Lines;
 use rules::State;
 use rules::Swis;
 use rules::Thread;
+use rules::numbers::ACTIVE_LINE;
+use rules::numbers::CURRENT;
+use rules::numbers::DEPTH;
+use rules::numbers::I;
+use rules::numbers::INITIAL;
+use rules::numbers::POSTED;
+use rules::numbers::POSTED_LINES;
+use rules::numbers::S;
+use rules::numbers::T;
+use rules::numbers::TAKEN;
+use rules::numbers::TRIGGER;
 ghost use mathlib.Core.Path.{_≡_};
-ghost use Rattle.rules.specs.Swis.{posts};
 ghost use Rattle.rules.specs.Dispatch.{context, running, started, swiDispatched, taskDispatched};
+ghost use Rattle.tables.specs.Lent.{old, new, postsOld, postsNew};
 
 // The context of a call: 0 a task, 1 a Swi, 2 an interrupt.
 pub fn context(lines: &Lines, state: &State) -> u32
-    ensures { λ r. ⌜ r ≡ context (now (lines .entry)) (now (state .entry)) ⌝ }
+    ensures { λ r. ⌜ r ≡ context (old lines) (old state) ⌝ }
 {
-    if 0 < state[0] {
-        return 2;
+    if 0 < state[DEPTH] {
+        return I;
     }
-    if due::anyone(lines, 48) {
-        return 1;
+    if lines::anyone(lines, ACTIVE_LINE) {
+        return S;
     }
-    0
+    T
 }
 
 // A byte as a number.
@@ -29,58 +42,55 @@ pub fn number(x: u8) -> u32
 
 // The running thread.
 pub fn running(lines: &Lines, state: &State) -> Thread
-    ensures { λ r. ⌜ r ≡ running (now (lines .entry)) (now (state .entry)) ⌝ }
+    ensures { λ r. ⌜ r ≡ running (old lines) (old state) ⌝ }
 {
-    if 0 < state[0] {
+    if 0 < state[DEPTH] {
         return Thread::Interrupt;
     }
-    if due::anyone(lines, 48) {
-        return Thread::Swi(number(rows::readings::top(lines)));
+    if lines::anyone(lines, ACTIVE_LINE) {
+        return Thread::Swi(number(lines::top(lines)));
     }
-    Thread::Task(number(rows::answers::current(state)))
+    Thread::Task(number(rows::readings::current(state)))
 }
 
 // Swi i, posted in line j, starts: its trigger is kept as taken and set back to its initial value.
 pub fn start(swis: &mut Swis, lines: &mut Lines, i: u8, j: usize)
-    ensures { λ _. ⌜ posts (now (swis .exit)) (now (lines .exit))
-        ≡ started i j (posts (now (swis .entry)) (now (lines .entry))) ⌝ }
+    ensures { λ _. ⌜ postsNew swis lines ≡ started i j (postsOld swis lines) ⌝ }
 {
-    let n = fold::wide(i);
-    let trigger = words::swi(swis, n, 3);
-    let initial = words::swi(swis, n, 2);
-    words::set_swi(swis, n, 5, trigger);
-    words::set_swi(swis, n, 3, initial);
-    words::set_swi(swis, n, 4, 0);
-    rows::lines::leave(lines, j, i);
-    rows::lines::join(lines, 48, i);
+    let n = basics::wide(i);
+    let trigger = rows::swi(swis, n, TRIGGER);
+    let initial = rows::swi(swis, n, INITIAL);
+    rows::set_swi(swis, n, TAKEN, trigger);
+    rows::set_swi(swis, n, TRIGGER, initial);
+    rows::set_swi(swis, n, POSTED, 0);
+    lines::leave(lines, j, i);
+    lines::join(lines, ACTIVE_LINE, i);
 }
 
 // The first Swi at the highest posted priority starts, if one is due. That is tested here and not by `due::swi_due`, so that the highest
 // priority is searched for once.
 pub fn dispatch_swis(swis: &mut Swis, lines: &mut Lines, state: &State)
-    ensures { λ _. ⌜ posts (now (swis .exit)) (now (lines .exit))
-        ≡ swiDispatched (now (state .entry)) (posts (now (swis .entry)) (now (lines .entry))) ⌝ }
+    ensures { λ _. ⌜ postsNew swis lines ≡ swiDispatched (old state) (postsOld swis lines) ⌝ }
 {
-    if state[words::DEPTH] != 0 {
+    if state[DEPTH] != 0 {
         return;
     }
-    if state[words::SWIS] == 0 {
+    if state[rules::numbers::SWIS] == 0 {
         return;
     }
     let level = due::highest_posted(lines);
     if due::active_level(swis, lines) < level {
-        let j = 32 + fold::one_less(level);
-        let i = rows::lines::first(lines, j);
+        let j = POSTED_LINES + basics::one_less(level);
+        let i = lines::first(lines, j);
         start(swis, lines, i, j);
     }
 }
 
 // The current task is the front of the highest ready queue, if tasks may be switched.
 pub fn dispatch_tasks(lines: &Lines, state: &mut State)
-    ensures { λ _. ⌜ now (state .exit)
-        ≡ taskDispatched (now (lines .entry)) (now (state .entry)) ⌝ }
+    ensures { λ _. ⌜ new state ≡ taskDispatched (old lines) (old state) ⌝ }
 {
     if due::task_due(lines, state) {
-        state[4] = number(due::front(lines, state));
+        state[CURRENT] = number(due::front(lines, state));
     }
 }

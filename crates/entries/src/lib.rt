@@ -1,7 +1,7 @@
 // The entries: any tables, any number, any arguments. What they promise of a call is `Promised`, and of a list of calls `PromisedList` (demands/specs): the
 // whole answer, demand 1, and from sound tables demand 2.
-use kernel::Call;
 use kernel::Said;
+use rules::Call;
 use rules::Clocks;
 use rules::Events;
 use rules::Heap;
@@ -17,34 +17,33 @@ use rules::Thread;
 ghost use mathlib.Core.Path.{_≡_};
 ghost use Prim.Native.Nat.{_*_, _≤_};
 ghost use lib.ListN.{length};
-ghost use Rattle.rules.specs.Answer.{answer};
+ghost use Rattle.rules.specs.Answer.{answer, asked};
 ghost use Rattle.rules.specs.Fresh.{madeFresh};
 ghost use Rattle.rules.specs.Sound.{Sound, sound as isSound};
 ghost use Rattle.rules.specs.Step.{stepOf};
-ghost use Rattle.runs.specs.Run.{asked};
 ghost use Rattle.runs.specs.CallList.{callsIn, callsOf, answerWords, handed};
 ghost use Rattle.demands.specs.Lists.{PromisedList};
 ghost use Rattle.demands.specs.One.{threadOf};
 ghost use Rattle.demands.specs.Promised.{Promised};
-ghost use Rattle.lent.specs.Lent.{before, leaves};
 ghost use Rattle.kernel.specs.Safe.{Safe};
 ghost use Rattle.call_lists.specs.Made.{ListMade};
+ghost use Rattle.tables.specs.Lent.{old, new, tablesOld, tablesNew};
 
 // Fresh tables with 16 levels or 32: they are sound. No. 14: 'fresh tables asked for with other levels are 4 and come with 16'.
 pub fn fresh(levels: u32) -> Step
     ensures { λ r. ⌜ r ≡ madeFresh levels ⌝ }
     ensures { λ r. ⌜ Safe (r .tables) ⌝ }
 {
-    if (levels == rules::FEW_LEVELS) | (levels == rules::MOST_LEVELS) {
+    if (levels == rules::numbers::FEW_LEVELS) | (levels == rules::numbers::MOST_LEVELS) {
         return Step {
-            tables: rows::fresh(levels),
-            answer: rows::answers::accepted(0, 0),
+            tables: tables::fresh(levels),
+            answer: answers::accepted(rules::numbers::DONE, 0),
             thread: Thread::Task(0),
         };
     }
     Step {
-        tables: rows::fresh(rules::FEW_LEVELS),
-        answer: rows::answers::refused(4),
+        tables: tables::fresh(rules::numbers::FEW_LEVELS),
+        answer: answers::refused(4),
         thread: Thread::Task(0),
     }
 }
@@ -66,8 +65,8 @@ pub fn call_in_place(
     c: u32,
     d: u32,
 ) -> Said
-    ensures { λ r. ⌜ Promised (before tasks lines semaphores events mailboxes swis clocks heap state) (asked number a b c d)
-        (stepOf (leaves tasks lines semaphores events mailboxes swis clocks heap state) (r .answer) (r .thread)) ⌝ }
+    ensures { λ r. ⌜ Promised (tablesOld tasks lines semaphores events mailboxes swis clocks heap state) (asked number a b c d)
+        (stepOf (tablesNew tasks lines semaphores events mailboxes swis clocks heap state) (r .answer) (r .thread)) ⌝ }
 {
     tested::tested_call(
         tasks,
@@ -97,10 +96,10 @@ fn make_calls(
     calls: &[u32],
     answers: &mut [u32],
 )
-    ensures { λ _. ⌜ (Sound (before tasks lines semaphores events mailboxes swis clocks heap state)
-        → callsIn (length (now (calls .entry))) * answerWords ≤ length (now (answers .entry))
-        → ListMade (before tasks lines semaphores events mailboxes swis clocks heap state) (callsOf (now (calls .entry))) (now (answers .entry))
-        (leaves tasks lines semaphores events mailboxes swis clocks heap state) (now (answers .exit))) ⌝ }
+    ensures { λ _. ⌜ (Sound (tablesOld tasks lines semaphores events mailboxes swis clocks heap state)
+        → callsIn (length (old calls)) * answerWords ≤ length (old answers)
+        → ListMade (tablesOld tasks lines semaphores events mailboxes swis clocks heap state) (callsOf (old calls)) (old answers)
+        (tablesNew tasks lines semaphores events mailboxes swis clocks heap state) (new answers)) ⌝ }
 {
     let n = calls.len() / call_lists::CALL_WORDS;
     let mut i = 0;
@@ -127,7 +126,7 @@ fn of_list(code: u32, thread: Thread) -> Said
     ensures { λ r. ⌜ (r .answer ≡ answer code 0 0) × (r .thread ≡ thread) ⌝ }
 {
     Said {
-        answer: rows::answers::refused(code),
+        answer: answers::refused(code),
         thread,
     }
 }
@@ -147,9 +146,9 @@ fn hand_over(
     answers: &mut [u32],
     sound: bool,
 ) -> Said
-    ensures { λ r. ⌜ (sound ≡ isSound (before tasks lines semaphores events mailboxes swis clocks heap state)
-        → PromisedList (before tasks lines semaphores events mailboxes swis clocks heap state) (now (calls .entry)) (now (answers .entry))
-        (handed (leaves tasks lines semaphores events mailboxes swis clocks heap state) (now (answers .exit)) (r .answer) (r .thread))) ⌝ }
+    ensures { λ r. ⌜ (sound ≡ isSound (tablesOld tasks lines semaphores events mailboxes swis clocks heap state)
+        → PromisedList (tablesOld tasks lines semaphores events mailboxes swis clocks heap state) (old calls) (old answers)
+        (handed (tablesNew tasks lines semaphores events mailboxes swis clocks heap state) (new answers) (r .answer) (r .thread))) ⌝ }
 {
     let bad = call_lists::is_bad(calls.len(), answers.len());
     let running = dispatch::running(lines, state);
@@ -190,8 +189,8 @@ pub fn call_list(
     calls: &[u32],
     answers: &mut [u32],
 ) -> Said
-    ensures { λ r. ⌜ PromisedList (before tasks lines semaphores events mailboxes swis clocks heap state) (now (calls .entry)) (now (answers .entry))
-        (handed (leaves tasks lines semaphores events mailboxes swis clocks heap state) (now (answers .exit)) (r .answer) (r .thread)) ⌝ }
+    ensures { λ r. ⌜ PromisedList (tablesOld tasks lines semaphores events mailboxes swis clocks heap state) (old calls) (old answers)
+        (handed (tablesNew tasks lines semaphores events mailboxes swis clocks heap state) (new answers) (r .answer) (r .thread)) ⌝ }
 {
     let sound = sound::is_sound(
         tasks,
@@ -284,7 +283,7 @@ pub fn thread(
     heap: &Heap,
     state: &State,
 ) -> Thread
-    ensures { λ r. ⌜ r ≡ threadOf (before tasks lines semaphores events mailboxes swis clocks heap state) ⌝ }
+    ensures { λ r. ⌜ r ≡ threadOf (tablesOld tasks lines semaphores events mailboxes swis clocks heap state) ⌝ }
 {
     if sound::is_sound(
         tasks,

@@ -1,30 +1,33 @@
 // Calls 30 and 31. Of each: its code, 0 where it is accepted; its effect where it is; and the call.
 use super::table::free_event;
 use super::table::put_event;
-use matching::EVENT_LINES;
 use rules::Answer;
 use rules::Events;
 use rules::Lines;
-use words::USED;
+use rules::numbers::DONE;
+use rules::numbers::EVENT_LINES;
+use rules::numbers::EVENT_ROWS;
+use rules::numbers::T;
+use rules::numbers::USED;
 ghost use mathlib.Core.Path.{_≡_};
-ghost use mathlib.Core.List.{List};
-ghost use Prim.Native.Nat.{ℕ};
-ghost use Rattle.rules.specs.Answer.{after, answered, called, codeOf};
+ghost use Rattle.rules.specs.Answer.{after, answered, codeOf};
 ghost use Rattle.rules.specs.Waits.{served};
-ghost use Rattle.rules.specs.Events.{createCases, createEffect, deleteCases, deleteEffect};
+ghost use Rattle.rules.specs.Events.{createCases, createEffect, deleteCases, deleteEffect, createCall, deleteCall};
+ghost use Rattle.tables.specs.Lent.{old, new};
+ghost use Rattle.rules.specs.Tables.{TaskTable, LineTable};
 
 // ---- 30: create
 
 pub fn create_code(events: &Events, x: u32, a: u32, b: u32, c: u32, d: u32) -> u32
-    ensures { λ r. ⌜ r ≡ codeOf (createCases (now (events .entry)) x a b c d) ⌝ }
+    ensures { λ r. ⌜ r ≡ codeOf (createCases (old events) x a b c d) ⌝ }
 {
-    if x != 0 {
+    if x != T {
         return 2;
     }
-    if rows::answers::unused(a, b, c, d) {
+    if answers::unused(a, b, c, d) {
         return 4;
     }
-    if free_event(events) == 8 {
+    if free_event(events) == EVENT_ROWS {
         return 6;
     }
     0
@@ -32,19 +35,20 @@ pub fn create_code(events: &Events, x: u32, a: u32, b: u32, c: u32, d: u32) -> u
 
 // The tasks and the lines stay, whatever they are.
 pub fn create_effect(events: &mut Events) -> Answer
-    ensures { λ r. ⌜ ((ts ls : List ℕ) → after r (served ts ls (now (events .exit))) ≡ createEffect (served ts ls (now (events .entry)))) ⌝ }
+    ensures { λ r. ⌜ ((ts : TaskTable) (ls : LineTable) → after r (served ts ls (new events)) ≡ createEffect (served ts ls (old events))) ⌝ }
 {
     let i = free_event(events);
     put_event(events, i, 1, 0);
-    rows::answers::accepted(0, i as u32)
+    answers::accepted(DONE, i as u32)
 }
 
 pub fn create(events: &mut Events, x: u32, a: u32, b: u32, c: u32, d: u32) -> Answer
-    ensures { λ r. ⌜ ((ts ls : List ℕ) → after r (served ts ls (now (events .exit))) ≡ answered (served ts ls (now (events .entry))) (called (createCases (now (events .entry)) x a b c d) (createEffect (served ts ls (now (events .entry)))))) ⌝ }
+    ensures { λ r. ⌜ ((ts : TaskTable) (ls : LineTable) → after r (served ts ls (new events))
+        ≡ answered (served ts ls (old events)) (createCall (served ts ls (old events)) x a b c d)) ⌝ }
 {
     let code = create_code(events, x, a, b, c, d);
     if code != 0 {
-        return rows::answers::refused(code);
+        return answers::refused(code);
     }
     create_effect(events)
 }
@@ -52,19 +56,19 @@ pub fn create(events: &mut Events, x: u32, a: u32, b: u32, c: u32, d: u32) -> An
 // ---- 31: delete
 
 pub fn delete_code(lines: &Lines, events: &Events, x: u32, a: u32, b: u32, c: u32, d: u32) -> u32
-    ensures { λ r. ⌜ r ≡ codeOf (deleteCases (now (lines .entry)) (now (events .entry)) x a b c d) ⌝ }
+    ensures { λ r. ⌜ r ≡ codeOf (deleteCases (old lines) (old events) x a b c d) ⌝ }
 {
-    if x != 0 {
+    if x != T {
         return 2;
     }
     let i = a as usize;
-    if words::event(events, i, USED) == 0 {
-        return rows::answers::absent_code(a, rules::EVENT_COUNT);
+    if rows::event(events, i, USED) == 0 {
+        return answers::absent_code(a, rules::numbers::EVENT_COUNT);
     }
-    if rows::answers::unused(0, b, c, d) {
+    if answers::unused(0, b, c, d) {
         return 4;
     }
-    if 0 < rows::lines::len(lines, EVENT_LINES + i) {
+    if 0 < lines::len(lines, EVENT_LINES + i) {
         return 5;
     }
     0
@@ -72,18 +76,19 @@ pub fn delete_code(lines: &Lines, events: &Events, x: u32, a: u32, b: u32, c: u3
 
 // The row is all 0.
 pub fn delete_effect(events: &mut Events, a: u32) -> Answer
-    ensures { λ r. ⌜ ((ts ls : List ℕ) → after r (served ts ls (now (events .exit))) ≡ deleteEffect (served ts ls (now (events .entry))) a) ⌝ }
+    ensures { λ r. ⌜ ((ts : TaskTable) (ls : LineTable) → after r (served ts ls (new events)) ≡ deleteEffect (served ts ls (old events)) a) ⌝ }
 {
     put_event(events, a as usize, 0, 0);
-    rows::answers::accepted(0, 0)
+    answers::accepted(DONE, 0)
 }
 
 pub fn delete(lines: &Lines, events: &mut Events, x: u32, a: u32, b: u32, c: u32, d: u32) -> Answer
-    ensures { λ r. ⌜ ((ts : List ℕ) → after r (served ts (now (lines .entry)) (now (events .exit))) ≡ answered (served ts (now (lines .entry)) (now (events .entry))) (called (deleteCases (now (lines .entry)) (now (events .entry)) x a b c d) (deleteEffect (served ts (now (lines .entry)) (now (events .entry))) a))) ⌝ }
+    ensures { λ r. ⌜ ((ts : TaskTable) → after r (served ts (old lines) (new events))
+        ≡ answered (served ts (old lines) (old events)) (deleteCall (served ts (old lines) (old events)) x a b c d)) ⌝ }
 {
     let code = delete_code(lines, events, x, a, b, c, d);
     if code != 0 {
-        return rows::answers::refused(code);
+        return answers::refused(code);
     }
     delete_effect(events, a)
 }

@@ -1,5 +1,7 @@
 // The calls on events, 30 to 33.
 pub mod calls;
+pub mod pends;
+pub mod posts;
 pub mod table;
 
 use rules::Answer;
@@ -9,8 +11,8 @@ use rules::State;
 use rules::Tasks;
 ghost use mathlib.Core.Path.{_≡_};
 ghost use Rattle.rules.specs.Answer.{after, answered};
-ghost use Rattle.rules.specs.Waits.{served};
 ghost use Rattle.rules.specs.Events.{eventCall};
+ghost use Rattle.tables.specs.Lent.{old, servedOld, servedNew};
 
 // The call of this number, made by x: 0 a task, 1 a Swi, 2 an interrupt.
 pub fn event_call(
@@ -25,13 +27,14 @@ pub fn event_call(
     c: u32,
     d: u32,
 ) -> Answer
-    ensures { λ r. ⌜ after r (served (now (tasks .exit)) (now (lines .exit)) (now (events .exit))) ≡ answered (served (now (tasks .entry)) (now (lines .entry)) (now (events .entry))) (eventCall (served (now (tasks .entry)) (now (lines .entry)) (now (events .entry))) (now (state .entry)) x number a b c d) ⌝ }
+    ensures { λ r. ⌜ after r (servedNew tasks lines events)
+        ≡ answered (servedOld tasks lines events) (eventCall (servedOld tasks lines events) (old state) x number a b c d) ⌝ }
 {
     match number {
         0x30 => calls::create(events, x, a, b, c, d),
         0x31 => calls::delete(lines, events, x, a, b, c, d),
-        0x32 => matching::pend(tasks, lines, events, state, x, a, b, c, d),
-        0x33 => matching::post(tasks, lines, events, a, b, c, d),
-        _ => rows::answers::refused(1),
+        0x32 => pends::pend(tasks, lines, events, state, x, a, b, c, d),
+        0x33 => posts::post(tasks, lines, events, a, b, c, d),
+        _ => answers::refused(1),
     }
 }

@@ -1,6 +1,9 @@
 // The call core on lent tables: one call, dispatch after an accepted one, and the thread that runs then. Sound tables stay sound. Whoever does not know
 // that his tables are sound makes calls by an entry, which tests them.
+pub mod ranges;
+
 use rules::Answer;
+use rules::Call;
 use rules::Clocks;
 use rules::Events;
 use rules::Heap;
@@ -14,19 +17,10 @@ use rules::Thread;
 ghost use mathlib.Core.Path.{_≡_};
 ghost use Rattle.rules.specs.Sound.{Sound};
 ghost use Rattle.rules.specs.Step.{stepOf};
-ghost use Rattle.lent.specs.Lent.{before, leaves};
-ghost use Rattle.keeps.proofs.Groups.{Words};
 ghost use Rattle.kernel.specs.Quick.{quickStep};
 ghost use Rattle.kernel.specs.Safe.{Stepped};
-
-// A call: its number and its four arguments.
-pub struct Call {
-    pub number: u32,
-    pub a: u32,
-    pub b: u32,
-    pub c: u32,
-    pub d: u32,
-}
+ghost use Rattle.rules.specs.Answer.{Words};
+ghost use Rattle.tables.specs.Lent.{tablesOld, tablesNew};
 
 // What a call on lent tables answers: the tables are in place.
 pub struct Said {
@@ -34,9 +28,9 @@ pub struct Said {
     pub thread: Thread,
 }
 
-// A call's arguments are 32-bit words: a parameter's type tells a proof so, and a struct's field does not.
-fn words(a: u32, b: u32, c: u32, d: u32)
-    ensures { λ _. ⌜ Words a b c d ⌝ }
+// A call's arguments are 32-bit words, by their types.
+fn words(asked: Call)
+    ensures { λ _. ⌜ Words asked ⌝ }
 {}
 
 // One call in place, with no test of the tables. On sound ones it is 01's step, and keeps them sound.
@@ -52,14 +46,14 @@ pub fn step(
     state: &mut State,
     asked: Call,
 ) -> Said
-    ensures { λ r. ⌜ stepOf (leaves tasks lines semaphores events mailboxes swis clocks heap state) (r .answer) (r .thread)
-        ≡ quickStep (before tasks lines semaphores events mailboxes swis clocks heap state) (asked .number) (asked .a) (asked .b) (asked .c) (asked .d) ⌝ }
-    ensures { λ r. ⌜ (Sound (before tasks lines semaphores events mailboxes swis clocks heap state)
-        → Stepped (before tasks lines semaphores events mailboxes swis clocks heap state) (asked .number) (asked .a) (asked .b) (asked .c) (asked .d)
-        (stepOf (leaves tasks lines semaphores events mailboxes swis clocks heap state) (r .answer) (r .thread))) ⌝ }
+    ensures { λ r. ⌜ stepOf (tablesNew tasks lines semaphores events mailboxes swis clocks heap state) (r .answer) (r .thread)
+        ≡ quickStep (tablesOld tasks lines semaphores events mailboxes swis clocks heap state) asked ⌝ }
+    ensures { λ r. ⌜ (Sound (tablesOld tasks lines semaphores events mailboxes swis clocks heap state)
+        → Stepped (tablesOld tasks lines semaphores events mailboxes swis clocks heap state) asked
+        (stepOf (tablesNew tasks lines semaphores events mailboxes swis clocks heap state) (r .answer) (r .thread))) ⌝ }
 {
-    words(asked.a, asked.b, asked.c, asked.d);
-    lent::typed(
+    words(asked);
+    tables::typed(
         *tasks,
         *lines,
         *semaphores,
@@ -86,8 +80,8 @@ pub fn step(
         asked.c,
         asked.d,
     );
-    let said = rows::answers::named(asked.number, answer);
-    settling::settle(asked.number, answer, swis, lines, state);
+    let said = answers::named(asked.number, answer);
+    dispatch_after::settle(asked.number, answer, swis, lines, state);
     let thread = dispatch::running(lines, state);
     Said {
         answer: said,

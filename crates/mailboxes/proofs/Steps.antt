@@ -9,7 +9,7 @@ use lib.Dec.{eqb, ltb, leb}
 use Rattle.rules.specs.Answer.{unknown}
 use Rattle.rules.specs.Waits.{Served}
 use Rattle.rules.specs.Mailboxes.{mailboxCall}
-use Rattle.laws.proofs.Rows.{by-range}
+use Rattle.rules_laws.proofs.Rows.{by-range}
 
 -- ---- tests
 above : (a n : ℕ) → ltb n a ≡ not (leb a n)

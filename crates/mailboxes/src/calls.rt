@@ -1,45 +1,36 @@
 // Calls 40 and 41. Of each: its code, 0 where it is accepted; its effect where it is; and the call.
-use messages::put_mailbox;
-use messages::tests::anyone;
+use super::table::free_mailbox;
+use super::table::put_mailbox;
+use super::waiters::anyone;
 use rules::Answer;
 use rules::Lines;
 use rules::Mailboxes;
-use words::CAPACITY;
-use words::MESSAGES;
+use rules::numbers::CAPACITY;
+use rules::numbers::DONE;
+use rules::numbers::MAILBOX_MOST;
+use rules::numbers::MAILBOX_ROWS;
+use rules::numbers::MESSAGES;
+use rules::numbers::T;
 ghost use mathlib.Core.Path.{_≡_};
-ghost use mathlib.Core.List.{List};
-ghost use Prim.Native.Nat.{ℕ, _≤_};
-ghost use Rattle.rules.specs.Answer.{after, answered, called, codeOf};
+ghost use Rattle.rules.specs.Answer.{after, answered, codeOf};
 ghost use Rattle.rules.specs.Waits.{served};
-ghost use Rattle.rules.specs.Mailboxes.{freeMailbox, createCases, createEffect, deleteCases, deleteEffect};
-
-// The lowest number of a mailbox not in use; 8 where all are in use.
-pub fn free_mailbox(mailboxes: &Mailboxes) -> usize
-    ensures { λ r. ⌜ (r ≡ freeMailbox (now (mailboxes .entry))) × (r ≤ 8) ⌝ }
-{
-    let mut i = 0;
-    while i < 8 {
-        if words::mailbox(mailboxes, i, CAPACITY) == 0 {
-            return i;
-        }
-        i += 1;
-    }
-    8
-}
+ghost use Rattle.rules.specs.Mailboxes.{createCases, createEffect, deleteCases, deleteEffect, createCall, deleteCall};
+ghost use Rattle.tables.specs.Lent.{old, new};
+ghost use Rattle.rules.specs.Tables.{TaskTable, LineTable};
 
 // ---- 40 create (capacity; T): value its number
 
 // The code of call 40.
 pub fn create_code(mailboxes: &Mailboxes, x: u32, a: u32, b: u32, c: u32, d: u32) -> u32
-    ensures { λ r. ⌜ r ≡ codeOf (createCases (now (mailboxes .entry)) x a b c d) ⌝ }
+    ensures { λ r. ⌜ r ≡ codeOf (createCases (old mailboxes) x a b c d) ⌝ }
 {
-    if x != 0 {
+    if x != T {
         return 2;
     }
-    if (a == 0) | (8 < a) | rows::answers::unused(0, b, c, d) {
+    if (a == 0) | (MAILBOX_MOST < a) | answers::unused(0, b, c, d) {
         return 4;
     }
-    if free_mailbox(mailboxes) == 8 {
+    if free_mailbox(mailboxes) == MAILBOX_ROWS {
         return 6;
     }
     0
@@ -47,20 +38,21 @@ pub fn create_code(mailboxes: &Mailboxes, x: u32, a: u32, b: u32, c: u32, d: u32
 
 // The lowest mailbox not in use has this capacity, and no messages.
 pub fn create_effect(mailboxes: &mut Mailboxes, a: u32) -> Answer
-    ensures { λ r. ⌜ ((ts ls : List ℕ) → after r (served ts ls (now (mailboxes .exit))) ≡ createEffect (served ts ls (now (mailboxes .entry))) a) ⌝ }
+    ensures { λ r. ⌜ ((ts : TaskTable) (ls : LineTable) → after r (served ts ls (new mailboxes)) ≡ createEffect (served ts ls (old mailboxes)) a) ⌝ }
 {
     let i = free_mailbox(mailboxes);
     put_mailbox(mailboxes, i, a);
-    rows::answers::accepted(0, i as u32)
+    answers::accepted(DONE, i as u32)
 }
 
 // Call 40.
 pub fn create(mailboxes: &mut Mailboxes, x: u32, a: u32, b: u32, c: u32, d: u32) -> Answer
-    ensures { λ r. ⌜ ((ts ls : List ℕ) → after r (served ts ls (now (mailboxes .exit))) ≡ answered (served ts ls (now (mailboxes .entry))) (called (createCases (now (mailboxes .entry)) x a b c d) (createEffect (served ts ls (now (mailboxes .entry))) a))) ⌝ }
+    ensures { λ r. ⌜ ((ts : TaskTable) (ls : LineTable) → after r (served ts ls (new mailboxes))
+        ≡ answered (served ts ls (old mailboxes)) (createCall (served ts ls (old mailboxes)) x a b c d)) ⌝ }
 {
     let code = create_code(mailboxes, x, a, b, c, d);
     if code != 0 {
-        return rows::answers::refused(code);
+        return answers::refused(code);
     }
     create_effect(mailboxes, a)
 }
@@ -77,18 +69,18 @@ pub fn delete_code(
     c: u32,
     d: u32,
 ) -> u32
-    ensures { λ r. ⌜ r ≡ codeOf (deleteCases (now (lines .entry)) (now (mailboxes .entry)) x a b c d) ⌝ }
+    ensures { λ r. ⌜ r ≡ codeOf (deleteCases (old lines) (old mailboxes) x a b c d) ⌝ }
 {
-    if x != 0 {
+    if x != T {
         return 2;
     }
-    if words::mailbox(mailboxes, a as usize, CAPACITY) == 0 {
-        return rows::answers::absent_code(a, rules::MAILBOX_COUNT);
+    if rows::mailbox(mailboxes, a as usize, CAPACITY) == 0 {
+        return answers::absent_code(a, rules::numbers::MAILBOX_COUNT);
     }
-    if rows::answers::unused(0, b, c, d) {
+    if answers::unused(0, b, c, d) {
         return 4;
     }
-    let n = words::mailbox(mailboxes, a as usize, MESSAGES);
+    let n = rows::mailbox(mailboxes, a as usize, MESSAGES);
     if anyone(lines, a) | (n != 0) {
         return 5;
     }
@@ -97,10 +89,10 @@ pub fn delete_code(
 
 // The mailbox's row is all 0.
 pub fn delete_effect(mailboxes: &mut Mailboxes, a: u32) -> Answer
-    ensures { λ r. ⌜ ((ts ls : List ℕ) → after r (served ts ls (now (mailboxes .exit))) ≡ deleteEffect (served ts ls (now (mailboxes .entry))) a) ⌝ }
+    ensures { λ r. ⌜ ((ts : TaskTable) (ls : LineTable) → after r (served ts ls (new mailboxes)) ≡ deleteEffect (served ts ls (old mailboxes)) a) ⌝ }
 {
     put_mailbox(mailboxes, a as usize, 0);
-    rows::answers::accepted(0, 0)
+    answers::accepted(DONE, 0)
 }
 
 // Call 41.
@@ -113,11 +105,12 @@ pub fn delete(
     c: u32,
     d: u32,
 ) -> Answer
-    ensures { λ r. ⌜ ((ts : List ℕ) → after r (served ts (now (lines .entry)) (now (mailboxes .exit))) ≡ answered (served ts (now (lines .entry)) (now (mailboxes .entry))) (called (deleteCases (now (lines .entry)) (now (mailboxes .entry)) x a b c d) (deleteEffect (served ts (now (lines .entry)) (now (mailboxes .entry))) a))) ⌝ }
+    ensures { λ r. ⌜ ((ts : TaskTable) → after r (served ts (old lines) (new mailboxes))
+        ≡ answered (served ts (old lines) (old mailboxes)) (deleteCall (served ts (old lines) (old mailboxes)) x a b c d)) ⌝ }
 {
     let code = delete_code(lines, mailboxes, x, a, b, c, d);
     if code != 0 {
-        return rows::answers::refused(code);
+        return answers::refused(code);
     }
     delete_effect(mailboxes, a)
 }

@@ -1,5 +1,10 @@
 // The mailbox calls, 40 to 43.
 pub mod calls;
+pub mod messages;
+pub mod pends;
+pub mod posts;
+pub mod table;
+pub mod waiters;
 
 use rules::Answer;
 use rules::Lines;
@@ -8,8 +13,8 @@ use rules::State;
 use rules::Tasks;
 ghost use mathlib.Core.Path.{_≡_};
 ghost use Rattle.rules.specs.Answer.{after, answered};
-ghost use Rattle.rules.specs.Waits.{served};
 ghost use Rattle.rules.specs.Mailboxes.{mailboxCall};
+ghost use Rattle.tables.specs.Lent.{old, servedOld, servedNew};
 
 // The call of this number, made by x: 0 a task, 1 a Swi, 2 an interrupt.
 pub fn mailbox_call(
@@ -24,13 +29,14 @@ pub fn mailbox_call(
     c: u32,
     d: u32,
 ) -> Answer
-    ensures { λ r. ⌜ after r (served (now (tasks .exit)) (now (lines .exit)) (now (mailboxes .exit))) ≡ answered (served (now (tasks .entry)) (now (lines .entry)) (now (mailboxes .entry))) (mailboxCall (served (now (tasks .entry)) (now (lines .entry)) (now (mailboxes .entry))) (now (state .entry)) x number a b c d) ⌝ }
+    ensures { λ r. ⌜ after r (servedNew tasks lines mailboxes)
+        ≡ answered (servedOld tasks lines mailboxes) (mailboxCall (servedOld tasks lines mailboxes) (old state) x number a b c d) ⌝ }
 {
     match number {
         0x40 => calls::create(mailboxes, x, a, b, c, d),
         0x41 => calls::delete(lines, mailboxes, x, a, b, c, d),
-        0x42 => passing::post(tasks, lines, mailboxes, state, x, a, b, c, d),
-        0x43 => passing::pend(tasks, lines, mailboxes, state, x, a, b, c, d),
-        _ => rows::answers::refused(1),
+        0x42 => posts::post(tasks, lines, mailboxes, state, x, a, b, c, d),
+        0x43 => pends::pend(tasks, lines, mailboxes, state, x, a, b, c, d),
+        _ => answers::refused(1),
     }
 }

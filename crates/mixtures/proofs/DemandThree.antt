@@ -7,7 +7,7 @@ use Rattle.rules.specs.Lines.{line, semaphoreLine}
 use Rattle.rules.specs.Sound.{Sound}
 use Rattle.rules.specs.declared.Answer.{Answer}
 use Rattle.rules.specs.declared.Tables.{Tables}
-use Rattle.runs.specs.Run.{Asked, Words, ByType, made, next, after, Each, AllWords}
+use Rattle.runs.specs.Run.{ByType, made, next, after, Each, AllWords}
 use Rattle.runs.specs.Turn.{posts}
 use Rattle.demands.specs.Three.{ArrivalOrder, Turn, pend}
 use Rattle.demands.proofs.Three.{demand-3}
@@ -18,14 +18,16 @@ use Rattle.mixtures.specs.Mixtures.{Piece, Mixture, tablesAfter, callsMa
 use Rattle.mixtures.specs.Shown.{asks, Begins, TurnSince, DemandThreeMixed}
 use Rattle.mixtures.proofs.Appended.{after-append, each-split, each-of, asks-history}
 use Rattle.mixtures.proofs.Mixtures.{mixtures-are-calls}
+use Rattle.rules.specs.Answer.{Words}
+use Rattle.rules.specs.declared.Call.{Call}
 
 -- ---- a place in a history: what was asked before it, its answer, and the history since
-pub record PlaceIn (t : Tables) (qs : List Asked) (before : List CallAndAnswer) (e : CallAndAnswer) (since : List CallAndAnswer) : Type 0 where
+pub record PlaceIn (t : Tables) (qs : List Call) (before : List CallAndAnswer) (e : CallAndAnswer) (since : List CallAndAnswer) : Type 0 where
   pub calls : qs ≡ asks before ++ (e .asked ∷ asks since)
   pub answer : e .answer ≡ made (after t (asks before)) (e .asked) .answer
   pub since-is : since ≡ history (next (after t (asks before)) (e .asked)) (asks since)
 
-pub place-in : (before : List CallAndAnswer) (t : Tables) (qs : List Asked) (e : CallAndAnswer) (since : List CallAndAnswer)
+pub place-in : (before : List CallAndAnswer) (t : Tables) (qs : List Call) (e : CallAndAnswer) (since : List CallAndAnswer)
     → history t qs ≡ before ++ (e ∷ since) → PlaceIn t qs before e since
 unfolding history asks after
 place-in before t [] e since same = absurd (append-ne-nil-of-right-ne-nil before cons≢nil (sym same))
@@ -35,7 +37,7 @@ place-in [] t (q ∷ qs) e since same =
     let all : asks (history (next t q) qs) ≡ qs = asks-history (next t q) qs in
     rw (← first, ← rest)
     record {
-      calls = ap (λ (l : List Asked). q ∷ l) (sym all);
+      calls = ap (λ (l : List Call). q ∷ l) (sym all);
       answer = refl;
       since-is = ap (history (next t q)) (sym all);
     }
@@ -44,7 +46,7 @@ place-in (b ∷ before) t (q ∷ qs) e since same =
     let later = place-in before (next t q) qs e since (tail-eq-of-cons-eq same) in
     rw (← first)
     record {
-      calls = ap (λ (l : List Asked). q ∷ l) (later .calls);
+      calls = ap (λ (l : List Call). q ∷ l) (later .calls);
       answer = later .answer;
       since-is = later .since-is;
     }
@@ -61,7 +63,7 @@ module _ (t : Tables) (sound : Sound t) (ps : List Piece) (m : Mixture t ps) (s 
 
   types : Each ByType t (asks (b .before)) × Each ByType v (pend s ∷ asks (b .since))
   types =
-      each-split ByType t (asks (b .before)) (pend s ∷ asks (b .since)) (subst (λ (qs : List Asked). Each ByType t qs) (place .calls) (mixtures-are-calls t sound ps m .types))
+      each-split ByType t (asks (b .before)) (pend s ∷ asks (b .since)) (subst (λ (qs : List Call). Each ByType t qs) (place .calls) (mixtures-are-calls t sound ps m .types))
 
   begins : ByType v (pend s)
   unfolding Each

@@ -18,7 +18,7 @@ use Rattle.rules.specs.declared.Thread.the-variants.{Task}
 use Rattle.runs.specs.Run.{ByType, made, after, Each}
 use Rattle.runs.specs.CallList.{answersTo, Handed, nothingDone}
 use Rattle.runs.proofs.CallList.{unsound-left}
-use Rattle.refusals.proofs.First.{by-bool}
+use Rattle.demand_1_refusals.proofs.First.{by-bool}
 use Rattle.demands.specs.One.{Answered, threadOf}
 use Rattle.demands.specs.Promised.{Promised}
 use Rattle.demands.specs.Sequence.{Entered}

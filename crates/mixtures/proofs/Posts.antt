@@ -7,7 +7,7 @@ use Rattle.rules.specs.Fresh.{madeFresh}
 use Rattle.rules.specs.Sound.{Sound}
 use Rattle.rules.specs.declared.Answer.{Answer}
 use Rattle.rules.specs.declared.Tables.{Tables}
-use Rattle.runs.specs.Run.{Asked, Words, ByType, made, next, after, Each, AllWords}
+use Rattle.runs.specs.Run.{ByType, made, next, after, Each, AllWords}
 use Rattle.demands.proofs.Two.{made-fresh-safe}
 use Rattle.demands.proofs.Lists.{kept-along}
 use Rattle.woken_task.specs.WokenTask.{Post, Tells, ValueTells, OfAllThree, semaphorePost, eventPost, mailboxPost}
@@ -19,6 +19,8 @@ use Rattle.mixtures.specs.Shown.{asks, MixedTells, NoPostLostMixed, NoPo
 use Rattle.mixtures.proofs.Appended.{each-split, each-of}
 use Rattle.mixtures.proofs.DemandThree.{place-in}
 use Rattle.mixtures.proofs.Mixtures.{mixtures-are-calls}
+use Rattle.rules.specs.Answer.{Words}
+use Rattle.rules.specs.declared.Call.{Call}
 
 -- ---- No. 8
 -- a call of the history was made on sound tables, and what the caller has of it is its answer there
@@ -28,7 +30,7 @@ mixed-tells p tells t sound ps m before e since split number code =
     let a = mixtures-are-calls t sound ps m in
     let place = place-in before t (callsMade ps) e since (sym (a .history) ∙ split) in
     let (first, here) =
-    each-split ByType t (asks before) (e .asked ∷ asks since) (subst (λ (qs : List Asked). Each ByType t qs) (place .calls) (a .types)) in
+    each-split ByType t (asks before) (e .asked ∷ asks since) (subst (λ (qs : List Call). Each ByType t qs) (place .calls) (a .types)) in
     let u : Tables = after t (asks before) in
     let accepted : made u (e .asked) .answer .code ≡ 0 = ap (λ (r : Answer). r .code) (sym (place .answer)) ∙ code in
     subst (λ (r : Answer). Tells p u (e .asked) r (next u (e .asked))) (sym (place .answer))
@@ -51,7 +53,7 @@ module _ (t : Tables) (sound : Sound t) (ps : List Piece) (m : Mixture t ps) whe
   told P p = let a = mixtures-are-calls t sound ps m in rw (a .history, a .tables) p
 
 -- the first call tells that the arrays have their types' lengths; without one there is no history
-typed-first : (t : Tables) (qs : List Asked) → Each ByType t qs → (s : ℕ) → LastSet s (history t qs) → Typed t
+typed-first : (t : Tables) (qs : List Call) → Each ByType t qs → (s : ℕ) → LastSet s (history t qs) → Typed t
 unfolding Each history
 typed-first t [] types s x = absurd (append-ne-nil-of-right-ne-nil (x .before) cons≢nil (sym (x .split)))
 typed-first t (q ∷ qs) types s x = types .0 .0

@@ -8,13 +8,13 @@ use lib.ListN.{length}
 use Rattle.rules.specs.declared.Answer.{Answer}
 use Rattle.rules.specs.declared.Tables.{Tables}
 use Rattle.rules.specs.declared.Thread.{Thread}
-use Rattle.runs.specs.Run.{Asked}
 use Rattle.runs.specs.CallList as CallList
 use Rattle.runs.specs.CallList.{callsOf, Handed}
 use Rattle.demands.specs.Promised.{Promised}
 use Rattle.demands.specs.Sequence.{Entered}
 use Rattle.demands.specs.Lists.{PromisedList}
 use Rattle.no_post_lost.specs.NoPostLost.{CallAndAnswer}
+use Rattle.rules.specs.declared.Call.{Call}
 
 -- a list that was handed over: its words, the room for answers as it was before, and what it left
 pub record HandedList : Type 0 where
@@ -65,7 +65,7 @@ codesOf (p ∷ ps) = codeOfPiece p ∷ codesOf ps
 abbrev pub ifAccepted : {A : Type 0} → HandedList → List A → List A
 ifAccepted l xs = if (eqb (l .left .answer .code) 0) xs []
 
-abbrev pub callsOfPiece : Piece → List Asked
+abbrev pub callsOfPiece : Piece → List Call
 callsOfPiece (single e) = e .call ∷ []
 callsOfPiece (list l) = ifAccepted l (callsOf (l .words))
 
@@ -74,7 +74,7 @@ abbrev pub answersOfPiece : Piece → List Answer
 answersOfPiece (single e) = e .left .answer ∷ []
 answersOfPiece (list l) = ifAccepted l (CallList.answersIn (length (callsOf (l .words))) (l .left .answers))
 
-unfoldable pub callsMade : List Piece → List Asked
+unfoldable pub callsMade : List Piece → List Call
 callsMade [] = []
 callsMade (p ∷ ps) = callsOfPiece p ++ callsMade ps
 
@@ -83,7 +83,7 @@ answersHad [] = []
 answersHad (p ∷ ps) = answersOfPiece p ++ answersHad ps
 
 -- ---- "the history of calls and answers" of request No. 12: each call with its answer. "counts each call of a list as one call"
-unfoldable pub paired : List Asked → List Answer → List CallAndAnswer
+unfoldable pub paired : List Call → List Answer → List CallAndAnswer
 paired [] rs = []
 paired (q ∷ qs) [] = []
 paired (q ∷ qs) (r ∷ rs) = record { asked = q; answer = r } ∷ paired qs rs

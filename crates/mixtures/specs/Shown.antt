@@ -12,7 +12,7 @@ use Rattle.rules.specs.Lines.{line, semaphoreLine}
 use Rattle.rules.specs.Sound.{Sound}
 use Rattle.rules.specs.declared.Answer.{Answer}
 use Rattle.rules.specs.declared.Tables.{Tables}
-use Rattle.runs.specs.Run.{Asked, ByType, made, next, after, Each, Always, AllWords}
+use Rattle.runs.specs.Run.{ByType, made, next, after, Each, Always, AllWords}
 use Rattle.runs.specs.CallList.{answersTo}
 use Rattle.runs.specs.Turn.{BlockedOn, beforeAt, ServedIn}
 use Rattle.demands.specs.One.{Answered, threadOf}
@@ -21,6 +21,7 @@ use Rattle.demands.specs.Three.{ArrivalOrder, Turn, pend}
 use Rattle.woken_task.specs.WokenTask.{Post, Tells}
 use Rattle.no_post_lost.specs.NoPostLost.{CallAndAnswer, history, howMany, isPost, LastSet, Counting, Balanced}
 use Rattle.mixtures.specs.Mixtures.{Piece, Mixture, tablesAfter, threadAfter, codesOf, callsMade, answersHad, historyOf}
+use Rattle.rules.specs.declared.Call.{Call}
 
 -- ---- a mixture is its calls one after the other
 pub record AsMade (t : Tables) (ps : List Piece) : Type 0 where
@@ -49,7 +50,7 @@ CutAsYouLike = (t : Tables) → Sound t → (ps rs : List Piece) → Mixture t p
 
 -- ---- demand 3. "Demand 3 counts each call of a list as one call."
 -- the calls of a history
-unfoldable pub asks : List CallAndAnswer → List Asked
+unfoldable pub asks : List CallAndAnswer → List Call
 asks [] = []
 asks (e ∷ es) = e .asked ∷ asks es
 

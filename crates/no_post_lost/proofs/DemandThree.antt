@@ -5,9 +5,10 @@ use mathlib.Core.Bool.{Bool, true, false, _&&_}
 use mathlib.Core.List.{List, [], _∷_}
 use lib.Dec.{eqb}
 use Rattle.rules.specs.declared.Tables.{Tables}
-use Rattle.runs.specs.Run.{Asked, made, next}
+use Rattle.runs.specs.Run.{made, next}
 use Rattle.runs.specs.Turn as Turn
 use Rattle.no_post_lost.specs.NoPostLost.{history, howMany, isPost}
+use Rattle.rules.specs.declared.Call.{Call}
 
 other-order : (a b c : Bool) → a && b && c ≡ a && c && b
 other-order true true true = refl
@@ -16,7 +17,7 @@ other-order true false true = refl
 other-order true false false = refl
 other-order false b c = refl
 
-pub posts-of-demand-3 : (s : ℕ) (t : Tables) (qs : List Asked) → howMany (isPost s) (history t qs) ≡ Turn.posts s t qs
+pub posts-of-demand-3 : (s : ℕ) (t : Tables) (qs : List Call) → howMany (isPost s) (history t qs) ≡ Turn.posts s t qs
 unfolding history howMany Turn.posts
 posts-of-demand-3 s t [] = refl
 posts-of-demand-3 s t (q ∷ qs) =

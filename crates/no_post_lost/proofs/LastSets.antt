@@ -5,7 +5,7 @@ use mathlib.Core.Logic.{_≢_, _⊎_, inl, inr, ⊎-elim}
 use mathlib.Core.Bool.{true}
 use mathlib.Core.List.{List, [], _∷_, _++_, head-eq-of-cons-eq, tail-eq-of-cons-eq}
 use native.Mathlib.Omega.{arith}
-use Rattle.refusals.proofs.First.{by-bool}
+use Rattle.demand_1_refusals.proofs.First.{by-bool}
 use Rattle.no_post_lost.specs.NoPostLost.{CallAndAnswer, howMany, setsCount, LastSet}
 
 pub last-or-none : (s : ℕ) (h : List CallAndAnswer) → LastSet s h ⊎ (howMany (setsCount s) h ≡ 0)

@@ -6,24 +6,25 @@ use mathlib.Core.Logic.{⊎-elim}
 use mathlib.Core.Bool.{Bool, true, false}
 use mathlib.Core.List.{List, [], _∷_, _++_, nil≢cons, head-eq-of-cons-eq, tail-eq-of-cons-eq}
 use native.Mathlib.Omega.{arith}
-use Rattle.fold.specs.Lists.{bit, zeros}
+use Rattle.basics.specs.Lists.{bit, zeros}
 use Rattle.rules.specs.Tables.{Typed, semaphoreWidth, semaphoreCount, semaphore, USED}
 use Rattle.rules.specs.Fresh.{freshWith, isLevels, madeFresh}
 use Rattle.rules.specs.Sound.{Sound}
 use Rattle.rules.specs.declared.Tables.{Tables}
 use Rattle.rules.specs.declared.Step.{Step}
-use Rattle.laws.proofs.Calls.{chosen}
-use Rattle.runs.specs.Run.{Asked, next, after, Each, AllWords}
-use Rattle.laws.proofs.Rows.{field-in, field-out, by-range}
-use Rattle.laws.proofs.Listed.{zero-at}
-use Rattle.turns.proofs.Made.{next-typed, next-sound}
+use Rattle.rules_laws.proofs.Calls.{chosen}
+use Rattle.runs.specs.Run.{next, after, Each, AllWords}
+use Rattle.rules_laws.proofs.Rows.{field-in, field-out, by-range}
+use Rattle.rules_laws.proofs.Listed.{zero-at}
+use Rattle.demand_3_turns.proofs.Made.{next-typed, next-sound}
 use Rattle.demands.proofs.Two.{made-fresh-safe}
 use Rattle.no_post_lost.specs.NoPostLost.{CallAndAnswer, history, howMany, setsCount, isPost, takesUnit, Counting, NoPostLost, NoPostLostFromFresh}
 use Rattle.no_post_lost.proofs.LastSets.{last-or-none}
 use Rattle.no_post_lost.proofs.OneCall.{countNow, answered, one-call, count-set}
+use Rattle.rules.specs.declared.Call.{Call}
 
 -- ---- calls of which none sets the count of s: it was a counting semaphore before them, and the sum is kept
-pub record Lasts (t : Tables) (s : ℕ) (qs : List Asked) : Type 0 where
+pub record Lasts (t : Tables) (s : ℕ) (qs : List Call) : Type 0 where
   pub before : Counting s t
   pub even : countNow s t + howMany (isPost s) (history t qs) ≡ countNow s (after t qs) + howMany (takesUnit s) (history t qs)
 
@@ -32,7 +33,7 @@ none-first : (b : Bool) (n : ℕ) → bit b + n ≡ 0 → (b ≡ false) × (n �
 none-first true n z = absurd (omega arith)
 none-first false n z = (refl, omega (arith, z))
 
-pub lasts : (t : Tables) → Typed t → Sound t → (s : ℕ) (qs : List Asked) → AllWords t qs → howMany (setsCount s) (history t qs) ≡ 0
+pub lasts : (t : Tables) → Typed t → Sound t → (s : ℕ) (qs : List Call) → AllWords t qs → howMany (setsCount s) (history t qs) ≡ 0
     → Counting s (after t qs) → Lasts t s qs
 unfolding Each after history howMany
 lasts t typed sound s [] words none now = record { before = now; even = refl }
@@ -44,7 +45,7 @@ lasts t typed sound s (q ∷ qs) (word, words) none now =
 
 -- ---- calls with the last that sets the count of s among them: the count is set there, and the sum is kept from there on
 module _ (s : ℕ) (set : CallAndAnswer) (since : List CallAndAnswer) (sets : setsCount s set ≡ true) (last : howMany (setsCount s) since ≡ 0) where
-  balanced : (before : List CallAndAnswer) (t : Tables) → Typed t → Sound t → (qs : List Asked) → AllWords t qs → Counting s (after t qs)
+  balanced : (before : List CallAndAnswer) (t : Tables) → Typed t → Sound t → (qs : List Call) → AllWords t qs → Counting s (after t qs)
       → history t qs ≡ before ++ (set ∷ since)
       → set .asked .b + howMany (isPost s) since ≡ countNow s (after t qs) + howMany (takesUnit s) since
   unfolding Each after history

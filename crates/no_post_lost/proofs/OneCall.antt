@@ -6,25 +6,26 @@ use mathlib.Core.Bool.{true, false, false≢true, and-false}
 use native.Mathlib.Omega.{arith}
 use lib.Dec.{eqb}
 use borrow.Author.Tests.{ne-eqb}
-use Rattle.fold.specs.Lists.{bit}
+use Rattle.basics.specs.Lists.{bit}
 use Rattle.rules.specs.Tables.{Typed}
 use Rattle.rules.specs.Sound.{Sound}
 use Rattle.rules.specs.declared.Tables.{Tables}
-use Rattle.runs.specs.Run.{Asked, made, next}
-use Rattle.turns.proofs.Made.{Accepted, Refused, by-answer, semaphores-after}
+use Rattle.runs.specs.Run.{made, next}
+use Rattle.demand_3_turns.proofs.Made.{Accepted, Refused, by-answer, semaphores-after}
 use Rattle.no_post_lost.specs.NoPostLost.{CallAndAnswer, setsCount, isPost, takesUnit, Counting}
-use Rattle.keeps.proofs.Standing.{task-0-never-waits}
+use Rattle.demand_2_soundness.proofs.Standing.{task-0-never-waits}
 use Rattle.no_post_lost.proofs.SemaphoreCalls.{countIn, holds, set-to}
+use Rattle.rules.specs.declared.Call.{Call}
 
 -- the count of s in these tables
 abbrev pub countNow : ℕ → Tables → ℕ
 countNow s t = countIn s (t .semaphores)
 
 -- call q on tables t, with its answer
-abbrev pub answered : Tables → Asked → CallAndAnswer
+abbrev pub answered : Tables → Call → CallAndAnswer
 answered t q = record { asked = q; answer = made t q .answer }
 
-module _ (t : Tables) (typed : Typed t) (sound : Sound t) (s : ℕ) (q : Asked) where
+module _ (t : Tables) (typed : Typed t) (sound : Sound t) (s : ℕ) (q : Call) where
   -- s was a counting semaphore before the call, and its count plus the post equals its count afterwards plus the unit taken
   pub record Kept : Type 0 where
     pub before : Counting s t

@@ -6,19 +6,20 @@ use mathlib.Core.Bool.{and-eq-true-iff}
 use mathlib.Core.List.{List}
 use lib.Dec.{eqb}
 use borrow.Author.Tests.{eqb-true, ltb-false}
-use Rattle.fold.proofs.Laws.{no-length}
+use Rattle.basics.proofs.Laws.{no-length}
 use Rattle.rules.specs.Tables.{Typed, task}
 use Rattle.rules.specs.Lines.{line, semaphoreLine}
 use Rattle.rules.specs.Sound.{Sound}
 use Rattle.rules.specs.declared.Tables.{Tables}
-use Rattle.runs.specs.Run.{Asked, made, next}
-use Rattle.turns.proofs.Made.{Accepted, by-answer}
-use Rattle.turns.proofs.Posts.{counts-tasks}
+use Rattle.runs.specs.Run.{made, next}
+use Rattle.demand_3_turns.proofs.Made.{Accepted, by-answer}
+use Rattle.demand_3_turns.proofs.Posts.{counts-tasks}
 use Rattle.woken_task.specs.WokenTask.{semaphorePost, WokeNobody}
 use Rattle.woken_task.proofs.WokenTask.{woken-task}
 use Rattle.no_post_lost.specs.Readied.{NobodyWaited, WokenOrNobody, ReadiedOrNobody}
+use Rattle.rules.specs.declared.Call.{Call}
 
-module _ (t : Tables) (typed : Typed t) (sound : Sound t) (q : Asked) (ok : Accepted t q) (number : q .number ≡ 0x23) where
+module _ (t : Tables) (typed : Typed t) (sound : Sound t) (q : Call) (ok : Accepted t q) (number : q .number ≡ 0x23) where
   nobody-waited : WokeNobody semaphorePost t q (made t q .answer) (next t q) → NobodyWaited (q .a) t (next t q)
   nobody-waited woke =
       record {

@@ -9,9 +9,9 @@ use native.Mathlib.Omega.{arith}
 use lib.Dec.{eqb, ltb, leb}
 use lib.ListN.{length}
 use borrow.Author.Tests.{eq-eqb, ne-eqb, eqb-true, eqb-false, lt-ltb, ltb-true, leb-false}
-use Rattle.fold.specs.Lists.{bit, zeros}
-use Rattle.fold.proofs.Laws.{same?}
-use Rattle.rules.specs.Answer.{After, Call, answer, codeOf, done, notMet, nowWaiting}
+use Rattle.basics.specs.Lists.{bit, zeros}
+use Rattle.basics.proofs.Laws.{same?}
+use Rattle.rules.specs.Answer.{After, CallRule, answer, codeOf, done, notMet, nowWaiting, asked}
 use Rattle.rules.specs.Tables.{Typed, semaphoreCount, semaphoreWidth, semaphore, withSemaphore, semaphoreRow, USED, KIND, COUNT}
 use Rattle.rules.specs.Lines.{anyone, first, semaphoreLine}
 use Rattle.rules.specs.Waits.{Served, served}
@@ -21,14 +21,13 @@ use Rattle.rules.specs.Dispatch.{context}
 use Rattle.rules.specs.Step.{callOf}
 use Rattle.rules.specs.declared.Answer.{Answer}
 use Rattle.rules.specs.declared.Tables.{Tables}
-use Rattle.laws.proofs.Rows.{field-same, field-row, field-out, row-same, row-other, row-used, by-range}
-use Rattle.laws.proofs.Calls.{chosen}
-use Rattle.runs.specs.Run.{asked}
-use Rattle.keeps.proofs.Codes.{accepted-is, object-used}
-use Rattle.keeps.proofs.Groups.{NeverWaits}
-use Rattle.keeps.proofs.Standing.{first-not}
-use Rattle.keeps.proofs.Objects.{free-is}
-use Rattle.turns.proofs.SameKind.{other-word, on-semaphores-or-not}
+use Rattle.rules_laws.proofs.Rows.{field-same, field-row, field-out, row-same, row-other, row-used, by-range}
+use Rattle.rules_laws.proofs.Calls.{chosen}
+use Rattle.demand_2_soundness.proofs.Codes.{accepted-is, object-used}
+use Rattle.demand_2_soundness.proofs.Groups.{NeverWaits}
+use Rattle.demand_2_soundness.proofs.Standing.{first-not}
+use Rattle.demand_2_soundness.proofs.Objects.{free-is}
+use Rattle.demand_3_turns.proofs.SameKind.{other-word, on-semaphores-or-not}
 use Rattle.no_post_lost.specs.NoPostLost.{CallAndAnswer, isAcceptedOn, setsCount, isPost, takesUnit}
 
 -- a counting semaphore of table ss, and its count
@@ -180,7 +179,7 @@ module _ (t : Tables) (typed : Typed t) (never : NeverWaits 0 (t .lines)) (s a b
       apart 0x24 b (answer 0 done 0) other refl not-set
 
   -- ---- by number
-  abbrev pub callAt : ℕ → Call Tables
+  abbrev pub callAt : ℕ → CallRule Tables
   callAt n = callOf t (context (t .lines) (t .state)) n a b c d
 
   abbrev Holds : ℕ → Type 0
@@ -211,7 +210,7 @@ module _ (t : Tables) (typed : Typed t) (never : NeverWaits 0 (t .lines)) (s a b
 
   -- other numbers leave the table alone
   module _ (n : ℕ) (n20 : n ≢ 0x20) (n21 : n ≢ 0x21) (n22 : n ≢ 0x22) (n23 : n ≢ 0x23) (n24 : n ≢ 0x24) where
-    abbrev Same : Call Tables → Type 0
+    abbrev Same : CallRule Tables → Type 0
     Same k = k .effect .next .semaphores ≡ ss
 
     same : Same (callAt n)

@@ -5,7 +5,7 @@ use mathlib.Core.Logic.{_≢_}
 use mathlib.Core.Bool.{Bool, true, false, not, _&&_, _||_}
 use mathlib.Core.List.{List, [], _∷_, _++_}
 use lib.Dec.{eqb}
-use Rattle.fold.specs.Lists.{bit}
+use Rattle.basics.specs.Lists.{bit}
 use Rattle.rules.specs.Answer.{done}
 use Rattle.rules.specs.Tables.{Typed, semaphore, USED, KIND, COUNT}
 use Rattle.rules.specs.Semaphores.{isBinary}
@@ -13,14 +13,15 @@ use Rattle.rules.specs.Fresh.{madeFresh}
 use Rattle.rules.specs.Sound.{Sound}
 use Rattle.rules.specs.declared.Answer.{Answer}
 use Rattle.rules.specs.declared.Tables.{Tables}
-use Rattle.runs.specs.Run.{Asked, made, next, after, AllWords}
+use Rattle.runs.specs.Run.{made, next, after, AllWords}
+use Rattle.rules.specs.declared.Call.{Call}
 
 -- ---- "the history of calls and answers": each call with what was answered, of calls one after the other from tables t on
 pub record CallAndAnswer : Type 0 where
-  pub asked : Asked
+  pub asked : Call
   pub answer : Answer
 
-unfoldable pub history : Tables → List Asked → List CallAndAnswer
+unfoldable pub history : Tables → List Call → List CallAndAnswer
 history t [] = []
 history t (q ∷ qs) = record { asked = q; answer = made t q .answer } ∷ history (next t q) qs
 
@@ -69,12 +70,12 @@ Balanced s h x now = x .call .asked .b + howMany (isPost s) (x .since) ≡ semap
 -- ---- No. 12: of any calls on sound tables, and any counting semaphore whose last creation or accepted reset is among them
 abbrev pub NoPostLost : Type 0
 NoPostLost =
-    (t : Tables) → Typed t → Sound t → (qs : List Asked) → AllWords t qs → (s : ℕ) → Counting s (after t qs)
+    (t : Tables) → Typed t → Sound t → (qs : List Call) → AllWords t qs → (s : ℕ) → Counting s (after t qs)
     → (x : LastSet s (history t qs)) → Balanced s (history t qs) x (after t qs)
 
 -- from fresh tables on, with whatever number of levels they are asked for, every counting semaphore has one
 abbrev pub NoPostLostFromFresh : Type 0
 NoPostLostFromFresh =
     (levels : ℕ) → let t = madeFresh levels .tables in
-    (qs : List Asked) → AllWords t qs → (s : ℕ) → Counting s (after t qs)
+    (qs : List Call) → AllWords t qs → (s : ℕ) → Counting s (after t qs)
     → (x : LastSet s (history t qs)) × Balanced s (history t qs) x (after t qs)

@@ -1,6 +1,6 @@
 // Makes the calls of the log on standard input with `step`, again and again, and prints a sum over all answers: for measuring.
-use kernel::Call;
-use pacing::Calls;
+use pace_sums::Calls;
+use rules::Call;
 use rules::Clocks;
 use rules::Events;
 use rules::Heap;
@@ -11,9 +11,9 @@ use rules::State;
 use rules::Swis;
 use rules::Tasks;
 use text::Text;
-ghost use Rattle.rules.specs.Tables.{tables};
 ghost use Rattle.kernel.specs.Safe.{Safe};
 ghost use Rattle.io.specs.Counts.{Counts};
+ghost use Rattle.tables.specs.Lent.{new, lent};
 
 // Call k of the log: number 0xffffffff, which no call has, past its end.
 fn call_at(calls: &Calls, k: usize) -> Call {
@@ -50,7 +50,7 @@ fn make_calls(
     n: usize,
     from: u32,
 ) -> u32
-    requires { ⌜ Safe (tables (now tasks) (now lines) (now semaphores) (now events) (now mailboxes) (now swis) (now clocks) (now heap) (now state)) ⌝ }
+    requires { ⌜ Safe (lent tasks lines semaphores events mailboxes swis clocks heap state) ⌝ }
 {
     let mut sum = from;
     let mut k = 0;
@@ -69,7 +69,7 @@ fn make_calls(
         );
         let answer = said.answer;
         let thread = said.thread;
-        sum = pacing::add(sum, answer, thread);
+        sum = pace_sums::add(sum, answer, thread);
         k += 1;
     }
     sum
@@ -107,12 +107,12 @@ fn one_round(levels: u32, calls: &Calls, n: usize, from: u32) -> u32 {
 fn rounds() -> u32 {
     let mut name = io::buffer();
     let length = os::arg(1, &mut name);
-    pacing::rounds_for(&name[..length])
+    pace_sums::rounds_for(&name[..length])
 }
 
 // Puts the line of the sum into a buffer, and writes it from there.
 fn write_sum(out: &mut Text, sum: u32) {
-    let len = pacing::put_sum(out, sum);
+    let len = pace_sums::put_sum(out, sum);
     io::write_all(libc::STDOUT_FILENO, text::front(out, len));
 }
 
@@ -123,7 +123,7 @@ fn print_sum(sum: u32) {
 
 // Reads standard input, once: a file gives all that fits.
 fn read_log(log: &mut [u8]) -> usize
-    ensures { λ r. ⌜ Counts r (now (log .exit)) ⌝ }
+    ensures { λ r. ⌜ Counts r (new log) ⌝ }
 {
     let got = libc::read(libc::STDIN_FILENO, log);
     io::count(got, log)
@@ -133,8 +133,8 @@ fn main() {
     let mut log = [0u8; 65520];
     let n = read_log(&mut log) / 20;
     let mut calls = [0u32; 16380];
-    pacing::as_calls(&log, &mut calls, n);
-    let levels = pacing::levels_of(&log);
+    pace_sums::as_calls(&log, &mut calls, n);
+    let levels = pace_sums::levels_of(&log);
     let mut sum = 0;
     let mut left = rounds();
     while 0 < left {

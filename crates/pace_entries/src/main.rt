@@ -1,7 +1,8 @@
 // The same with the two entries that test the tables before each call: with `call_in_place`, or with `call` if a second argument is there.
-use pacing::Calls;
+use pace_sums::Calls;
 use text::Text;
 ghost use Rattle.io.specs.Counts.{Counts};
+ghost use Rattle.tables.specs.Lent.{new};
 
 // The calls in place on tables that are kept, from fresh ones.
 fn in_place(levels: u32, calls: &Calls, n: usize, from: u32) -> u32 {
@@ -39,7 +40,7 @@ fn in_place(levels: u32, calls: &Calls, n: usize, from: u32) -> u32 {
         );
         let answer = said.answer;
         let thread = said.thread;
-        sum = pacing::add(sum, answer, thread);
+        sum = pace_sums::add(sum, answer, thread);
         k += 1;
     }
     sum
@@ -64,7 +65,7 @@ fn by_value(levels: u32, calls: &Calls, n: usize, from: u32) -> u32 {
         );
         let answer = after.answer;
         let thread = after.thread;
-        sum = pacing::add(sum, answer, thread);
+        sum = pace_sums::add(sum, answer, thread);
         tables = after.tables;
         k += 1;
     }
@@ -75,12 +76,12 @@ fn by_value(levels: u32, calls: &Calls, n: usize, from: u32) -> u32 {
 fn rounds() -> u32 {
     let mut name = io::buffer();
     let length = os::arg(1, &mut name);
-    pacing::rounds_for(&name[..length])
+    pace_sums::rounds_for(&name[..length])
 }
 
 // Puts the line of the sum into a buffer, and writes it from there.
 fn write_sum(out: &mut Text, sum: u32) {
-    let len = pacing::put_sum(out, sum);
+    let len = pace_sums::put_sum(out, sum);
     io::write_all(libc::STDOUT_FILENO, text::front(out, len));
 }
 
@@ -91,7 +92,7 @@ fn print_sum(sum: u32) {
 
 // Reads standard input, once: a file gives all that fits.
 fn read_log(log: &mut [u8]) -> usize
-    ensures { λ r. ⌜ Counts r (now (log .exit)) ⌝ }
+    ensures { λ r. ⌜ Counts r (new log) ⌝ }
 {
     let got = libc::read(libc::STDIN_FILENO, log);
     io::count(got, log)
@@ -101,8 +102,8 @@ fn main() {
     let mut log = [0u8; 65520];
     let n = read_log(&mut log) / 20;
     let mut calls = [0u32; 16380];
-    pacing::as_calls(&log, &mut calls, n);
-    let levels = pacing::levels_of(&log);
+    pace_sums::as_calls(&log, &mut calls, n);
+    let levels = pace_sums::levels_of(&log);
     let kept = os::arg_count() < 3;
     let mut sum = 0;
     let mut left = rounds();

@@ -5,7 +5,7 @@ use call_lists::MOST_CALLS;
 use call_lists::answer_at;
 use call_lists::end_of;
 use call_lists::front;
-use pacing::Calls;
+use pace_sums::Calls;
 use rules::Clocks;
 use rules::Events;
 use rules::Heap;
@@ -18,6 +18,7 @@ use rules::Tasks;
 use rules::Thread;
 use text::Text;
 ghost use Rattle.io.specs.Counts.{Counts};
+ghost use Rattle.tables.specs.Lent.{new};
 
 // A list of as many calls as it may have.
 const LIST_WORDS: usize = MOST_CALLS * CALL_WORDS;
@@ -33,7 +34,7 @@ fn add_answers(from: u32, answers: &[u32], thread: Thread) -> u32 {
     let mut sum = from;
     let mut i = 0;
     while i < n {
-        sum = pacing::add(sum, answer_at(answers, i), thread);
+        sum = pace_sums::add(sum, answer_at(answers, i), thread);
         i += 1;
     }
     sum
@@ -118,12 +119,12 @@ fn one_round(levels: u32, log: &Calls, words: usize, from: u32) -> u32 {
 fn rounds() -> u32 {
     let mut name = io::buffer();
     let length = os::arg(1, &mut name);
-    pacing::rounds_for(&name[..length])
+    pace_sums::rounds_for(&name[..length])
 }
 
 // Puts the line of the sum into a buffer, and writes it from there.
 fn write_sum(out: &mut Text, sum: u32) {
-    let len = pacing::put_sum(out, sum);
+    let len = pace_sums::put_sum(out, sum);
     io::write_all(libc::STDOUT_FILENO, text::front(out, len));
 }
 
@@ -134,7 +135,7 @@ fn print_sum(sum: u32) {
 
 // Reads standard input, once: a file gives all that fits.
 fn read_log(log: &mut [u8]) -> usize
-    ensures { λ r. ⌜ Counts r (now (log .exit)) ⌝ }
+    ensures { λ r. ⌜ Counts r (new log) ⌝ }
 {
     let got = libc::read(libc::STDIN_FILENO, log);
     io::count(got, log)
@@ -144,8 +145,8 @@ fn main() {
     let mut log = [0u8; 65520];
     let n = read_log(&mut log) / 20;
     let mut calls = [0u32; 16380];
-    pacing::as_calls(&log, &mut calls, n);
-    let levels = pacing::levels_of(&log);
+    pace_sums::as_calls(&log, &mut calls, n);
+    let levels = pace_sums::levels_of(&log);
     let mut sum = 0;
     let mut left = rounds();
     while 0 < left {

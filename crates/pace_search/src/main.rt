@@ -9,14 +9,18 @@
 // 6 * 136, and the last four 1 + 2 + 3 + 4, together 826.
 use rules::Lines;
 use rules::State;
+use rules::numbers::FEW_QUEUES;
+use rules::numbers::LEVELS;
+use rules::numbers::LINE_BYTES;
+use rules::numbers::LINE_WIDTH;
+use rules::numbers::POSTED_LINES;
+use rules::numbers::READY_LINES;
+use rules::numbers::STATE_WIDTH;
 use text::Text;
 ghost use Prim.Native.Nat.{_≤_};
 
 // How many queues of each kind there are.
-const QUEUES: usize = 16;
-
-// How many bytes a line has.
-const WIDTH: usize = 33;
+const QUEUES: usize = FEW_QUEUES;
 
 // The queue that is filled first, and how far on the next one is each time.
 struct Filled {
@@ -39,7 +43,7 @@ fn letter(k: usize) -> u8 {
 fn rounds() -> u32 {
     let mut name = io::buffer();
     let length = os::arg(2, &mut name);
-    pacing::rounds_for(&name[..length])
+    pace_sums::rounds_for(&name[..length])
 }
 
 // Which queues are filled, by the first letter of the program's third argument.
@@ -57,16 +61,16 @@ fn queues_for(letter: u8) -> Filled {
 // How many levels the chosen search looks through.
 fn levels_for(search: u8) -> u32 {
     if search == b'w' {
-        return rules::MOST_LEVELS;
+        return rules::numbers::MOST_LEVELS;
     }
-    rules::FEW_LEVELS
+    rules::numbers::FEW_LEVELS
 }
 
 // 1 where somebody stands in the ready queue of priority p, else 0.
 fn look(lines: &Lines, p: usize) -> usize
     ensures { λ r. ⌜ r ≤ 1 ⌝ }
 {
-    if due::anyone(lines, due::READY_LINES + p % QUEUES) {
+    if lines::anyone(lines, READY_LINES + p % QUEUES) {
         return 1;
     }
     0
@@ -77,9 +81,9 @@ fn found_at(lines: &Lines, state: &State, search: u8, p: usize) -> usize
     ensures { λ r. ⌜ r ≤ 32 ⌝ }
 {
     match search {
-        b'p' => due::highest_posted(lines),
-        b'r' => due::highest_ready(lines, state),
-        b'w' => due::highest_ready(lines, state),
+        b'p' => dispatch::due::highest_posted(lines),
+        b'r' => dispatch::due::highest_ready(lines, state),
+        b'w' => dispatch::due::highest_ready(lines, state),
         _ => look(lines, p),
     }
 }
@@ -91,8 +95,8 @@ fn found(lines: &Lines, state: &State, search: u8, p: usize) -> u32 {
 
 // Makes n the number of those who stand in the two queues of priority p, of posted Swis and of ready tasks.
 fn set(lines: &mut Lines, p: usize, n: u8) {
-    lines[(due::POSTED_LINES + p % QUEUES) * WIDTH] = n;
-    lines[(due::READY_LINES + p % QUEUES) * WIDTH] = n;
+    lines[(POSTED_LINES + p % QUEUES) * LINE_WIDTH] = n;
+    lines[(READY_LINES + p % QUEUES) * LINE_WIDTH] = n;
 }
 
 // n searches. Before each somebody joins the queues of one priority, and after it they are empty again.
@@ -112,7 +116,7 @@ fn searches(lines: &mut Lines, state: &State, search: u8, filled: Filled, n: u32
 
 // Puts the line of the sum into a buffer, and writes it from there.
 fn write_sum(out: &mut Text, sum: u32) {
-    let len = pacing::put_sum(out, sum);
+    let len = pace_sums::put_sum(out, sum);
     io::write_all(libc::STDOUT_FILENO, text::front(out, len));
 }
 
@@ -122,10 +126,10 @@ fn print_sum(sum: u32) {
 }
 
 fn main() {
-    let mut lines = [0u8; 2673];
+    let mut lines = [0u8; LINE_BYTES];
     let search = letter(1);
-    let mut state = [0u32; 6];
-    state[words::LEVELS] = levels_for(search);
+    let mut state = [0u32; STATE_WIDTH];
+    state[LEVELS] = levels_for(search);
     let filled = queues_for(letter(3));
     print_sum(searches(&mut lines, &state, search, filled, rounds()));
 }

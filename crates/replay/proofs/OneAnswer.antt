@@ -5,7 +5,7 @@ use mathlib.Core.Logic.{_⊎_, ⊎-elim}
 use mathlib.Core.Bool.{Bool, true, false}
 use mathlib.Core.List.{List}
 use lib.Dec.{eqb}
-use Rattle.parts.specs.Part.{Left, turn}
+use Rattle.desk_parts.specs.Part.{Left, turn}
 use Rattle.replay.specs.declared.Came.{Came}
 use Rattle.replay.specs.Turns.{stop, HandedIf, Handed}
 

@@ -14,8 +14,8 @@ use borrow.Author.Tests.{ltb-true, le-ltb, not-true}
 use Rattle.io.specs.Counts.{clamped}
 use Rattle.rules.specs.Sound.{Sound}
 use Rattle.rules.specs.declared.Tables.{Tables}
-use Rattle.parts.specs.Part.{Left, turn, begins, start, leftBy}
-use Rattle.parts.proofs.ByReads.{left-more}
+use Rattle.desk_parts.specs.Part.{Left, turn, begins, start, leftBy}
+use Rattle.desk_parts.proofs.ByReads.{left-more}
 use Rattle.desk.specs.declared.Progress.{Progress}
 use Rattle.desk.specs.Done.{leftOf, progressOf, behind, Turned}
 use Rattle.replay.specs.declared.Came.{Came}

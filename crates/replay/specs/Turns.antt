@@ -9,7 +9,7 @@ use lib.IntN.{ℤ, pos, negsuc}
 use lib.ListN.{length, take}
 use Rattle.rules.specs.Sound.{Sound}
 use Rattle.rules.specs.declared.Tables.{Tables}
-use Rattle.parts.specs.Part.{Left, turn, begins, leftBy}
+use Rattle.desk_parts.specs.Part.{Left, turn, begins, leftBy}
 use Rattle.desk.specs.declared.Progress.{Progress}
 use Rattle.replay.specs.declared.Came.{Came}
 

@@ -17,7 +17,7 @@ ghost use mathlib.Core.Path.{_≡_};
 ghost use mathlib.Core.Logic.{_⊎_};
 ghost use lib.ListN.{length};
 ghost use Rattle.rules.specs.Fresh.{fresh};
-ghost use Rattle.lent.specs.Lent.{lent, before, leaves};
+ghost use Rattle.tables.specs.Lent.{lent, old, new, tablesOld, tablesNew};
 ghost use Rattle.kernel.specs.Safe.{Safe};
 ghost use Rattle.desk.specs.Done.{had, has, came};
 ghost use Rattle.replay.specs.Turns.{cameBy, Behind, stopped, Handed, Replayed};
@@ -30,7 +30,7 @@ struct Came {
 
 // What a read brought that answered `got` and was lent this room.
 fn brought(got: isize, room: &[u8]) -> Came
-    ensures { λ r. ⌜ r ≡ cameBy got (length (now (room .entry))) ⌝ }
+    ensures { λ r. ⌜ r ≡ cameBy got (length (old room)) ⌝ }
 {
     let more = io::count(got, room);
     Came {
@@ -48,7 +48,7 @@ fn tell_failed(name: &[u8], failed: bool) {
 
 // Reads behind the bytes that wait; `name` is told where the read fails. There is always room: fewer than 20 of them wait.
 fn read_behind(fd: i32, name: &[u8], part: &mut [u8], held: usize) -> Came
-    ensures { λ r. ⌜ Behind held (now (part .entry)) (now (part .exit)) r ⌝ }
+    ensures { λ r. ⌜ Behind held (old part) (new part) r ⌝ }
 {
     if part.len() <= held {
         return Came {
@@ -64,7 +64,7 @@ fn read_behind(fd: i32, name: &[u8], part: &mut [u8], held: usize) -> Came
 
 // The same on the whole part, which becomes a slice where it is passed on.
 fn read_part(fd: i32, name: &[u8], part: &mut Part, held: usize) -> Came
-    ensures { λ r. ⌜ Behind held (now (part .entry)) (now (part .exit)) r ⌝ }
+    ensures { λ r. ⌜ Behind held (old part) (new part) r ⌝ }
 {
     read_behind(fd, name, part, held)
 }
@@ -116,8 +116,10 @@ fn turn(
     out: &mut Text,
 ) -> Progress
     requires { ⌜ Safe (lent tasks lines semaphores events mailboxes swis clocks heap state) ⌝ }
-    ensures { λ r. ⌜ Handed read (came part p (read .more)) (had (before tasks lines semaphores events mailboxes swis clocks heap state) part out p) (has (leaves tasks lines semaphores events mailboxes swis clocks heap state) part out r) ⌝ }
-    ensures { λ _. ⌜ Safe (leaves tasks lines semaphores events mailboxes swis clocks heap state) ⌝ }
+    ensures { λ r. ⌜ Handed read (came part p (read .more))
+        (had (tablesOld tasks lines semaphores events mailboxes swis clocks heap state) part out p)
+        (has (tablesNew tasks lines semaphores events mailboxes swis clocks heap state) part out r) ⌝ }
+    ensures { λ _. ⌜ Safe (tablesNew tasks lines semaphores events mailboxes swis clocks heap state) ⌝ }
 {
     if read.failed {
         return stopped(p);
@@ -156,7 +158,8 @@ fn all_turns(
     name: &[u8],
 )
     requires { ⌜ Safe (lent tasks lines semaphores events mailboxes swis clocks heap state) ⌝ }
-    ensures { λ _. ⌜ Replayed (before tasks lines semaphores events mailboxes swis clocks heap state) (leaves tasks lines semaphores events mailboxes swis clocks heap state) ⌝ }
+    ensures { λ _. ⌜ Replayed (tablesOld tasks lines semaphores events mailboxes swis clocks heap state)
+        (tablesNew tasks lines semaphores events mailboxes swis clocks heap state) ⌝ }
 {
     let mut part = [0u8; 2560];
     let mut out = [0u8; 16384];
@@ -187,7 +190,7 @@ fn all_turns(
 fn replay_all(fd: i32, name: &[u8]) -> Tables
     ensures { λ r. ⌜ Replayed fresh r ⌝ }
 {
-    let fresh = entries::fresh(rules::FEW_LEVELS).tables;
+    let fresh = entries::fresh(rules::numbers::FEW_LEVELS).tables;
     let mut tasks = fresh.tasks;
     let mut lines = fresh.lines;
     let mut semaphores = fresh.semaphores;

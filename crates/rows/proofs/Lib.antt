@@ -1,1 +1,1 @@
-pub mod InLine
+pub mod Records

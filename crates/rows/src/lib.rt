@@ -1,43 +1,233 @@
-// Lines of lent tables, read and changed in place, what the words of a row say, and answers. Every function is total: what is not there
-// reads 0, and writing it changes nothing.
-pub mod answers;
-pub mod lines;
+// The words of each table's rows, and the rows that are worked on whole.
 pub mod readings;
 
+use rules::Clock;
 use rules::Clocks;
 use rules::Events;
-use rules::Heap;
-use rules::Lines;
 use rules::Mailboxes;
 use rules::Semaphores;
-use rules::State;
 use rules::Swis;
-use rules::Tables;
+use rules::Task;
 use rules::Tasks;
+use rules::numbers::CLOCK_FIRST;
+use rules::numbers::CLOCK_LEFT;
+use rules::numbers::CLOCK_ROWS;
+use rules::numbers::CLOCK_SWI;
+use rules::numbers::CLOCK_WIDTH;
+use rules::numbers::EVENT_ROWS;
+use rules::numbers::EVENT_WIDTH;
+use rules::numbers::MAILBOX_ROWS;
+use rules::numbers::MAILBOX_WIDTH;
+use rules::numbers::MODE;
+use rules::numbers::OBJECT;
+use rules::numbers::OUTCOME;
+use rules::numbers::PERIOD;
+use rules::numbers::SECOND;
+use rules::numbers::SEMAPHORE_ROWS;
+use rules::numbers::SEMAPHORE_WIDTH;
+use rules::numbers::SWI_ROWS;
+use rules::numbers::SWI_WIDTH;
+use rules::numbers::TASK_FIRST;
+use rules::numbers::TASK_LEFT;
+use rules::numbers::TASK_PRIORITY;
+use rules::numbers::TASK_ROWS;
+use rules::numbers::TASK_WIDTH;
+use rules::numbers::USED;
+use rules::numbers::VALUE;
 ghost use mathlib.Core.Path.{_≡_};
-ghost use Rattle.rules.specs.Fresh.{freshWith};
+ghost use Rattle.rules.specs.Rows.{field, withField};
+ghost use Rattle.rules.specs.Tables.{taskCount, taskWidth, clockCount, clockWidth, task, withTask, clock, withClock, semaphore, withSemaphore, event};
+ghost use Rattle.rules.specs.Tables.{withEvent, mailbox, withMailbox, swi, withSwi};
+ghost use Rattle.tables.specs.Lent.{old, new};
 
-// Fresh tables of so many levels: task 0 only, both switches on, depth 0, tick 0, heap free. The number is not tested here: `entries::fresh` does.
-pub fn fresh(levels: u32) -> Tables
-    ensures { λ r. ⌜ r ≡ freshWith levels ⌝ }
+// ---- tasks
+
+pub fn task_word(tasks: &Tasks, i: usize, f: usize) -> u32
+    ensures { λ r. ⌜ r ≡ field taskWidth taskCount (old tasks) i f ⌝ }
 {
-    let mut tasks = [0u32; 256];
-    tasks[0] = 1;
-    let mut lines = [0u8; 2673];
-    lines[1617] = 1;
-    let mut state = [0u32; 6];
-    state[words::SWIS] = 1;
-    state[words::TASKS] = 1;
-    state[words::LEVELS] = levels;
-    Tables {
-        tasks,
-        lines,
-        semaphores: [0u32; 48],
-        events: [0u32; 16],
-        mailboxes: [0u32; 80],
-        swis: [0u32; 96],
-        clocks: [0u32; 80],
-        heap: [0u8; 256],
-        state,
+    if i < TASK_ROWS {
+        if f < TASK_WIDTH {
+            return tasks[i * TASK_WIDTH + f];
+        }
+        return 0;
+    }
+    0
+}
+
+pub fn set_task_word(tasks: &mut Tasks, i: usize, f: usize, x: u32)
+    ensures { λ _. ⌜ new tasks ≡ withField taskWidth taskCount (old tasks) i f x ⌝ }
+{
+    if i < TASK_ROWS {
+        if f < TASK_WIDTH {
+            tasks[i * TASK_WIDTH + f] = x;
+        }
+    }
+}
+
+// Task i's row; all 0 where there is none.
+pub fn task(tasks: &Tasks, i: usize) -> Task
+    ensures { λ r. ⌜ r ≡ task (old tasks) i ⌝ }
+{
+    Task {
+        mode: task_word(tasks, i, MODE),
+        priority: task_word(tasks, i, TASK_PRIORITY),
+        object: task_word(tasks, i, OBJECT),
+        left: task_word(tasks, i, TASK_LEFT),
+        first: task_word(tasks, i, TASK_FIRST),
+        second: task_word(tasks, i, SECOND),
+        outcome: task_word(tasks, i, OUTCOME),
+        value: task_word(tasks, i, VALUE),
+    }
+}
+
+pub fn set_task(tasks: &mut Tasks, i: usize, k: Task)
+    ensures { λ _. ⌜ new tasks ≡ withTask (old tasks) i k ⌝ }
+{
+    if i < TASK_ROWS {
+        let at = i * TASK_WIDTH;
+        tasks[at] = k.mode;
+        tasks[at + TASK_PRIORITY] = k.priority;
+        tasks[at + OBJECT] = k.object;
+        tasks[at + TASK_LEFT] = k.left;
+        tasks[at + TASK_FIRST] = k.first;
+        tasks[at + SECOND] = k.second;
+        tasks[at + OUTCOME] = k.outcome;
+        tasks[at + VALUE] = k.value;
+    }
+}
+
+// ---- semaphores
+
+pub fn semaphore(semaphores: &Semaphores, i: usize, f: usize) -> u32
+    ensures { λ r. ⌜ r ≡ semaphore (old semaphores) i f ⌝ }
+{
+    if i < SEMAPHORE_ROWS {
+        if f < SEMAPHORE_WIDTH {
+            return semaphores[i * SEMAPHORE_WIDTH + f];
+        }
+        return 0;
+    }
+    0
+}
+
+pub fn set_semaphore(semaphores: &mut Semaphores, i: usize, f: usize, x: u32)
+    ensures { λ _. ⌜ new semaphores ≡ withSemaphore (old semaphores) i f x ⌝ }
+{
+    if i < SEMAPHORE_ROWS {
+        if f < SEMAPHORE_WIDTH {
+            semaphores[i * SEMAPHORE_WIDTH + f] = x;
+        }
+    }
+}
+
+// ---- events
+
+pub fn event(events: &Events, i: usize, f: usize) -> u32
+    ensures { λ r. ⌜ r ≡ event (old events) i f ⌝ }
+{
+    if i < EVENT_ROWS {
+        if f < EVENT_WIDTH {
+            return events[i * EVENT_WIDTH + f];
+        }
+        return 0;
+    }
+    0
+}
+
+pub fn set_event(events: &mut Events, i: usize, f: usize, x: u32)
+    ensures { λ _. ⌜ new events ≡ withEvent (old events) i f x ⌝ }
+{
+    if i < EVENT_ROWS {
+        if f < EVENT_WIDTH {
+            events[i * EVENT_WIDTH + f] = x;
+        }
+    }
+}
+
+// ---- mailboxes
+
+pub fn mailbox(mailboxes: &Mailboxes, i: usize, f: usize) -> u32
+    ensures { λ r. ⌜ r ≡ mailbox (old mailboxes) i f ⌝ }
+{
+    if i < MAILBOX_ROWS {
+        if f < MAILBOX_WIDTH {
+            return mailboxes[i * MAILBOX_WIDTH + f];
+        }
+        return 0;
+    }
+    0
+}
+
+pub fn set_mailbox(mailboxes: &mut Mailboxes, i: usize, f: usize, x: u32)
+    ensures { λ _. ⌜ new mailboxes ≡ withMailbox (old mailboxes) i f x ⌝ }
+{
+    if i < MAILBOX_ROWS {
+        if f < MAILBOX_WIDTH {
+            mailboxes[i * MAILBOX_WIDTH + f] = x;
+        }
+    }
+}
+
+// ---- Swis
+
+pub fn swi(swis: &Swis, i: usize, f: usize) -> u32
+    ensures { λ r. ⌜ r ≡ swi (old swis) i f ⌝ }
+{
+    if i < SWI_ROWS {
+        if f < SWI_WIDTH {
+            return swis[i * SWI_WIDTH + f];
+        }
+        return 0;
+    }
+    0
+}
+
+pub fn set_swi(swis: &mut Swis, i: usize, f: usize, x: u32)
+    ensures { λ _. ⌜ new swis ≡ withSwi (old swis) i f x ⌝ }
+{
+    if i < SWI_ROWS {
+        if f < SWI_WIDTH {
+            swis[i * SWI_WIDTH + f] = x;
+        }
+    }
+}
+
+// ---- clocks
+
+pub fn clock_word(clocks: &Clocks, i: usize, f: usize) -> u32
+    ensures { λ r. ⌜ r ≡ field clockWidth clockCount (old clocks) i f ⌝ }
+{
+    if i < CLOCK_ROWS {
+        if f < CLOCK_WIDTH {
+            return clocks[i * CLOCK_WIDTH + f];
+        }
+        return 0;
+    }
+    0
+}
+
+// Clock i's row; all 0 where there is none.
+pub fn clock(clocks: &Clocks, i: usize) -> Clock
+    ensures { λ r. ⌜ r ≡ clock (old clocks) i ⌝ }
+{
+    Clock {
+        used: clock_word(clocks, i, USED),
+        swi: clock_word(clocks, i, CLOCK_SWI),
+        first: clock_word(clocks, i, CLOCK_FIRST),
+        period: clock_word(clocks, i, PERIOD),
+        left: clock_word(clocks, i, CLOCK_LEFT),
+    }
+}
+
+pub fn set_clock(clocks: &mut Clocks, i: usize, k: Clock)
+    ensures { λ _. ⌜ new clocks ≡ withClock (old clocks) i k ⌝ }
+{
+    if i < CLOCK_ROWS {
+        let at = i * CLOCK_WIDTH;
+        clocks[at] = k.used;
+        clocks[at + CLOCK_SWI] = k.swi;
+        clocks[at + CLOCK_FIRST] = k.first;
+        clocks[at + PERIOD] = k.period;
+        clocks[at + CLOCK_LEFT] = k.left;
     }
 }

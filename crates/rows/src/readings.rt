@@ -1,38 +1,20 @@
-// What the words of a row say: a task's line, the top active Swi, a semaphore's most, an event's
-// match, a heap unit's entry; and one less of a word.
+// What the words of a row say: a semaphore's most, an event's match, a heap unit's entry, the current task, the number of levels; and one
+// less of a word.
 use rules::Heap;
-use rules::Lines;
-use rules::Task;
+use rules::State;
+use rules::numbers::COUNT_MOST;
+use rules::numbers::CURRENT;
+use rules::numbers::FREE;
+use rules::numbers::HEAP_UNITS;
+use rules::numbers::LEVELS;
+use rules::numbers::TASK_COUNT;
 ghost use mathlib.Core.Path.{_≡_};
 ghost use Prim.Native.Nat.{_-_};
-ghost use Rattle.rules.specs.Lines.{homeOf};
-ghost use Rattle.rules.specs.Swis.{top};
 ghost use Rattle.rules.specs.Semaphores.{isBinary, most};
 ghost use Rattle.rules.specs.Events.{matched};
 ghost use Rattle.rules.specs.Heap.{unit};
-
-// The line in which a task with this row stands; 255 for none.
-pub fn home_of(k: Task) -> usize
-    ensures { λ r. ⌜ r ≡ homeOf k ⌝ }
-{
-    let mode = k.mode;
-    match mode {
-        1 => 49 + k.priority as usize,
-        3 => k.object as usize,
-        4 => 24 + k.object as usize,
-        5 => 16 + k.object as usize,
-        6 => 16 + k.object as usize,
-        _ => 255,
-    }
-}
-
-// The top active Swi, the last to start; 0 where none is active.
-pub fn top(lines: &Lines) -> u8
-    ensures { λ r. ⌜ r ≡ top (now (lines .entry)) ⌝ }
-{
-    let n = super::lines::len(lines, 48);
-    super::lines::member(lines, 48, fold::one_less(n))
-}
+ghost use Rattle.rules.specs.Tables.{current, levels};
+ghost use Rattle.tables.specs.Lent.{old};
 
 // Kinds 1 and 3 are binary.
 pub fn is_binary(kind: u32) -> bool
@@ -48,7 +30,7 @@ pub fn most(kind: u32) -> u32
     if is_binary(kind) {
         return 1;
     }
-    65535
+    COUNT_MOST
 }
 
 // The posted bits in the or-mask, and the whole and-mask if all its bits are posted.
@@ -64,12 +46,12 @@ pub fn matched(bits: u32, and_mask: u32, or_mask: u32) -> u32
 
 // The entry of unit u; past the heap nothing can be had.
 pub fn unit(heap: &Heap, u: usize) -> u8
-    ensures { λ r. ⌜ r ≡ unit (now (heap .entry)) u ⌝ }
+    ensures { λ r. ⌜ r ≡ unit (old heap) u ⌝ }
 {
-    if u < 256 {
+    if u < HEAP_UNITS {
         return heap[u];
     }
-    0
+    FREE
 }
 
 // One less, and 0 stays 0.
@@ -80,4 +62,25 @@ pub fn one_less(n: u32) -> u32
         return 0;
     }
     n - 1
+}
+
+// The current task; a number that is no task's counts as 0.
+pub fn current(state: &State) -> u8
+    ensures { λ r. ⌜ r ≡ current (old state) ⌝ }
+{
+    let i = state[CURRENT];
+    if i < TASK_COUNT {
+        return i as u8;
+    }
+    0
+}
+
+// How many levels of priority the tasks have: 16 or 32; another number counts as 16.
+pub fn levels(state: &State) -> u32
+    ensures { λ r. ⌜ r ≡ levels (old state) ⌝ }
+{
+    if state[LEVELS] == rules::numbers::MOST_LEVELS {
+        return rules::numbers::MOST_LEVELS;
+    }
+    rules::numbers::FEW_LEVELS
 }

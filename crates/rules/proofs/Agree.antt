@@ -2,7 +2,7 @@
 use mathlib.Core.Path.{_≡_}
 use mathlib.Core.Logic.{_↔_, Iff·and, Iff·trans}
 use mathlib.Core.Bool.{Bool, true, _&&_, and-eq-true-iff}
-use Rattle.fold.proofs.Rules.{agree}
+use Rattle.basics.proofs.Rules.{agree}
 use Rattle.rules.specs.Tables.{taskCount, swiCount, levels}
 use Rattle.rules.specs.Lines.{taskHome, swiHome}
 use Rattle.rules.specs.Sound.{sound, Sound, stateRule, heapRule, clocksRule, tasksRule, linesRule, membersRule, onceRule}

@@ -1,7 +1,7 @@
 -- `unfolding computed` opens every definition of the specs, so that an example is computed.
 use Prim.Native.Nat.{ℕ}
-use Rattle.fold.specs.Lists.{count, without, putAt, firstWhere, allOf, firsts, reads}
-use Rattle.fold.specs.Find.{allBelow, firstFrom, firstBelow, highestBelow, rising}
+use Rattle.basics.specs.Lists.{count, without, putAt, firstWhere, allOf, firsts, reads}
+use Rattle.basics.specs.Find.{allBelow, firstFrom, firstBelow, highestBelow, rising}
 use Rattle.rules.specs.Rows.{field, withField, withRow, listed, withListed, behind}
 use Rattle.rules.specs.Tables.{task, withTask, messages, withMessages, clock, withClock, current, levels}
 use Rattle.rules.specs.Lines.{line, withLine, left, entered, homeBy, swiHome, moved}

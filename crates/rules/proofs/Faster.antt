@@ -9,9 +9,9 @@ use borrow.Author.Tests.{eqb-true}
 use lib.Dec.{eqb, ltb}
 use lib.ListN.{length, getD, drop}
 use lib.Seq.{getD-drop, drop-drop}
-use Rattle.fold.specs.Lists.{allOf, reads}
-use Rattle.fold.specs.Find.{allBelow}
-use Rattle.fold.specs.Rule.{holds}
+use Rattle.basics.specs.Lists.{allOf, reads}
+use Rattle.basics.specs.Find.{allBelow}
+use Rattle.basics.specs.Rule.{holds}
 use Rattle.rules.specs.Rows.{behind}
 use Rattle.rules.specs.Tables.{taskCount, swiCount, fewLevels, mostLevels, levels}
 use Rattle.rules.specs.Lines.{taskHome, swiHome, lineCount, lineMost, lineWidth}

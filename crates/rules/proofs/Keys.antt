@@ -8,7 +8,7 @@ use native.Mathlib.Omega.{arith}
 use lib.Bits.{bitAnd, and-comm, and-mask, and-high}
 use lib.Dec.{eqb, ltb}
 use borrow.Author.Tests.{eq-eqb, ne-eqb, lt-ltb, le-ltb}
-use Rattle.fold.proofs.Laws.{same?, lt-or-le}
+use Rattle.basics.proofs.Laws.{same?, lt-or-le}
 use Rattle.rules.specs.Switches.{swisBit, tasksBit, bothBits, badKey}
 
 pub record Keys : Type 0 where

@@ -3,8 +3,8 @@ use Prim.Native.Nat.{ℕ}
 use mathlib.Core.Path.{_≡_, refl}
 use mathlib.Core.Bool.{true, false}
 use mathlib.Core.List.{List, [], _∷_, _++_, map}
-use Rattle.fold.specs.Lists.{zeros}
-use Rattle.fold.specs.Rule.{holds}
+use Rattle.basics.specs.Lists.{zeros}
+use Rattle.basics.specs.Rule.{holds}
 use Rattle.rules.specs.Answer.{After, answer, accepted, refused, called, answered, named, codeOf, given, onObject, never, done, T, S, I}
 use Rattle.rules.specs.Tables.{task, forever, ready, sleeping, atSemaphore, atEvent, reading, writing}
 use Rattle.rules.specs.Lines.{line, joined, queued, semaphoreLine, mailboxLine, eventLine, postedLine, activeLine, readyLine}

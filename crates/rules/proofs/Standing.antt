@@ -1,7 +1,7 @@
 -- The table of lines in few words: who stands where.
 use Prim.Native.Nat.{ℕ}
 use mathlib.Core.List.{List, [], _∷_}
-use Rattle.fold.specs.Lists.{zeros}
+use Rattle.basics.specs.Lists.{zeros}
 use Rattle.rules.specs.Lines.{withLine}
 
 infix 70 _has_

@@ -1,9 +1,23 @@
 -- 01, 'The answer': code, outcome, value; the order of the checks; what a refusal leaves.
-use Prim.Native.Nat.{ℕ, _+_, _/_}
+use Prim.Native.Nat.{ℕ, _+_, _/_, _<_}
 use mathlib.Core.Bool.{Bool, true, false, not, _&&_, _||_, cond as if}
 use mathlib.Core.List.{List, [], _∷_}
 use lib.Dec.{eqb, ltb}
+use Rattle.rules.specs.Tables.{wordEnd}
+use Rattle.rules.specs.declared.Call.{Call}
 use Rattle.rules.specs.declared.Answer.{Answer}
+
+-- ---- what goes in, and what comes out
+-- a call: its number and its four arguments
+abbrev pub asked : ℕ → ℕ → ℕ → ℕ → ℕ → Call
+asked number a b c d = record { number = number; a = a; b = b; c = c; d = d }
+
+-- "All arguments are unsigned 32-bit"
+pub record Words (q : Call) : Type 0 where
+  pub first : q .a < wordEnd
+  pub second : q .b < wordEnd
+  pub third : q .c < wordEnd
+  pub fourth : q .d < wordEnd
 
 abbrev pub answer : ℕ → ℕ → ℕ → Answer
 answer k o v = record { code = k; outcome = o; value = v }
@@ -78,22 +92,22 @@ tableOf number = if (eqb number 0x50) 2 (number / 16 + 1)
 unfoldable pub named : ℕ → Answer → Answer
 named number r = if (eqb (r .code) 3 || eqb (r .code) 11) (answer (r .code) (r .outcome) (tableOf number)) r
 
--- a call: when each code is given, and what it does where none is
-pub record Call (A : Type 0) : Type 0 where
+-- the rule of a call: when each code is given, and what it does where none is
+pub record CallRule (A : Type 0) : Type 0 where
   pub cases : Cases
   pub effect : After A
 
-abbrev pub called : {A : Type 0} → Cases → After A → Call A
+abbrev pub called : {A : Type 0} → Cases → After A → CallRule A
 called c e = record { cases = c; effect = e }
 
-abbrev pub unknown : {A : Type 0} → A → Call A
+abbrev pub unknown : {A : Type 0} → A → CallRule A
 unknown t = called (given 1 true never) (accepted done 0 t)
 
 -- what a call on these tables leaves
 abbrev pub guarded : {A : Type 0} → ℕ → A → After A → After A
 guarded k t e = if (eqb k 0) e (refused k t)
 
-abbrev pub answered : {A : Type 0} → A → Call A → After A
+abbrev pub answered : {A : Type 0} → A → CallRule A → After A
 answered t c = guarded (codeOf (c .cases)) t (c .effect)
 
 -- ---- tests that many calls share

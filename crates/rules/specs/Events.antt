@@ -1,18 +1,19 @@
 -- 01, 'Events': calls 30 to 33.
 use Prim.Native.Nat.{ℕ}
 use mathlib.Core.Bool.{Bool, not, _&&_, _||_, cond as if}
-use mathlib.Core.List.{List, [], _∷_}
+use mathlib.Core.List.{[], _∷_}
 use lib.Bits.{bitAnd, bitOr}
 use lib.Dec.{eqb}
-use Rattle.fold.specs.Lists.{zeros}
-use Rattle.fold.specs.Find.{firstBelow}
-use Rattle.rules.specs.Answer.{Cases, given, onObject, never, Call, called, After, accepted, unknown, done, notMet, nowWaiting, notT, unused}
-use Rattle.rules.specs.Tables.{eventCount, eventWidth, event, withEvent, eventRow, task, current, atEvent, USED, BITS}
+use Rattle.rules.specs.Tables.{TaskTable, LineTable, EventTable, StateRow, eventCount, eventWidth, event, withEvent, eventRow, task, current, atEvent}
+use Rattle.rules.specs.Tables.{USED, BITS}
+use Rattle.basics.specs.Lists.{zeros}
+use Rattle.basics.specs.Find.{firstBelow}
+use Rattle.rules.specs.Answer.{Cases, given, onObject, never, CallRule, called, After, accepted, unknown, done, notMet, nowWaiting, notT, unused}
 use Rattle.rules.specs.Lines.{eventLine, anyone, first, moved, atBack}
 use Rattle.rules.specs.Waits.{Served, served, queue, requeued, outside, switchOff, idle, waiting, wakesFirst}
 use Rattle.rules.specs.Swis.{cleared}
 
-unfoldable pub freeEvent : List ℕ → ℕ
+unfoldable pub freeEvent : EventTable → ℕ
 freeEvent es = firstBelow eventCount (λ i. eqb (event es i USED) 0)
 
 -- "Matched bits are the posted bits in the or-mask, and the whole and-mask if all its bits are posted."
@@ -20,51 +21,60 @@ unfoldable pub matched : ℕ → ℕ → ℕ → ℕ
 matched bits andMask orMask = bitOr (bitAnd bits orMask) (if (eqb (bitAnd bits andMask) andMask) andMask 0)
 
 -- ---- "30 create (T): value its number."
-unfoldable pub createCases : List ℕ → ℕ → ℕ → ℕ → ℕ → ℕ → Cases
+unfoldable pub createCases : EventTable → ℕ → ℕ → ℕ → ℕ → ℕ → Cases
 createCases es x a b c d = given 2 (notT x) (given 4 (unused a b c d) (given 6 (eqb (freeEvent es) eventCount) never))
 
 unfoldable pub createEffect : Served → After Served
 createEffect q =
     accepted done (freeEvent (q .objects)) (served (q .tasks) (q .lines) (eventRow (q .objects) (freeEvent (q .objects)) (1 ∷ 0 ∷ [])))
 
+abbrev pub createCall : Served → ℕ → ℕ → ℕ → ℕ → ℕ → CallRule Served
+createCall q x a b c d = called (createCases (q .objects) x a b c d) (createEffect q)
+
 -- ---- "31 delete (T): 5 with a waiter."
-unfoldable pub deleteCases : List ℕ → List ℕ → ℕ → ℕ → ℕ → ℕ → ℕ → Cases
+unfoldable pub deleteCases : LineTable → EventTable → ℕ → ℕ → ℕ → ℕ → ℕ → Cases
 deleteCases ls es x a b c d =
     given 2 (notT x) (onObject eventCount a (event es a USED) (given 4 (unused 0 b c d) (given 5 (anyone ls (eventLine a)) never)))
 
 unfoldable pub deleteEffect : Served → ℕ → After Served
 deleteEffect q a = accepted done 0 (served (q .tasks) (q .lines) (eventRow (q .objects) a (zeros eventWidth)))
 
--- ---- "32 pend (event, and-mask, or-mask, limit): both masks 0 is 4; a waiter there already is 5."
-unfoldable pub waits : List ℕ → ℕ → ℕ → ℕ → ℕ → Bool
-waits es a b c limit = eqb (matched (event es a BITS) b c) 0 && not (eqb limit 0)
+abbrev pub deleteCall : Served → ℕ → ℕ → ℕ → ℕ → ℕ → CallRule Served
+deleteCall q x a b c d = called (deleteCases (q .lines) (q .objects) x a b c d) (deleteEffect q a)
 
-unfoldable pub pendCases : List ℕ → List ℕ → List ℕ → ℕ → ℕ → ℕ → ℕ → ℕ → Cases
-pendCases ls es st x a b c d =
-    given 2 (outside x d)
+-- ---- "32 pend (event, and-mask, or-mask, limit): both masks 0 is 4; a waiter there already is 5."
+unfoldable pub waits : EventTable → ℕ → ℕ → ℕ → ℕ → Bool
+waits es a andMask orMask limit = eqb (matched (event es a BITS) andMask orMask) 0 && not (eqb limit 0)
+
+unfoldable pub pendCases : LineTable → EventTable → StateRow → ℕ → ℕ → ℕ → ℕ → ℕ → Cases
+pendCases ls es st x a andMask orMask limit =
+    given 2 (outside x limit)
     (onObject eventCount a (event es a USED)
-    (given 4 (eqb b 0 && eqb c 0)
-    (given 5 (anyone ls (eventLine a) || (waits es a b c d && idle st))
-    (given 9 (waits es a b c d && switchOff st) never))))
+    (given 4 (eqb andMask 0 && eqb orMask 0)
+    (given 5 (anyone ls (eventLine a) || (waits es a andMask orMask limit && idle st))
+    (given 9 (waits es a andMask orMask limit && switchOff st) never))))
 
 -- "Any matched: they are cleared and are the value; else as in call 22."
-unfoldable pub pendEffect : Served → List ℕ → ℕ → ℕ → ℕ → ℕ → After Served
-pendEffect q st a b c limit =
-    if (eqb (matched (event (q .objects) a BITS) b c) 0)
+unfoldable pub pendEffect : Served → StateRow → ℕ → ℕ → ℕ → ℕ → After Served
+pendEffect q st a andMask orMask limit =
+    if (eqb (matched (event (q .objects) a BITS) andMask orMask) 0)
     (if (eqb limit 0) (accepted notMet 0 q)
     (accepted nowWaiting 0
-    (requeued q (moved atBack (current st) (waiting (task (q .tasks) (current st)) atEvent a limit b c) (queue q)))))
-    (accepted done (matched (event (q .objects) a BITS) b c)
+    (requeued q (moved atBack (current st) (waiting (task (q .tasks) (current st)) atEvent a limit andMask orMask) (queue q)))))
+    (accepted done (matched (event (q .objects) a BITS) andMask orMask)
     (served (q .tasks) (q .lines)
-    (withEvent (q .objects) a BITS (cleared (event (q .objects) a BITS) (matched (event (q .objects) a BITS) b c)))))
+    (withEvent (q .objects) a BITS (cleared (event (q .objects) a BITS) (matched (event (q .objects) a BITS) andMask orMask)))))
+
+abbrev pub pendCall : Served → StateRow → ℕ → ℕ → ℕ → ℕ → ℕ → CallRule Served
+pendCall q st x a b c d = called (pendCases (q .lines) (q .objects) st x a b c d) (pendEffect q st a b c d)
 
 -- ---- "33 post (event, mask; T S I): sets bits, then by the same match serves the waiter; value 1 if it did, else 0. Bits persist."
 -- No. 8, in place of value 1: "the woken task's number, and 0 if none was woken"
-unfoldable pub postCases : List ℕ → ℕ → ℕ → ℕ → Cases
+unfoldable pub postCases : EventTable → ℕ → ℕ → ℕ → Cases
 postCases es a c d = onObject eventCount a (event es a USED) (given 4 (unused 0 0 c d) never)
 
 -- what of these bits the event's waiter matches; 0 where nobody waits
-unfoldable pub waiterMatch : List ℕ → List ℕ → ℕ → ℕ → ℕ
+unfoldable pub waiterMatch : TaskTable → LineTable → ℕ → ℕ → ℕ
 waiterMatch ts ls a bits =
     if (anyone ls (eventLine a)) (matched bits (task ts (first ls (eventLine a)) .first) (task ts (first ls (eventLine a)) .second)) 0
 
@@ -78,10 +88,13 @@ postedBits q a bits =
 abbrev pub postEffect : Served → ℕ → ℕ → After Served
 postEffect q a mask = postedBits q a (bitOr (event (q .objects) a BITS) mask)
 
+abbrev pub postCall : Served → ℕ → ℕ → ℕ → ℕ → CallRule Served
+postCall q a b c d = called (postCases (q .objects) a c d) (postEffect q a b)
+
 -- ---- the calls by number
-unfoldable pub eventCall : Served → List ℕ → ℕ → ℕ → ℕ → ℕ → ℕ → ℕ → Call Served
+unfoldable pub eventCall : Served → StateRow → ℕ → ℕ → ℕ → ℕ → ℕ → ℕ → CallRule Served
 eventCall q st x number a b c d =
-    if (eqb number 0x30) (called (createCases (q .objects) x a b c d) (createEffect q))
-    (if (eqb number 0x31) (called (deleteCases (q .lines) (q .objects) x a b c d) (deleteEffect q a))
-    (if (eqb number 0x32) (called (pendCases (q .lines) (q .objects) st x a b c d) (pendEffect q st a b c d))
-    (if (eqb number 0x33) (called (postCases (q .objects) a c d) (postEffect q a b)) (unknown q))))
+    if (eqb number 0x30) (createCall q x a b c d)
+    (if (eqb number 0x31) (deleteCall q x a b c d)
+    (if (eqb number 0x32) (pendCall q st x a b c d)
+    (if (eqb number 0x33) (postCall q a b c d) (unknown q))))

@@ -4,9 +4,10 @@ use mathlib.Core.Bool.{Bool, cond as if}
 use mathlib.Core.List.{List, []}
 use lib.Dec.{eqb, ltb}
 use lib.ListN.{length, getD}
-use Rattle.fold.specs.Lists.{without, putAt, firstWhere}
+use Rattle.rules.specs.Tables.{TaskTable, LineTable, SwiTable, taskCount, mostLevels, task, withTask, swi, PRIORITY, POSTED, ready, atSemaphore, atEvent}
+use Rattle.rules.specs.Tables.{reading, writing}
+use Rattle.basics.specs.Lists.{without, putAt, firstWhere}
 use Rattle.rules.specs.Rows.{listed, withListed}
-use Rattle.rules.specs.Tables.{taskCount, mostLevels, task, withTask, swi, PRIORITY, POSTED, ready, atSemaphore, atEvent, reading, writing}
 use Rattle.rules.specs.declared.Task.{Task}
 
 -- ---- which line is whose: "one queue for each priority", a line for each semaphore and mailbox, "the one waiter of an event"
@@ -47,40 +48,40 @@ nowhere = 255
 
 -- ---- the lines themselves
 -- those who stand in line j, the one at the front first; nobody where there is no such line
-unfoldable pub line : List ℕ → ℕ → List ℕ
+unfoldable pub line : LineTable → ℕ → List ℕ
 line ls j = if (ltb j lineCount) (listed lineMost ls (j * lineWidth)) []
 
 -- the lines, but that these stand in line j
-unfoldable pub withLine : List ℕ → ℕ → List ℕ → List ℕ
+unfoldable pub withLine : LineTable → ℕ → List ℕ → LineTable
 withLine ls j xs = if (ltb j lineCount) (withListed lineMost ls (j * lineWidth) xs) ls
 
 -- Calls reach a line of tasks in these ways only: whether anyone stands there, the first, leaving, joining at the back, and joining at a place;
 -- of the active Swis, besides, the last (`Swis.top`) and whether one is among them (`Swis.isActive`).
-abbrev pub anyone : List ℕ → ℕ → Bool
+abbrev pub anyone : LineTable → ℕ → Bool
 anyone ls j = ltb 0 (length (line ls j))
 
-abbrev pub first : List ℕ → ℕ → ℕ
+abbrev pub first : LineTable → ℕ → ℕ
 first ls j = getD (line ls j) 0 0
 
-unfoldable pub left : ℕ → ℕ → List ℕ → List ℕ
+unfoldable pub left : ℕ → ℕ → LineTable → LineTable
 left j x ls = withLine ls j (without x (line ls j))
 
 -- x behind as many as `place` says of those who stand there; a full line stays as it is
-unfoldable pub entered : (List ℕ → ℕ) → ℕ → ℕ → List ℕ → List ℕ
+unfoldable pub entered : (List ℕ → ℕ) → ℕ → ℕ → LineTable → LineTable
 entered place j x ls = if (ltb (length (line ls j)) lineMost) (withLine ls j (putAt (place (line ls j)) x (line ls j))) ls
 
 -- "Tasks join queues at the back."
 abbrev pub atBack : List ℕ → ℕ
 atBack xs = length xs
 
-abbrev pub joined : ℕ → ℕ → List ℕ → List ℕ
+abbrev pub joined : ℕ → ℕ → LineTable → LineTable
 joined j x ls = entered atBack j x ls
 
 -- "before the first waiter of lower priority"
-abbrev pub isLower : List ℕ → ℕ → ℕ → Bool
+abbrev pub isLower : TaskTable → ℕ → ℕ → Bool
 isLower ts p y = ltb (task ts y .priority) p
 
-abbrev pub byPriority : List ℕ → ℕ → List ℕ → ℕ
+abbrev pub byPriority : TaskTable → ℕ → List ℕ → ℕ
 byPriority ts p xs = firstWhere (isLower ts p) xs
 
 -- ---- where a task stands: "Each ready task stands once, in its priority's queue. Each blocked task sleeps or stands once in one semaphore's
@@ -96,19 +97,19 @@ homeBy mode priority object =
 abbrev pub homeOf : Task → ℕ
 homeOf k = homeBy (k .mode) (k .priority) (k .object)
 
-abbrev pub taskHome : List ℕ → ℕ → ℕ
+abbrev pub taskHome : TaskTable → ℕ → ℕ
 taskHome ts i = homeOf (task ts i)
 
 -- "Posted Swis stand once in their priority's queue"
-unfoldable pub swiHome : List ℕ → ℕ → ℕ
+unfoldable pub swiHome : SwiTable → ℕ → ℕ
 swiHome ws i = if (eqb (swi ws i POSTED) 1) (postedLine (swi ws i PRIORITY)) nowhere
 
 -- ---- a task moves: out of its line if it has one, its row becomes k, and into the line that k has, if any; no task i, no change
 pub record Queued : Type 0 where
-  pub tasks : List ℕ
-  pub lines : List ℕ
+  pub tasks : TaskTable
+  pub lines : LineTable
 
-abbrev pub queued : List ℕ → List ℕ → Queued
+abbrev pub queued : TaskTable → LineTable → Queued
 queued ts ls = record { tasks = ts; lines = ls }
 
 unfoldable pub moved : (List ℕ → ℕ) → ℕ → Task → Queued → Queued

@@ -6,7 +6,7 @@ use mathlib.Core.List.{List, _++_}
 use lib.Dec.{ltb}
 use lib.ListN.{length, getD, set}
 use lib.Seq.{sets}
-use Rattle.fold.specs.Lists.{zeros, reads}
+use Rattle.basics.specs.Lists.{zeros, reads}
 
 -- field f of row i of a table of n rows of w words
 unfoldable pub field : ℕ → ℕ → List ℕ → ℕ → ℕ → ℕ

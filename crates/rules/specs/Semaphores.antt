@@ -3,38 +3,51 @@ use Prim.Native.Nat.{ℕ, _+_, _-_}
 use mathlib.Core.Bool.{Bool, not, _&&_, _||_, cond as if}
 use mathlib.Core.List.{List, [], _∷_}
 use lib.Dec.{eqb, ltb, leb}
-use Rattle.fold.specs.Lists.{zeros}
-use Rattle.fold.specs.Find.{firstBelow}
-use Rattle.rules.specs.Answer.{Cases, given, onObject, never, Call, called, After, accepted, unknown, done, notMet, nowWaiting, notT, unused}
-use Rattle.rules.specs.Tables.{semaphoreCount, semaphoreWidth, semaphore, withSemaphore, semaphoreRow, task, current, atSemaphore, USED, KIND, COUNT}
+use Rattle.rules.specs.Tables.{TaskTable, LineTable, SemaphoreTable, StateRow, semaphoreCount, semaphoreWidth, semaphore, withSemaphore, semaphoreRow}
+use Rattle.rules.specs.Tables.{task, current, atSemaphore, USED, KIND, COUNT}
+use Rattle.basics.specs.Lists.{zeros}
+use Rattle.basics.specs.Find.{firstBelow}
+use Rattle.rules.specs.Answer.{Cases, given, onObject, never, CallRule, called, After, accepted, unknown, done, notMet, nowWaiting, notT, unused}
 use Rattle.rules.specs.Lines.{semaphoreLine, anyone, moved, atBack, byPriority}
 use Rattle.rules.specs.Waits.{Served, served, queue, requeued, outside, switchOff, idle, waiting, wakesFirst}
 
-unfoldable pub freeSemaphore : List ℕ → ℕ
+unfoldable pub freeSemaphore : SemaphoreTable → ℕ
 freeSemaphore ss = firstBelow semaphoreCount (λ i. eqb (semaphore ss i USED) 0)
 
 -- "kinds 0 counting, 1 binary, 2 counting by priority, 3 binary by priority"
+abbrev pub kindCount : ℕ
+kindCount = 4
+
+abbrev pub firstByPriority : ℕ
+firstByPriority = 2
+
 abbrev pub isBinary : ℕ → Bool
 isBinary kind = eqb kind 1 || eqb kind 3
 
 -- "count to 65,535 or 1"
+abbrev pub countMost : ℕ
+countMost = 65535
+
 unfoldable pub most : ℕ → ℕ
-most kind = if (isBinary kind) 1 65535
+most kind = if (isBinary kind) 1 countMost
 
 -- ---- "20 create (kind, count; T): value its number; .. count to 65,535 or 1, else 4."
-unfoldable pub createCases : List ℕ → ℕ → ℕ → ℕ → ℕ → ℕ → Cases
-createCases ss x a b c d =
+unfoldable pub createCases : SemaphoreTable → ℕ → ℕ → ℕ → ℕ → ℕ → Cases
+createCases ss x kind count c d =
     given 2 (notT x)
-    (given 4 (not (ltb a 4) || not (leb b (most a)) || unused 0 0 c d)
+    (given 4 (not (ltb kind kindCount) || not (leb count (most kind)) || unused 0 0 c d)
     (given 6 (eqb (freeSemaphore ss) semaphoreCount) never))
 
 unfoldable pub createEffect : Served → ℕ → ℕ → After Served
-createEffect q a b =
+createEffect q kind count =
     accepted done (freeSemaphore (q .objects))
-    (served (q .tasks) (q .lines) (semaphoreRow (q .objects) (freeSemaphore (q .objects)) (1 ∷ a ∷ b ∷ [])))
+    (served (q .tasks) (q .lines) (semaphoreRow (q .objects) (freeSemaphore (q .objects)) (1 ∷ kind ∷ count ∷ [])))
+
+abbrev pub createCall : Served → ℕ → ℕ → ℕ → ℕ → ℕ → CallRule Served
+createCall q x a b c d = called (createCases (q .objects) x a b c d) (createEffect q a b)
 
 -- ---- "21 delete (T), 24 reset (semaphore, count as in 20; T): 5 with waiters."
-unfoldable pub deleteCases : List ℕ → List ℕ → ℕ → ℕ → ℕ → ℕ → ℕ → Cases
+unfoldable pub deleteCases : LineTable → SemaphoreTable → ℕ → ℕ → ℕ → ℕ → ℕ → Cases
 deleteCases ls ss x a b c d =
     given 2 (notT x)
     (onObject semaphoreCount a (semaphore ss a USED)
@@ -44,33 +57,39 @@ deleteCases ls ss x a b c d =
 unfoldable pub deleteEffect : Served → ℕ → After Served
 deleteEffect q a = accepted done 0 (served (q .tasks) (q .lines) (semaphoreRow (q .objects) a (zeros semaphoreWidth)))
 
-unfoldable pub resetCases : List ℕ → List ℕ → ℕ → ℕ → ℕ → ℕ → ℕ → Cases
-resetCases ls ss x a b c d =
+abbrev pub deleteCall : Served → ℕ → ℕ → ℕ → ℕ → ℕ → CallRule Served
+deleteCall q x a b c d = called (deleteCases (q .lines) (q .objects) x a b c d) (deleteEffect q a)
+
+unfoldable pub resetCases : LineTable → SemaphoreTable → ℕ → ℕ → ℕ → ℕ → ℕ → Cases
+resetCases ls ss x a count c d =
     given 2 (notT x)
     (onObject semaphoreCount a (semaphore ss a USED)
-    (given 4 (not (leb b (most (semaphore ss a KIND))) || unused 0 0 c d)
+    (given 4 (not (leb count (most (semaphore ss a KIND))) || unused 0 0 c d)
     (given 5 (anyone ls (semaphoreLine a)) never)))
 
 unfoldable pub resetEffect : Served → ℕ → ℕ → After Served
-resetEffect q a b = accepted done 0 (served (q .tasks) (q .lines) (withSemaphore (q .objects) a COUNT b))
+resetEffect q a count = accepted done 0 (served (q .tasks) (q .lines) (withSemaphore (q .objects) a COUNT count))
+
+abbrev pub resetCall : Served → ℕ → ℕ → ℕ → ℕ → ℕ → CallRule Served
+resetCall q x a b c d = called (resetCases (q .lines) (q .objects) x a b c d) (resetEffect q a b)
 
 -- ---- "22 pend (semaphore, limit): count above 0, take one; else limit 0 answers outcome 1; else wait."
-unfoldable pub waits : List ℕ → ℕ → ℕ → Bool
+unfoldable pub waits : SemaphoreTable → ℕ → ℕ → Bool
 waits ss a limit = eqb (semaphore ss a COUNT) 0 && not (eqb limit 0)
 
-unfoldable pub pendCases : List ℕ → List ℕ → ℕ → ℕ → ℕ → ℕ → ℕ → Cases
-pendCases ss st x a b c d =
-    given 2 (outside x b)
+unfoldable pub pendCases : SemaphoreTable → StateRow → ℕ → ℕ → ℕ → ℕ → ℕ → Cases
+pendCases ss st x a limit c d =
+    given 2 (outside x limit)
     (onObject semaphoreCount a (semaphore ss a USED)
     (given 4 (unused 0 0 c d)
-    (given 5 (waits ss a b && idle st)
-    (given 9 (waits ss a b && switchOff st) never))))
+    (given 5 (waits ss a limit && idle st)
+    (given 9 (waits ss a limit && switchOff st) never))))
 
 -- "Kinds 0 and 1 wait in arrival order; 2 and 3 before the first waiter of lower priority."
-abbrev pub placeIn : ℕ → List ℕ → ℕ → List ℕ → ℕ
-placeIn kind ts p xs = if (ltb kind 2) (atBack xs) (byPriority ts p xs)
+abbrev pub placeIn : ℕ → TaskTable → ℕ → List ℕ → ℕ
+placeIn kind ts p xs = if (ltb kind firstByPriority) (atBack xs) (byPriority ts p xs)
 
-unfoldable pub pendEffect : Served → List ℕ → ℕ → ℕ → After Served
+unfoldable pub pendEffect : Served → StateRow → ℕ → ℕ → After Served
 pendEffect q st a limit =
     if (ltb 0 (semaphore (q .objects) a COUNT))
     (accepted done 0 (served (q .tasks) (q .lines) (withSemaphore (q .objects) a COUNT (semaphore (q .objects) a COUNT - 1))))
@@ -81,13 +100,16 @@ pendEffect q st a limit =
     (waiting (task (q .tasks) (current st)) atSemaphore a limit 0 0)
     (queue q)))))
 
+abbrev pub pendCall : Served → StateRow → ℕ → ℕ → ℕ → ℕ → ℕ → CallRule Served
+pendCall q st x a b c d = called (pendCases (q .objects) st x a b c d) (pendEffect q st a b)
+
 -- ---- "23 post (T S I): value 1 and the first waiter ready, or value 0 and count one up; binary at 1 stays 1; counting at 65,535 is 7 (house)."
 -- No. 8, in place of value 1: "the woken task's number, and 0 if none was woken"
-unfoldable pub postCases : List ℕ → ℕ → ℕ → ℕ → ℕ → Cases
+unfoldable pub postCases : SemaphoreTable → ℕ → ℕ → ℕ → ℕ → Cases
 postCases ss a b c d =
     onObject semaphoreCount a (semaphore ss a USED)
     (given 4 (unused 0 b c d)
-    (given 7 (not (isBinary (semaphore ss a KIND)) && leb 65535 (semaphore ss a COUNT)) never))
+    (given 7 (not (isBinary (semaphore ss a KIND)) && leb countMost (semaphore ss a COUNT)) never))
 
 -- one up, and no more than the kind's most
 unfoldable pub countUp : ℕ → ℕ → ℕ
@@ -100,11 +122,14 @@ postEffect q a =
     (served (q .tasks) (q .lines)
     (withSemaphore (q .objects) a COUNT (countUp (semaphore (q .objects) a KIND) (semaphore (q .objects) a COUNT)))))
 
+abbrev pub postCall : Served → ℕ → ℕ → ℕ → ℕ → CallRule Served
+postCall q a b c d = called (postCases (q .objects) a b c d) (postEffect q a)
+
 -- ---- the calls by number
-unfoldable pub semaphoreCall : Served → List ℕ → ℕ → ℕ → ℕ → ℕ → ℕ → ℕ → Call Served
+unfoldable pub semaphoreCall : Served → StateRow → ℕ → ℕ → ℕ → ℕ → ℕ → ℕ → CallRule Served
 semaphoreCall q st x number a b c d =
-    if (eqb number 0x20) (called (createCases (q .objects) x a b c d) (createEffect q a b))
-    (if (eqb number 0x21) (called (deleteCases (q .lines) (q .objects) x a b c d) (deleteEffect q a))
-    (if (eqb number 0x22) (called (pendCases (q .objects) st x a b c d) (pendEffect q st a b))
-    (if (eqb number 0x23) (called (postCases (q .objects) a b c d) (postEffect q a))
-    (if (eqb number 0x24) (called (resetCases (q .lines) (q .objects) x a b c d) (resetEffect q a b)) (unknown q)))))
+    if (eqb number 0x20) (createCall q x a b c d)
+    (if (eqb number 0x21) (deleteCall q x a b c d)
+    (if (eqb number 0x22) (pendCall q st x a b c d)
+    (if (eqb number 0x23) (postCall q a b c d)
+    (if (eqb number 0x24) (resetCall q x a b c d) (unknown q)))))

@@ -1,14 +1,18 @@
 -- 01, 'Sound tables': each rule once, as a formula. `sound` computes them all; `Sound` is the record of what they mean.
 use Prim.Native.Nat.{ℕ, suc, _+_, _-_, _*_}
 use mathlib.Core.Bool.{Bool, not, _&&_, cond as if}
-use mathlib.Core.List.{List}
 use lib.Dec.{ltb, leb}
 use lib.ListN.{length, getD}
-use Rattle.fold.specs.Lists.{count}
-use Rattle.fold.specs.Rule.{Rule, _is_, _isnt_, _under_, test, _and_, _or_, _gives_, each, every, holds, Means}
+use Rattle.rules.specs.Tables.{TaskTable, LineTable, SemaphoreTable, EventTable, MailboxTable, SwiTable, ClockTable, HeapMap, StateRow, taskCount}
+use Rattle.rules.specs.Tables.{swiCount, semaphoreCount, eventCount, mailboxCount, mailboxWidth, mailboxMost, clockCount, heapUnits, fewLevels}
+use Rattle.rules.specs.Tables.{mostLevels, swiLevels, levels, minusOne, forever, notInUse, ready, sleeping, atSemaphore, atEvent, reading, writing}
+use Rattle.rules.specs.Tables.{terminated, inactive, task, semaphore, event, mailbox, swi, clock, state, USED, KIND, COUNT, BITS, CAPACITY, MESSAGES}
+use Rattle.rules.specs.Tables.{PRIORITY, INITIAL, TRIGGER, POSTED, TAKEN, DEPTH, SWIS, TASKS, CURRENT, LEVELS}
+use Rattle.basics.specs.Lists.{count}
+use Rattle.basics.specs.Rule.{Rule, _is_, _isnt_, _under_, test, _and_, _or_, _gives_, each, every, holds, Means}
 use Rattle.rules.specs.Rows.{behind}
-use Rattle.rules.specs.Tables.{taskCount, swiCount, semaphoreCount, eventCount, mailboxCount, mailboxWidth, mailboxMost, clockCount, heapUnits, fewLevels, mostLevels, swiLevels, levels, minusOne, forever, notInUse, ready, sleeping, atSemaphore, atEvent, reading, writing, terminated, inactive, task, semaphore, event, mailbox, swi, clock, state, USED, KIND, COUNT, BITS, CAPACITY, MESSAGES, PRIORITY, INITIAL, TRIGGER, POSTED, TAKEN, DEPTH, SWIS, TASKS, CURRENT, LEVELS}
-use Rattle.rules.specs.Lines.{lineCount, lineMost, lineWidth, semaphoreLine, mailboxLine, eventLine, postedLine, activeLine, line, first, taskHome, swiHome}
+use Rattle.rules.specs.Lines.{lineCount, lineMost, lineWidth, semaphoreLine, mailboxLine, eventLine, postedLine, activeLine, line, first, taskHome}
+use Rattle.rules.specs.Lines.{swiHome}
 use Rattle.rules.specs.Semaphores.{most}
 use Rattle.rules.specs.Events.{matched}
 use Rattle.rules.specs.Heap.{unit, free, laterIn}
@@ -50,31 +54,31 @@ otherRule n k =
 abbrev pub taskRule : ℕ → ℕ → Task → Rule
 taskRule n i k = (i is 0 gives idleRule k) and (i isnt 0 gives otherRule n k)
 
-abbrev pub tasksRule : ℕ → List ℕ → Rule
+abbrev pub tasksRule : ℕ → TaskTable → Rule
 tasksRule n ts = each taskCount (λ i. taskRule n i (task ts i))
 
 -- ---- lines: no more than 32 in a line, and zeros behind them
-abbrev pub linesRule : List ℕ → Rule
+abbrev pub linesRule : LineTable → Rule
 linesRule ls =
     each lineCount (λ j. (getD ls (j * lineWidth) 0 under suc lineMost) and every (behind lineMost ls (j * lineWidth)) (λ x. x is 0))
 
 -- "Each ready task stands once, in its priority's queue. Each blocked task sleeps or stands once in one semaphore's or mailbox's line, or is the
 -- one waiter of an event." "Posted Swis stand once in their priority's queue"
-abbrev pub onceRule : ℕ → (ℕ → ℕ) → List ℕ → Rule
+abbrev pub onceRule : ℕ → (ℕ → ℕ) → LineTable → Rule
 onceRule n home ls = each n (λ i. home i under lineCount gives count i (line ls (home i)) is 1)
 
 -- "Nothing else stands in a queue or line or is an event's waiter."
 abbrev pub isPosted : ℕ → Bool
 isPosted j = leb (postedLine 0) j && ltb j activeLine
 
-abbrev pub homeIn : List ℕ → List ℕ → ℕ → ℕ → ℕ
+abbrev pub homeIn : TaskTable → SwiTable → ℕ → ℕ → ℕ
 homeIn ts ws j x = if (isPosted j) (swiHome ws x) (taskHome ts x)
 
-abbrev pub membersRule : List ℕ → List ℕ → List ℕ → Rule
+abbrev pub membersRule : TaskTable → SwiTable → LineTable → Rule
 membersRule ts ws ls = each lineCount (λ j. j isnt activeLine gives every (line ls j) (λ x. homeIn ts ws j x is j))
 
 -- ---- semaphores: "A semaphore with waiters has count 0, a binary one at most 1."
-unfoldable pub semaphoreRule : List ℕ → List ℕ → ℕ → Rule
+unfoldable pub semaphoreRule : SemaphoreTable → LineTable → ℕ → Rule
 semaphoreRule ss ls s =
     (semaphore ss s USED under 2)
     and (semaphore ss s USED is 0 gives (semaphore ss s KIND is 0) and (semaphore ss s COUNT is 0) and (length (line ls (semaphoreLine s)) is 0))
@@ -82,11 +86,11 @@ semaphoreRule ss ls s =
     and (semaphore ss s COUNT under suc (most (semaphore ss s KIND)))
     and (length (line ls (semaphoreLine s)) isnt 0 gives semaphore ss s COUNT is 0)
 
-abbrev pub semaphoresRule : List ℕ → List ℕ → Rule
+abbrev pub semaphoresRule : SemaphoreTable → LineTable → Rule
 semaphoresRule ss ls = each semaphoreCount (semaphoreRule ss ls)
 
 -- ---- events: "the one waiter of an event"; "An event's waiter is not satisfied by its posted bits."
-unfoldable pub eventRule : List ℕ → List ℕ → List ℕ → ℕ → Rule
+unfoldable pub eventRule : TaskTable → EventTable → LineTable → ℕ → Rule
 eventRule ts es ls e =
     (event es e USED under 2)
     and (event es e USED is 0 gives (event es e BITS is 0) and (length (line ls (eventLine e)) is 0))
@@ -94,11 +98,11 @@ eventRule ts es ls e =
     and (length (line ls (eventLine e)) isnt 0
     gives matched (event es e BITS) (task ts (first ls (eventLine e)) .first) (task ts (first ls (eventLine e)) .second) is 0)
 
-abbrev pub eventsRule : List ℕ → List ℕ → List ℕ → Rule
+abbrev pub eventsRule : TaskTable → EventTable → LineTable → Rule
 eventsRule ts es ls = each eventCount (eventRule ts es ls)
 
 -- ---- mailboxes: "Readers wait only at an empty mailbox, writers only at a full one."
-unfoldable pub mailboxRule : List ℕ → List ℕ → List ℕ → ℕ → Rule
+unfoldable pub mailboxRule : TaskTable → MailboxTable → LineTable → ℕ → Rule
 mailboxRule ts ms ls m =
     (mailbox ms m CAPACITY under suc mailboxMost)
     and (mailbox ms m MESSAGES under suc (mailbox ms m CAPACITY))
@@ -108,11 +112,11 @@ mailboxRule ts ms ls m =
     (task ts x .mode is reading gives mailbox ms m MESSAGES is 0)
     and (task ts x .mode is writing gives mailbox ms m MESSAGES is mailbox ms m CAPACITY))
 
-abbrev pub mailboxesRule : List ℕ → List ℕ → List ℕ → Rule
+abbrev pub mailboxesRule : TaskTable → MailboxTable → LineTable → Rule
 mailboxesRule ts ms ls = each mailboxCount (mailboxRule ts ms ls)
 
 -- ---- Swis: "the taken trigger of a Swi not active" is 0, and so that of one not in use, which is not active
-unfoldable pub swiRule : List ℕ → List ℕ → ℕ → Rule
+unfoldable pub swiRule : SwiTable → LineTable → ℕ → Rule
 swiRule ws ls i =
     (swi ws i USED under 2)
     and (swi ws i USED is 0
@@ -121,33 +125,33 @@ swiRule ws ls i =
     and (swi ws i POSTED under 2)
     and (count i (line ls activeLine) is 0 gives swi ws i TAKEN is 0)
 
-abbrev pub swisRule : List ℕ → List ℕ → Rule
+abbrev pub swisRule : SwiTable → LineTable → Rule
 swisRule ws ls = each swiCount (swiRule ws ls)
 
 -- "active Swis are in use and rise strictly in priority"
-abbrev pub activeRule : List ℕ → List ℕ → Rule
+abbrev pub activeRule : SwiTable → LineTable → Rule
 activeRule ws ls =
     every (line ls activeLine) (λ x. swi ws x USED is 1)
     and each (length (line ls activeLine) - 1) (λ k.
     swi ws (getD (line ls activeLine) k 0) PRIORITY under swi ws (getD (line ls activeLine) (suc k) 0) PRIORITY)
 
 -- ---- clocks: "a clock names a Swi in use"; "first ticks from 1"
-unfoldable pub clockRule : List ℕ → Clock → Rule
+unfoldable pub clockRule : SwiTable → Clock → Rule
 clockRule ws k =
     (k .used under 2)
     and (k .used is 0 gives (k .swi is 0) and (k .first is 0) and (k .period is 0) and (k .left is 0))
     and (k .used is 1 gives (swi ws (k .swi) USED is 1) and (k .first isnt 0))
 
-abbrev pub clocksRule : List ℕ → List ℕ → Rule
+abbrev pub clocksRule : ClockTable → SwiTable → Rule
 clocksRule cs ws = each clockCount (λ n. clockRule ws (clock cs n))
 
 -- ---- the heap: "A heap entry is free, first of a block or later in one; a later one never stands first or after a free one."
-abbrev pub heapRule : List ℕ → Rule
+abbrev pub heapRule : HeapMap → Rule
 heapRule h = each heapUnits (λ u. (unit h u under 3) and (unit h u is laterIn gives (u isnt 0) and (unit h (u - 1) isnt free)))
 
 -- ---- the state: "Interrupt depth 0 to 8; a switch for Swis and one for tasks"; "The current task is ready"; No. 14: "The number of levels, 16 or
 -- 32"
-abbrev pub stateRule : List ℕ → List ℕ → Rule
+abbrev pub stateRule : TaskTable → StateRow → Rule
 stateRule ts st =
     (state st DEPTH under 9)
     and (state st SWIS under 2)
@@ -157,7 +161,7 @@ stateRule ts st =
     and (state st LEVELS is fewLevels or state st LEVELS is mostLevels)
 
 -- "and the dispatch rule has nothing left to do"
-abbrev pub dispatchRule : List ℕ → List ℕ → List ℕ → Rule
+abbrev pub dispatchRule : SwiTable → LineTable → StateRow → Rule
 dispatchRule ws ls st = test (not (swiDue ws ls st)) and (test (taskDue ls st) gives state st CURRENT is front (levels st) ls)
 
 -- ---- all of them

@@ -1,10 +1,9 @@
 -- One call: from tables and a call to the next tables, the answer and the running thread. `step` is a call on sound tables, `call` tests first.
 use Prim.Native.Nat.{ℕ, _+_}
 use mathlib.Core.Bool.{Bool, _&&_, cond as if}
-use mathlib.Core.List.{List}
 use lib.Dec.{eqb, ltb, leb}
-use Rattle.rules.specs.Answer.{Call, called, After, after, answered, answer, named, unknown}
-use Rattle.rules.specs.Tables.{tables}
+use Rattle.rules.specs.Tables.{LineTable, SwiTable, ClockTable, HeapMap, StateRow, tables}
+use Rattle.rules.specs.Answer.{CallRule, called, After, after, answered, answer, named, unknown}
 use Rattle.rules.specs.Lines.{Queued, queued}
 use Rattle.rules.specs.Waits.{Served, served}
 use Rattle.rules.specs.Swis.{Posts, posts, swiCall}
@@ -39,10 +38,10 @@ withEvents t q = tables (q .tasks) (q .lines) (t .semaphores) (q .objects) (t .m
 abbrev pub withMailboxes : Tables → Served → Tables
 withMailboxes t q = tables (q .tasks) (q .lines) (t .semaphores) (t .events) (q .objects) (t .swis) (t .clocks) (t .heap) (t .state)
 
-abbrev pub withClocks : Tables → List ℕ → Tables
+abbrev pub withClocks : Tables → ClockTable → Tables
 withClocks t cs = tables (t .tasks) (t .lines) (t .semaphores) (t .events) (t .mailboxes) (t .swis) cs (t .heap) (t .state)
 
-abbrev pub withHeap : Tables → List ℕ → Tables
+abbrev pub withHeap : Tables → HeapMap → Tables
 withHeap t h = tables (t .tasks) (t .lines) (t .semaphores) (t .events) (t .mailboxes) (t .swis) (t .clocks) h (t .state)
 
 abbrev pub withTicked : Tables → Ticked → Tables
@@ -52,14 +51,14 @@ abbrev pub withDispatched : Tables → Dispatched → Tables
 withDispatched t x = tables (t .tasks) (x .lines) (t .semaphores) (t .events) (t .mailboxes) (x .swis) (t .clocks) (t .heap) (x .state)
 
 -- a kind's call as a call on all tables
-abbrev pub over : {A : Type 0} → (A → Tables) → Call A → Call Tables
+abbrev pub over : {A : Type 0} → (A → Tables) → CallRule A → CallRule Tables
 over put c = called (c .cases) (after (c .effect .answer) (put (c .effect .next)))
 
 -- ---- "Call numbers fall into ranges of sixteen, one range for each kind (hexadecimal)."
 abbrev pub inRange : ℕ → ℕ → Bool
 inRange number from = leb from number && ltb number (from + 16)
 
-unfoldable pub callOf : Tables → ℕ → ℕ → ℕ → ℕ → ℕ → ℕ → Call Tables
+unfoldable pub callOf : Tables → ℕ → ℕ → ℕ → ℕ → ℕ → ℕ → CallRule Tables
 callOf t x number a b c d =
     if (inRange number 0x00) (over (withQueued t) (taskCall (queued (t .tasks) (t .lines)) (t .state) x number a b c d))
     (if (inRange number 0x10) (over (withPosts t) (swiCall (posts (t .swis) (t .lines)) (t .clocks) (t .state) x number a b c d))
@@ -73,7 +72,7 @@ callOf t x number a b c d =
     (unknown t))))))))
 
 -- ---- dispatch follows each accepted call, and the running thread is given
-abbrev pub settled : ℕ → List ℕ → List ℕ → List ℕ → Dispatched
+abbrev pub settled : ℕ → SwiTable → LineTable → StateRow → Dispatched
 settled code ws ls st = if (eqb code 0) (dispatched ws ls st) (dispatchedOf ws ls st)
 
 abbrev pub stepOf : Tables → Answer → Thread → Step

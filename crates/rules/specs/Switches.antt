@@ -1,11 +1,10 @@
 -- 01, 'Switches', as No. 10 amends it: calls 74, 75, 77 and 78; 76, the tick, is in Tick.
 use Prim.Native.Nat.{ℕ, _+_, _-_}
 use mathlib.Core.Bool.{Bool, not, _&&_, _||_, cond as if}
-use mathlib.Core.List.{List}
 use lib.Bits.{bitAnd, bitOr}
 use lib.Dec.{eqb, ltb}
-use Rattle.rules.specs.Answer.{Cases, given, never, After, accepted, done, S, notI, notTS, unused}
-use Rattle.rules.specs.Tables.{state, withState, DEPTH, SWIS, TASKS}
+use Rattle.rules.specs.Tables.{StateRow, mostDepth, state, withState, DEPTH, SWIS, TASKS}
+use Rattle.rules.specs.Answer.{Cases, given, never, CallRule, called, After, accepted, done, S, notI, notTS, unused}
 
 -- ---- No. 10: "77 (which; T S) turns off Swis (1), tasks (2) or both (3)": the bits by which a call names the switches
 abbrev pub swisBit : ℕ
@@ -30,11 +29,11 @@ off = 0
 abbrev pub setting : ℕ → ℕ → ℕ
 setting switch bit = if (eqb switch off) 0 bit
 
-abbrev pub settings : List ℕ → ℕ
+abbrev pub settings : StateRow → ℕ
 settings st = bitOr (setting (state st SWIS) swisBit) (setting (state st TASKS) tasksBit)
 
 -- the switches that these bits name are v now, and the others as they were
-abbrev pub turned : ℕ → ℕ → List ℕ → List ℕ
+abbrev pub turned : ℕ → ℕ → StateRow → StateRow
 turned bits v st =
     let swis = if (has bits swisBit) (withState st SWIS v) st in
     if (has bits tasksBit) (withState swis TASKS v) swis
@@ -59,23 +58,35 @@ unfoldable pub restoreCases : ℕ → ℕ → ℕ → ℕ → ℕ → Cases
 restoreCases x which key c d = given 2 (mayNotName x which) (given 4 (badWhich which || badKey which key || unused 0 0 c d) never)
 
 -- "turns off Swis (1), tasks (2) or both (3) and answers the named ones' old settings in the same bits"
-unfoldable pub offEffect : List ℕ → ℕ → After (List ℕ)
+unfoldable pub offEffect : StateRow → ℕ → After StateRow
 offEffect st which = accepted done (bitAnd (settings st) which) (turned which off st)
 
+abbrev pub offCall : StateRow → ℕ → ℕ → ℕ → ℕ → ℕ → CallRule StateRow
+offCall st x a b c d = called (offCases x a b c d) (offEffect st a)
+
 -- "78 (which, key; T S) turns on those of the named switches whose bit in the key is set and changes no other"
-unfoldable pub restoreEffect : List ℕ → ℕ → ℕ → After (List ℕ)
+unfoldable pub restoreEffect : StateRow → ℕ → ℕ → After StateRow
 restoreEffect st which key = accepted done 0 (turned (bitAnd which key) on st)
 
--- ---- "74 interrupt in (T S I), 7 at depth 8; 75 out, 76 tick (I)." "Interrupt depth 0 to 8"
-unfoldable pub inCases : List ℕ → ℕ → ℕ → ℕ → ℕ → Cases
-inCases st a b c d = given 4 (unused a b c d) (given 7 (not (ltb (state st DEPTH) 8)) never)
+abbrev pub restoreCall : StateRow → ℕ → ℕ → ℕ → ℕ → ℕ → CallRule StateRow
+restoreCall st x a b c d = called (restoreCases x a b c d) (restoreEffect st a b)
 
-unfoldable pub inEffect : List ℕ → After (List ℕ)
-inEffect st = accepted done 0 (if (ltb (state st DEPTH) 8) (withState st DEPTH (state st DEPTH + 1)) st)
+-- ---- "74 interrupt in (T S I), 7 at depth 8; 75 out, 76 tick (I)." "Interrupt depth 0 to 8"
+unfoldable pub inCases : StateRow → ℕ → ℕ → ℕ → ℕ → Cases
+inCases st a b c d = given 4 (unused a b c d) (given 7 (not (ltb (state st DEPTH) mostDepth)) never)
+
+unfoldable pub inEffect : StateRow → After StateRow
+inEffect st = accepted done 0 (if (ltb (state st DEPTH) mostDepth) (withState st DEPTH (state st DEPTH + 1)) st)
+
+abbrev pub inCall : StateRow → ℕ → ℕ → ℕ → ℕ → CallRule StateRow
+inCall st a b c d = called (inCases st a b c d) (inEffect st)
 
 -- of 75 out and of the tick, 76, which an interrupt alone may make
 unfoldable pub interruptCases : ℕ → ℕ → ℕ → ℕ → ℕ → Cases
 interruptCases x a b c d = given 2 (notI x) (given 4 (unused a b c d) never)
 
-unfoldable pub outEffect : List ℕ → After (List ℕ)
+unfoldable pub outEffect : StateRow → After StateRow
 outEffect st = accepted done 0 (withState st DEPTH (state st DEPTH - 1))
+
+abbrev pub outCall : StateRow → ℕ → ℕ → ℕ → ℕ → ℕ → CallRule StateRow
+outCall st x a b c d = called (interruptCases x a b c d) (outEffect st)

@@ -10,6 +10,34 @@ use Rattle.rules.specs.declared.Tables.{Tables}
 use Rattle.rules.specs.declared.Task.{Task}
 use Rattle.rules.specs.declared.Clock.{Clock}
 
+-- ---- each table as the list of its words
+abbrev pub TaskTable : Type 0
+TaskTable = List ℕ
+
+abbrev pub LineTable : Type 0
+LineTable = List ℕ
+
+abbrev pub SemaphoreTable : Type 0
+SemaphoreTable = List ℕ
+
+abbrev pub EventTable : Type 0
+EventTable = List ℕ
+
+abbrev pub MailboxTable : Type 0
+MailboxTable = List ℕ
+
+abbrev pub SwiTable : Type 0
+SwiTable = List ℕ
+
+abbrev pub ClockTable : Type 0
+ClockTable = List ℕ
+
+abbrev pub HeapMap : Type 0
+HeapMap = List ℕ
+
+abbrev pub StateRow : Type 0
+StateRow = List ℕ
+
 -- ---- "32 tasks (0 to 31), 16 Swis, 16 semaphores, 8 events, 8 mailboxes of 1 to 8 messages, 16 clocks", and each row's words
 abbrev pub taskCount : ℕ
 taskCount = 32
@@ -66,6 +94,17 @@ swiLevels = 16
 abbrev pub heapUnits : ℕ
 heapUnits = 256
 
+abbrev pub unitBytes : ℕ
+unitBytes = 8
+
+-- "Interrupt depth 0 to 8"
+abbrev pub mostDepth : ℕ
+mostDepth = 8
+
+-- the words of the state's one row
+abbrev pub stateWidth : ℕ
+stateWidth = 6
+
 -- "All arguments are unsigned 32-bit; priority -1 is written 4,294,967,295"
 abbrev pub wordEnd : ℕ
 wordEnd = 2 ^ 32
@@ -107,7 +146,7 @@ inactive = 8
 
 -- task i's row; all 0 where there is none. `object` is the semaphore, event or mailbox at which it waits, by its mode; `left` the ticks left of a
 -- limited wait or sleep, 0 without end; `first` and `second` are an event waiter's and-mask and or-mask, and `first` a writer's word
-unfoldable pub task : List ℕ → ℕ → Task
+unfoldable pub task : TaskTable → ℕ → Task
 task ts i =
     record {
       mode = field taskWidth taskCount ts i 0;
@@ -123,62 +162,62 @@ task ts i =
 abbrev pub taskWords : Task → List ℕ
 taskWords k = k .mode ∷ k .priority ∷ k .object ∷ k .left ∷ k .first ∷ k .second ∷ k .outcome ∷ k .value ∷ []
 
-unfoldable pub withTask : List ℕ → ℕ → Task → List ℕ
+unfoldable pub withTask : TaskTable → ℕ → Task → TaskTable
 withTask ts i k = withRow taskWidth taskCount ts i (taskWords k)
 
 abbrev pub noTask : Task
 noTask = record { mode = notInUse; priority = 0; object = 0; left = 0; first = 0; second = 0; outcome = 0; value = 0 }
 
 -- ---- semaphores
-abbrev pub semaphore : List ℕ → ℕ → ℕ → ℕ
+abbrev pub semaphore : SemaphoreTable → ℕ → ℕ → ℕ
 semaphore ss i f = field semaphoreWidth semaphoreCount ss i f
 
-abbrev pub withSemaphore : List ℕ → ℕ → ℕ → ℕ → List ℕ
+abbrev pub withSemaphore : SemaphoreTable → ℕ → ℕ → ℕ → SemaphoreTable
 withSemaphore ss i f x = withField semaphoreWidth semaphoreCount ss i f x
 
-abbrev pub semaphoreRow : List ℕ → ℕ → List ℕ → List ℕ
+abbrev pub semaphoreRow : SemaphoreTable → ℕ → List ℕ → SemaphoreTable
 semaphoreRow ss i ws = withRow semaphoreWidth semaphoreCount ss i ws
 
 -- ---- events
-abbrev pub event : List ℕ → ℕ → ℕ → ℕ
+abbrev pub event : EventTable → ℕ → ℕ → ℕ
 event es i f = field eventWidth eventCount es i f
 
-abbrev pub withEvent : List ℕ → ℕ → ℕ → ℕ → List ℕ
+abbrev pub withEvent : EventTable → ℕ → ℕ → ℕ → EventTable
 withEvent es i f x = withField eventWidth eventCount es i f x
 
-abbrev pub eventRow : List ℕ → ℕ → List ℕ → List ℕ
+abbrev pub eventRow : EventTable → ℕ → List ℕ → EventTable
 eventRow es i ws = withRow eventWidth eventCount es i ws
 
 -- ---- mailboxes: a capacity of 0 is 'not in use'
-abbrev pub mailbox : List ℕ → ℕ → ℕ → ℕ
+abbrev pub mailbox : MailboxTable → ℕ → ℕ → ℕ
 mailbox ms i f = field mailboxWidth mailboxCount ms i f
 
-abbrev pub withMailbox : List ℕ → ℕ → ℕ → ℕ → List ℕ
+abbrev pub withMailbox : MailboxTable → ℕ → ℕ → ℕ → MailboxTable
 withMailbox ms i f x = withField mailboxWidth mailboxCount ms i f x
 
-abbrev pub mailboxRow : List ℕ → ℕ → List ℕ → List ℕ
+abbrev pub mailboxRow : MailboxTable → ℕ → List ℕ → MailboxTable
 mailboxRow ms i ws = withRow mailboxWidth mailboxCount ms i ws
 
 -- the messages of mailbox i, the oldest first
-unfoldable pub messages : List ℕ → ℕ → List ℕ
+unfoldable pub messages : MailboxTable → ℕ → List ℕ
 messages ms i = if (ltb i mailboxCount) (listed mailboxMost ms (i * mailboxWidth + 1)) []
 
 -- more than a row has room for changes nothing
-unfoldable pub withMessages : List ℕ → ℕ → List ℕ → List ℕ
+unfoldable pub withMessages : MailboxTable → ℕ → List ℕ → MailboxTable
 withMessages ms i xs = if (ltb i mailboxCount && leb (length xs) mailboxMost) (withListed mailboxMost ms (i * mailboxWidth + 1) xs) ms
 
 -- ---- Swis
-abbrev pub swi : List ℕ → ℕ → ℕ → ℕ
+abbrev pub swi : SwiTable → ℕ → ℕ → ℕ
 swi ws i f = field swiWidth swiCount ws i f
 
-abbrev pub withSwi : List ℕ → ℕ → ℕ → ℕ → List ℕ
+abbrev pub withSwi : SwiTable → ℕ → ℕ → ℕ → SwiTable
 withSwi ws i f x = withField swiWidth swiCount ws i f x
 
-abbrev pub swiRow : List ℕ → ℕ → List ℕ → List ℕ
+abbrev pub swiRow : SwiTable → ℕ → List ℕ → SwiTable
 swiRow ws i r = withRow swiWidth swiCount ws i r
 
 -- ---- clocks: no ticks left is 'stopped'
-unfoldable pub clock : List ℕ → ℕ → Clock
+unfoldable pub clock : ClockTable → ℕ → Clock
 clock cs i =
     record {
       used = field clockWidth clockCount cs i 0;
@@ -191,17 +230,17 @@ clock cs i =
 abbrev pub clockWords : Clock → List ℕ
 clockWords c = c .used ∷ c .swi ∷ c .first ∷ c .period ∷ c .left ∷ []
 
-unfoldable pub withClock : List ℕ → ℕ → Clock → List ℕ
+unfoldable pub withClock : ClockTable → ℕ → Clock → ClockTable
 withClock cs i c = withRow clockWidth clockCount cs i (clockWords c)
 
 abbrev pub noClock : Clock
 noClock = record { used = 0; swi = 0; first = 0; period = 0; left = 0 }
 
 -- ---- the state: "Interrupt depth 0 to 8; a switch for Swis and one for tasks; the tick count"; the current task; and the number of levels
-abbrev pub state : List ℕ → ℕ → ℕ
+abbrev pub state : StateRow → ℕ → ℕ
 state st f = getD st f 0
 
-abbrev pub withState : List ℕ → ℕ → ℕ → List ℕ
+abbrev pub withState : StateRow → ℕ → ℕ → StateRow
 withState st f x = set st f x
 
 -- ---- the words' names
@@ -263,20 +302,20 @@ abbrev pub LEVELS : ℕ
 LEVELS = 5
 
 -- No. 14: "The number of levels, 16 or 32, becomes part of the tables"; another number counts as 16
-unfoldable pub levels : List ℕ → ℕ
+unfoldable pub levels : StateRow → ℕ
 levels st = if (eqb (state st LEVELS) mostLevels) mostLevels fewLevels
 
 -- the current task; a number that is no task's counts as 0
-unfoldable pub current : List ℕ → ℕ
+unfoldable pub current : StateRow → ℕ
 current st = if (ltb (state st CURRENT) taskCount) (state st CURRENT) 0
 
 -- ---- all tables: tasks, lines, semaphores, events, mailboxes, Swis, clocks, heap, state
-abbrev pub tables : List ℕ → List ℕ → List ℕ → List ℕ → List ℕ → List ℕ → List ℕ → List ℕ → List ℕ → Tables
+abbrev pub tables : TaskTable → LineTable → SemaphoreTable → EventTable → MailboxTable → SwiTable → ClockTable → HeapMap → StateRow → Tables
 tables ts ls ss es ms ws cs h st =
     record { tasks = ts; lines = ls; semaphores = ss; events = es; mailboxes = ms; swis = ws; clocks = cs; heap = h; state = st }
 
 -- the same tables with the most levels
-abbrev pub raisedState : List ℕ → List ℕ
+abbrev pub raisedState : StateRow → StateRow
 raisedState st = withState st LEVELS mostLevels
 
 abbrev pub raised : Tables → Tables

@@ -1,11 +1,11 @@
 -- 01, 'Tasks': calls 00 to 06.
 use Prim.Native.Nat.{ℕ}
 use mathlib.Core.Bool.{Bool, not, _&&_, _||_, cond as if}
-use mathlib.Core.List.{List}
 use lib.Dec.{eqb, ltb, leb}
-use Rattle.fold.specs.Find.{firstBelow}
-use Rattle.rules.specs.Answer.{Cases, given, onObject, never, Call, called, After, accepted, unknown, done, nowWaiting, notT, notTS, unused}
-use Rattle.rules.specs.Tables.{taskCount, levels, minusOne, forever, notInUse, ready, sleeping, writing, terminated, inactive, task, withTask, noTask, current}
+use Rattle.rules.specs.Tables.{TaskTable, StateRow, taskCount, levels, minusOne, forever, notInUse, ready, sleeping, writing, terminated, inactive, task}
+use Rattle.rules.specs.Tables.{withTask, noTask, current}
+use Rattle.basics.specs.Find.{firstBelow}
+use Rattle.rules.specs.Answer.{Cases, given, onObject, never, CallRule, called, After, accepted, unknown, done, nowWaiting, notT, notTS, unused}
 use Rattle.rules.specs.Lines.{Queued, queued, moved, atBack}
 use Rattle.rules.specs.Waits.{switchOff, idle, waiting}
 use Rattle.rules.specs.declared.Task.{Task}
@@ -15,7 +15,7 @@ unfoldable pub isPriority : ℕ → ℕ → Bool
 isPriority n p = eqb p minusOne || (ltb 0 p && ltb p n)
 
 -- "a new object takes the lowest free number"; 32 where none is free
-unfoldable pub freeTask : List ℕ → ℕ
+unfoldable pub freeTask : TaskTable → ℕ
 freeTask ts = firstBelow taskCount (λ i. eqb (task ts i .mode) notInUse)
 
 abbrev pub blocked : ℕ → Bool
@@ -36,17 +36,20 @@ placedAt k p =
     }
 
 -- ---- "00 create (priority; T): value its number; ready at once unless -1."
-unfoldable pub createCases : List ℕ → List ℕ → ℕ → ℕ → ℕ → ℕ → ℕ → Cases
-createCases ts st x a b c d =
+unfoldable pub createCases : TaskTable → StateRow → ℕ → ℕ → ℕ → ℕ → ℕ → Cases
+createCases ts st x priority b c d =
     given 2 (notT x)
-    (given 4 (not (isPriority (levels st) a) || unused 0 b c d)
+    (given 4 (not (isPriority (levels st) priority) || unused 0 b c d)
     (given 6 (eqb (freeTask ts) taskCount) never))
 
 unfoldable pub createEffect : Queued → ℕ → After Queued
-createEffect q a = accepted done (freeTask (q .tasks)) (moved atBack (freeTask (q .tasks)) (placedAt noTask a) q)
+createEffect q priority = accepted done (freeTask (q .tasks)) (moved atBack (freeTask (q .tasks)) (placedAt noTask priority) q)
+
+abbrev pub createCall : Queued → StateRow → ℕ → ℕ → ℕ → ℕ → ℕ → CallRule Queued
+createCall q st x a b c d = called (createCases (q .tasks) st x a b c d) (createEffect q a)
 
 -- ---- "01 delete (T): terminated or inactive only, else 5."
-unfoldable pub deleteCases : List ℕ → ℕ → ℕ → ℕ → ℕ → ℕ → Cases
+unfoldable pub deleteCases : TaskTable → ℕ → ℕ → ℕ → ℕ → ℕ → Cases
 deleteCases ts x a b c d =
     given 2 (notT x)
     (onObject taskCount a (task ts a .mode)
@@ -56,13 +59,18 @@ deleteCases ts x a b c d =
 unfoldable pub deleteEffect : Queued → ℕ → After Queued
 deleteEffect q a = accepted done 0 (queued (withTask (q .tasks) a noTask) (q .lines))
 
+abbrev pub deleteCall : Queued → ℕ → ℕ → ℕ → ℕ → ℕ → CallRule Queued
+deleteCall q x a b c d = called (deleteCases (q .tasks) x a b c d) (deleteEffect q a)
+
 -- ---- "02 set priority (task, priority; T S): value the old one; 5 for task 0, a terminated task, or -1 for the current or a blocked task"
-unfoldable pub setPriorityCases : List ℕ → List ℕ → ℕ → ℕ → ℕ → ℕ → ℕ → Cases
-setPriorityCases ts st x a b c d =
+unfoldable pub setPriorityCases : TaskTable → StateRow → ℕ → ℕ → ℕ → ℕ → ℕ → Cases
+setPriorityCases ts st x a priority c d =
     given 2 (notTS x)
     (onObject taskCount a (task ts a .mode)
-    (given 4 (not (isPriority (levels st) b) || unused 0 0 c d)
-    (given 5 (eqb a 0 || eqb (task ts a .mode) terminated || (eqb b minusOne && (eqb a (current st) || blocked (task ts a .mode)))) never)))
+    (given 4 (not (isPriority (levels st) priority) || unused 0 0 c d)
+    (given 5
+    (eqb a 0 || eqb (task ts a .mode) terminated || (eqb priority minusOne && (eqb a (current st) || blocked (task ts a .mode))))
+    never)))
 
 abbrev pub withPriority : Task → ℕ → Task
 withPriority k p =
@@ -88,51 +96,66 @@ reprioritized q a p =
 unfoldable pub setPriorityEffect : Queued → ℕ → ℕ → After Queued
 setPriorityEffect q a p = accepted done (task (q .tasks) a .priority) (reprioritized q a p)
 
+abbrev pub setPriorityCall : Queued → StateRow → ℕ → ℕ → ℕ → ℕ → ℕ → CallRule Queued
+setPriorityCall q st x a b c d = called (setPriorityCases (q .tasks) st x a b c d) (setPriorityEffect q a b)
+
 -- ---- "03 yield (T): to the back of its queue."
-unfoldable pub yieldCases : List ℕ → ℕ → ℕ → ℕ → ℕ → ℕ → Cases
+unfoldable pub yieldCases : StateRow → ℕ → ℕ → ℕ → ℕ → ℕ → Cases
 yieldCases st x a b c d = given 2 (notT x) (given 4 (unused a b c d) (given 9 (switchOff st) never))
 
-unfoldable pub yieldEffect : Queued → List ℕ → After Queued
+unfoldable pub yieldEffect : Queued → StateRow → After Queued
 yieldEffect q st = accepted done 0 (moved atBack (current st) (task (q .tasks) (current st)) q)
 
+abbrev pub yieldCall : Queued → StateRow → ℕ → ℕ → ℕ → ℕ → ℕ → CallRule Queued
+yieldCall q st x a b c d = called (yieldCases st x a b c d) (yieldEffect q st)
+
 -- ---- "04 end (T): terminated, priority and last result kept."
-unfoldable pub endCases : List ℕ → ℕ → ℕ → ℕ → ℕ → ℕ → Cases
+unfoldable pub endCases : StateRow → ℕ → ℕ → ℕ → ℕ → ℕ → Cases
 endCases st x a b c d = given 2 (notT x) (given 4 (unused a b c d) (given 5 (idle st) (given 9 (switchOff st) never)))
 
 abbrev pub ended : Task → Task
 ended k =
     record { mode = terminated; priority = k .priority; object = 0; left = 0; first = 0; second = 0; outcome = k .outcome; value = k .value }
 
-unfoldable pub endEffect : Queued → List ℕ → After Queued
+unfoldable pub endEffect : Queued → StateRow → After Queued
 endEffect q st = accepted done 0 (moved atBack (current st) (ended (task (q .tasks) (current st))) q)
 
+abbrev pub endCall : Queued → StateRow → ℕ → ℕ → ℕ → ℕ → ℕ → CallRule Queued
+endCall q st x a b c d = called (endCases st x a b c d) (endEffect q st)
+
 -- ---- "05 sleep (n; T): n = 0 does nothing, n = 4,294,967,295 is 4, else outcome 2."
-unfoldable pub sleepCases : List ℕ → ℕ → ℕ → ℕ → ℕ → ℕ → Cases
+unfoldable pub sleepCases : StateRow → ℕ → ℕ → ℕ → ℕ → ℕ → Cases
 sleepCases st x n b c d =
     given 2 (notT x)
     (given 4 (eqb n forever || unused 0 b c d)
     (given 5 (ltb 0 n && idle st)
     (given 9 (ltb 0 n && switchOff st) never)))
 
-unfoldable pub sleepEffect : Queued → List ℕ → ℕ → After Queued
+unfoldable pub sleepEffect : Queued → StateRow → ℕ → After Queued
 sleepEffect q st n =
     if (eqb n 0) (accepted done 0 q)
     (accepted nowWaiting 0 (moved atBack (current st) (waiting (task (q .tasks) (current st)) sleeping 0 n 0 0) q))
 
+abbrev pub sleepCall : Queued → StateRow → ℕ → ℕ → ℕ → ℕ → ℕ → CallRule Queued
+sleepCall q st x a b c d = called (sleepCases st x a b c d) (sleepEffect q st a)
+
 -- ---- "06 last result (task; T S I): outcome and value of its last ended wait or sleep (a call done at once is none)."
-unfoldable pub lastResultCases : List ℕ → ℕ → ℕ → ℕ → ℕ → Cases
+unfoldable pub lastResultCases : TaskTable → ℕ → ℕ → ℕ → ℕ → Cases
 lastResultCases ts a b c d = onObject taskCount a (task ts a .mode) (given 4 (unused 0 b c d) never)
 
 unfoldable pub lastResultEffect : Queued → ℕ → After Queued
 lastResultEffect q a = accepted (task (q .tasks) a .outcome) (task (q .tasks) a .value) q
 
+abbrev pub lastResultCall : Queued → ℕ → ℕ → ℕ → ℕ → CallRule Queued
+lastResultCall q a b c d = called (lastResultCases (q .tasks) a b c d) (lastResultEffect q a)
+
 -- ---- the calls by number
-unfoldable pub taskCall : Queued → List ℕ → ℕ → ℕ → ℕ → ℕ → ℕ → ℕ → Call Queued
+unfoldable pub taskCall : Queued → StateRow → ℕ → ℕ → ℕ → ℕ → ℕ → ℕ → CallRule Queued
 taskCall q st x number a b c d =
-    if (eqb number 0x00) (called (createCases (q .tasks) st x a b c d) (createEffect q a))
-    (if (eqb number 0x01) (called (deleteCases (q .tasks) x a b c d) (deleteEffect q a))
-    (if (eqb number 0x02) (called (setPriorityCases (q .tasks) st x a b c d) (setPriorityEffect q a b))
-    (if (eqb number 0x03) (called (yieldCases st x a b c d) (yieldEffect q st))
-    (if (eqb number 0x04) (called (endCases st x a b c d) (endEffect q st))
-    (if (eqb number 0x05) (called (sleepCases st x a b c d) (sleepEffect q st a))
-    (if (eqb number 0x06) (called (lastResultCases (q .tasks) a b c d) (lastResultEffect q a)) (unknown q)))))))
+    if (eqb number 0x00) (createCall q st x a b c d)
+    (if (eqb number 0x01) (deleteCall q x a b c d)
+    (if (eqb number 0x02) (setPriorityCall q st x a b c d)
+    (if (eqb number 0x03) (yieldCall q st x a b c d)
+    (if (eqb number 0x04) (endCall q st x a b c d)
+    (if (eqb number 0x05) (sleepCall q st x a b c d)
+    (if (eqb number 0x06) (lastResultCall q a b c d) (unknown q)))))))

@@ -1,16 +1,16 @@
 -- 01, 'Tick': call 76, and the switches' calls by number.
 use Prim.Native.Nat.{ℕ, _+_, _-_, _%_}
 use mathlib.Core.Bool.{Bool, true, false, cond as if}
-use mathlib.Core.List.{List}
 use lib.Dec.{eqb}
-use Rattle.fold.specs.Find.{rising}
-use Rattle.rules.specs.Answer.{Call, called, After, after, accepted, unknown, done}
-use Rattle.rules.specs.Tables.{taskCount, clockCount, wordEnd, task, withTask, clock, withClock, state, withState, sleeping, TICK}
+use Rattle.rules.specs.Tables.{TaskTable, LineTable, SwiTable, ClockTable, StateRow, taskCount, clockCount, wordEnd, task, withTask, clock, withClock}
+use Rattle.rules.specs.Tables.{state, withState, sleeping, TICK}
+use Rattle.basics.specs.Find.{rising}
+use Rattle.rules.specs.Answer.{CallRule, called, After, after, accepted, unknown, done}
 use Rattle.rules.specs.Lines.{Queued, queued}
 use Rattle.rules.specs.Waits.{woken}
 use Rattle.rules.specs.Swis.{Posts, posts, posted}
 use Rattle.rules.specs.Clocks.{withLeft}
-use Rattle.rules.specs.Switches.{offCases, offEffect, restoreCases, restoreEffect, inCases, inEffect, interruptCases, outEffect}
+use Rattle.rules.specs.Switches.{offCall, restoreCall, inCall, outCall, interruptCases}
 use Rattle.rules.specs.declared.Task.{Task}
 use Rattle.rules.specs.declared.Clock.{Clock}
 use Rattle.rules.specs.declared.AgedClock.{AgedClock}
@@ -25,11 +25,11 @@ aged k =
 
 -- the clocks, and the Swis that they post
 pub record Clocked : Type 0 where
-  pub clocks : List ℕ
-  pub swis : List ℕ
-  pub lines : List ℕ
+  pub clocks : ClockTable
+  pub swis : SwiTable
+  pub lines : LineTable
 
-abbrev pub clockedOf : List ℕ → List ℕ → List ℕ → Clocked
+abbrev pub clockedOf : ClockTable → SwiTable → LineTable → Clocked
 clockedOf cs ws ls = record { clocks = cs; swis = ws; lines = ls }
 
 abbrev pub postedIf : Bool → ℕ → Posts → Posts
@@ -67,23 +67,23 @@ taskTick q i =
 
 -- ---- what a tick may change
 pub record Ticked : Type 0 where
-  pub tasks : List ℕ
-  pub lines : List ℕ
-  pub swis : List ℕ
-  pub clocks : List ℕ
-  pub state : List ℕ
+  pub tasks : TaskTable
+  pub lines : LineTable
+  pub swis : SwiTable
+  pub clocks : ClockTable
+  pub state : StateRow
 
-abbrev pub tickedOf : List ℕ → List ℕ → List ℕ → List ℕ → List ℕ → Ticked
+abbrev pub tickedOf : TaskTable → LineTable → SwiTable → ClockTable → StateRow → Ticked
 tickedOf ts ls ws cs st = record { tasks = ts; lines = ls; swis = ws; clocks = cs; state = st }
 
 -- "The count goes up by one." "The tick count .. go round at 4,294,967,296."
-abbrev pub countedUp : List ℕ → List ℕ
+abbrev pub countedUp : StateRow → StateRow
 countedUp st = withState st TICK ((state st TICK + 1) % wordEnd)
 
-abbrev pub clocksTicked : List ℕ → List ℕ → List ℕ → Clocked
+abbrev pub clocksTicked : ClockTable → SwiTable → LineTable → Clocked
 clocksTicked cs ws ls = rising clockCount clockTick (clockedOf cs ws ls)
 
-abbrev pub tasksTicked : List ℕ → List ℕ → Queued
+abbrev pub tasksTicked : TaskTable → LineTable → Queued
 tasksTicked ts ls = rising taskCount taskTick (queued ts ls)
 
 unfoldable pub ticked : Ticked → Ticked
@@ -94,14 +94,19 @@ ticked t =
 
 -- ---- the calls by number
 -- the calls 74, 75, 77 and 78 change the state alone
-abbrev pub onState : Ticked → After (List ℕ) → After Ticked
-onState t r = after (r .answer) (tickedOf (t .tasks) (t .lines) (t .swis) (t .clocks) (r .next))
+abbrev pub onState : Ticked → CallRule StateRow → CallRule Ticked
+onState t r =
+    called (r .cases) (after (r .effect .answer) (tickedOf (t .tasks) (t .lines) (t .swis) (t .clocks) (r .effect .next)))
+
+-- "76 tick (I)"
+abbrev pub tickCall : Ticked → ℕ → ℕ → ℕ → ℕ → ℕ → CallRule Ticked
+tickCall t x a b c d = called (interruptCases x a b c d) (accepted done 0 (ticked t))
 
 -- No. 10: "70 to 73 become unknown numbers."
-unfoldable pub switchCall : Ticked → ℕ → ℕ → ℕ → ℕ → ℕ → ℕ → Call Ticked
+unfoldable pub switchCall : Ticked → ℕ → ℕ → ℕ → ℕ → ℕ → ℕ → CallRule Ticked
 switchCall t x number a b c d =
-    if (eqb number 0x74) (called (inCases (t .state) a b c d) (onState t (inEffect (t .state))))
-    (if (eqb number 0x75) (called (interruptCases x a b c d) (onState t (outEffect (t .state))))
-    (if (eqb number 0x76) (called (interruptCases x a b c d) (accepted done 0 (ticked t)))
-    (if (eqb number 0x77) (called (offCases x a b c d) (onState t (offEffect (t .state) a)))
-    (if (eqb number 0x78) (called (restoreCases x a b c d) (onState t (restoreEffect (t .state) a b))) (unknown t)))))
+    if (eqb number 0x74) (onState t (inCall (t .state) a b c d))
+    (if (eqb number 0x75) (onState t (outCall (t .state) x a b c d))
+    (if (eqb number 0x76) (tickCall t x a b c d)
+    (if (eqb number 0x77) (onState t (offCall (t .state) x a b c d))
+    (if (eqb number 0x78) (onState t (restoreCall (t .state) x a b c d)) (unknown t)))))

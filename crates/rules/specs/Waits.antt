@@ -3,8 +3,8 @@ use Prim.Native.Nat.{ℕ}
 use mathlib.Core.Bool.{Bool, not, _&&_, _||_, cond as if}
 use mathlib.Core.List.{List}
 use lib.Dec.{eqb}
+use Rattle.rules.specs.Tables.{TaskTable, LineTable, StateRow, task, state, current, forever, ready, SWIS, TASKS}
 use Rattle.rules.specs.Answer.{T, After, accepted, done}
-use Rattle.rules.specs.Tables.{task, state, current, forever, ready, SWIS, TASKS}
 use Rattle.rules.specs.Lines.{Queued, queued, first, moved, atBack}
 use Rattle.rules.specs.declared.Task.{Task}
 
@@ -13,11 +13,11 @@ unfoldable pub outside : ℕ → ℕ → Bool
 outside x limit = not (eqb x T) && not (eqb limit 0)
 
 -- "while either switch is off"; No. 10: "Code 9 and demand 3 read as before."
-unfoldable pub switchOff : List ℕ → Bool
+unfoldable pub switchOff : StateRow → Bool
 switchOff st = eqb (state st SWIS) 0 || eqb (state st TASKS) 0
 
 -- the current task is the idle task: "task 0 ending or beginning a sleep or wait gives 5"
-unfoldable pub idle : List ℕ → Bool
+unfoldable pub idle : StateRow → Bool
 idle st = eqb (current st) 0
 
 -- "Limit 4,294,967,295 is without end.": no ticks are kept for it
@@ -48,11 +48,11 @@ woken i o v x = moved atBack i (readied (task (x .tasks) i) o v) x
 
 -- ---- what the calls of semaphores, events and mailboxes may change: the tasks, the lines, and the table of their objects
 pub record Served : Type 0 where
-  pub tasks : List ℕ
-  pub lines : List ℕ
+  pub tasks : TaskTable
+  pub lines : LineTable
   pub objects : List ℕ
 
-abbrev pub served : List ℕ → List ℕ → List ℕ → Served
+abbrev pub served : TaskTable → LineTable → List ℕ → Served
 served ts ls os = record { tasks = ts; lines = ls; objects = os }
 
 abbrev pub queue : Served → Queued

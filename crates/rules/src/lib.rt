@@ -1,50 +1,33 @@
 // Document 01 as types. A table is an array of numbers, a row for each object and a word for each field; what the numbers
 // mean, and what each call does to them, is said in specs/, a file for each section of the document, and Rows, Lines, Waits and Step for what the sections share.
-
-// How many objects each table has.
-pub const TASK_COUNT: u32 = 32;
-
-pub const SWI_COUNT: u32 = 16;
-
-pub const SEMAPHORE_COUNT: u32 = 16;
-
-pub const EVENT_COUNT: u32 = 8;
-
-pub const MAILBOX_COUNT: u32 = 8;
-
-pub const CLOCK_COUNT: u32 = 16;
-
-// How many levels of priority tasks have: few, or most.
-pub const FEW_LEVELS: u32 = 16;
-
-pub const MOST_LEVELS: u32 = 32;
+pub mod numbers;
 
 // 32 rows of 8: mode, priority, object, left, first, second, outcome, value.
-pub type Tasks = [u32; 256];
+pub type Tasks = [u32; numbers::TASK_WORDS];
 
 // 81 rows of 33: how many stand in the line, who, the one at the front first, and zeros.
-pub type Lines = [u8; 2673];
+pub type Lines = [u8; numbers::LINE_BYTES];
 
 // 16 rows of 3: used, kind, count.
-pub type Semaphores = [u32; 48];
+pub type Semaphores = [u32; numbers::SEMAPHORE_WORDS];
 
 // 8 rows of 2: used, bits.
-pub type Events = [u32; 16];
+pub type Events = [u32; numbers::EVENT_WORDS];
 
 // 8 rows of 10: capacity, messages there, and eight words, the oldest first.
-pub type Mailboxes = [u32; 80];
+pub type Mailboxes = [u32; numbers::MAILBOX_WORDS];
 
 // 16 rows of 6: used, priority, initial, trigger, posted, taken.
-pub type Swis = [u32; 96];
+pub type Swis = [u32; numbers::SWI_WORDS];
 
 // 16 rows of 5: used, swi, first, period, left.
-pub type Clocks = [u32; 80];
+pub type Clocks = [u32; numbers::CLOCK_WORDS];
 
 // An entry for each of the 256 units: 0 free, 1 first of a block, 2 later in one.
-pub type Heap = [u8; 256];
+pub type Heap = [u8; numbers::HEAP_UNITS];
 
 // One row of 6: depth, Swis on, tasks on, tick, current, levels.
-pub type State = [u32; 6];
+pub type State = [u32; numbers::STATE_WIDTH];
 
 // All tables by value: what goes in with a call, and what comes out.
 pub struct Tables {
@@ -84,6 +67,15 @@ pub struct Clock {
 pub struct AgedClock {
     pub clock: Clock,
     pub fired: bool,
+}
+
+// A call: its number and its four arguments.
+pub struct Call {
+    pub number: u32,
+    pub a: u32,
+    pub b: u32,
+    pub c: u32,
+    pub d: u32,
 }
 
 // What a call answers.

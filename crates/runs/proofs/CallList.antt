@@ -10,8 +10,9 @@ use Rattle.rules.specs.Answer.{firstGiven}
 use Rattle.rules.specs.Sound.{sound}
 use Rattle.rules.specs.declared.Answer.{Answer}
 use Rattle.rules.specs.declared.Tables.{Tables}
-use Rattle.runs.specs.Run.{Asked, next}
+use Rattle.runs.specs.Run.{next}
 use Rattle.runs.specs.CallList.{firstCalls, callsOf, answersTo, wordsOf, answersIn, laidOut, badList, listCases, allMade, nothingDone, handOver}
+use Rattle.rules.specs.declared.Call.{Call}
 
 -- ---- the calls of a list
 pub length-first : (n : ℕ) (ws : List ℕ) → length (firstCalls n ws) ≡ n
@@ -37,24 +38,24 @@ laid-out (suc n) ws e =
     rw (laid-out n (drop 5 ws) (omega (arith, length-drop 5 ws, e))) (sym (five-words ws (omega (arith, e))))
 
 -- the words of calls are a list of these calls
-pub length-laid-out : (qs : List Asked) → length (laidOut qs) ≡ length qs * 5
+pub length-laid-out : (qs : List Call) → length (laidOut qs) ≡ length qs * 5
 unfolding laidOut
 length-laid-out [] = refl
 length-laid-out (q ∷ qs) = omega (arith, length-laid-out qs)
 
-first-laid-out : (qs : List Asked) → firstCalls (length qs) (laidOut qs) ≡ qs
+first-laid-out : (qs : List Call) → firstCalls (length qs) (laidOut qs) ≡ qs
 unfolding laidOut firstCalls
 first-laid-out [] = refl
-first-laid-out (q ∷ qs) = ap (λ (l : List Asked). q ∷ l) (first-laid-out qs)
+first-laid-out (q ∷ qs) = ap (λ (l : List Call). q ∷ l) (first-laid-out qs)
 
-pub calls-laid-out : (qs : List Asked) → callsOf (laidOut qs) ≡ qs
+pub calls-laid-out : (qs : List Call) → callsOf (laidOut qs) ≡ qs
 calls-laid-out qs =
     let n : length (laidOut qs) / 5 ≡ length qs = omega (arith, length-laid-out qs) in
     rw n (first-laid-out qs)
 
 -- ---- their answers
 -- "Refused calls do not stop the rest.": each has one
-pub length-answers : (t : Tables) (qs : List Asked) → length (answersTo t qs) ≡ length qs
+pub length-answers : (t : Tables) (qs : List Call) → length (answersTo t qs) ≡ length qs
 unfolding answersTo
 length-answers t [] = refl
 length-answers t (q ∷ qs) = ap suc (length-answers (next t q) qs)
@@ -71,7 +72,7 @@ read-back [] rest = refl
 read-back (r ∷ rs) rest = ap (λ (l : List Answer). r ∷ l) (read-back rs rest)
 
 -- the answers of calls stand in the room that is long enough, and can be read there
-pub answers-stand : (t : Tables) (qs : List Asked) (room : List ℕ) → length qs * 3 ≤ length room
+pub answers-stand : (t : Tables) (qs : List Call) (room : List ℕ) → length qs * 3 ≤ length room
     → answersIn (length qs) (sets room 0 (wordsOf (answersTo t qs))) ≡ answersTo t qs
 answers-stand t qs room enough =
     let rs : List Answer = answersTo t qs in

@@ -5,14 +5,15 @@ use mathlib.Core.List.{List, [], _∷_}
 use lib.Dec.{eqb, ltb}
 use lib.ListN.{length, getD, drop}
 use lib.Seq.{sets}
-use Rattle.rules.specs.Answer.{Cases, given, never, codeOf, answer}
+use Rattle.rules.specs.Answer.{Cases, given, never, codeOf, answer, asked}
 use Rattle.rules.specs.Dispatch.{running}
 use Rattle.rules.specs.Sound.{sound}
 use Rattle.rules.specs.declared.Answer.{Answer}
 use Rattle.rules.specs.declared.Tables.{Tables}
 use Rattle.rules.specs.declared.Thread.{Thread}
 use Rattle.rules.specs.declared.Thread.the-variants.{Task}
-use Rattle.runs.specs.Run.{Asked, asked, made, next, after}
+use Rattle.runs.specs.Run.{made, next, after}
+use Rattle.rules.specs.declared.Call.{Call}
 
 -- ---- "a lent list of 32-bit words, five to a call (number, four arguments), up to 256 calls"
 abbrev pub callWords : ℕ
@@ -26,25 +27,25 @@ abbrev pub callsIn : ℕ → ℕ
 callsIn words = words / callWords
 
 -- the call in front of a list
-abbrev pub callIn : List ℕ → Asked
+abbrev pub callIn : List ℕ → Call
 callIn ws = asked (getD ws 0 0) (getD ws 1 0) (getD ws 2 0) (getD ws 3 0) (getD ws 4 0)
 
 -- the first n calls of a list that has at least n; and all of them
-unfoldable pub firstCalls : ℕ → List ℕ → List Asked
+unfoldable pub firstCalls : ℕ → List ℕ → List Call
 firstCalls zero ws = []
 firstCalls (suc n) ws = callIn ws ∷ firstCalls n (drop callWords ws)
 
-abbrev pub callsOf : List ℕ → List Asked
+abbrev pub callsOf : List ℕ → List Call
 callsOf ws = firstCalls (callsIn (length ws)) ws
 
 -- the other way: the words of calls
-unfoldable pub laidOut : List Asked → List ℕ
+unfoldable pub laidOut : List Call → List ℕ
 laidOut [] = []
 laidOut (q ∷ qs) = q .number ∷ q .a ∷ q .b ∷ q .c ∷ q .d ∷ laidOut qs
 
 -- ---- "and fills three words for each (code, outcome, value) in a second list"
 -- the answers to calls "made one after the other". "Refused calls do not stop the rest."
-unfoldable pub answersTo : Tables → List Asked → List Answer
+unfoldable pub answersTo : Tables → List Call → List Answer
 answersTo t [] = []
 answersTo t (q ∷ qs) = made t q .answer ∷ answersTo (next t q) qs
 
@@ -84,7 +85,7 @@ handed t out r x = record { tables = t; answers = out; answer = r; thread = x }
 
 -- "The final tables and every answer must equal those of the same calls made one after the other." "A list accepted, even an empty one, answers code,
 -- outcome and value 0 and the last thread. Answer words past the last call stay as they were."
-unfoldable pub allMade : Tables → List Asked → List ℕ → Handed
+unfoldable pub allMade : Tables → List Call → List ℕ → Handed
 allMade t qs room =
     let last : Tables = after t qs in
     handed last (sets room 0 (wordsOf (answersTo t qs))) (answer 0 0 0) (running (last .lines) (last .state))

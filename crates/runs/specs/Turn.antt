@@ -5,13 +5,14 @@ use mathlib.Core.Logic.{_≢_, _⊎_}
 use mathlib.Core.Bool.{Bool, true, _&&_}
 use mathlib.Core.List.{List, [], _∷_, _++_}
 use lib.Dec.{eqb}
-use Rattle.fold.specs.Lists.{bit, count, ahead}
+use Rattle.basics.specs.Lists.{bit, count, ahead}
 use Rattle.rules.specs.Tables.{levels, atSemaphore, ready, task, state, DEPTH, SWIS, TASKS}
 use Rattle.rules.specs.Lines.{line, semaphoreLine, activeLine, readyLine}
 use Rattle.rules.specs.Dispatch.{running}
 use Rattle.rules.specs.declared.Tables.{Tables}
 use Rattle.rules.specs.declared.Thread.the-variants.{Task}
-use Rattle.runs.specs.Run.{Asked, made, next, after, Always}
+use Rattle.runs.specs.Run.{made, next, after, Always}
+use Rattle.rules.specs.declared.Call.{Call}
 
 -- ---- the waiter
 -- task i is blocked on semaphore s, and those who stand before it
@@ -22,20 +23,20 @@ abbrev pub beforeAt : ℕ → ℕ → Tables → List ℕ
 beforeAt s i t = ahead i (line (t .lines) (semaphoreLine s))
 
 -- an accepted post on s: call 23, answered with code 0
-abbrev pub isPost : ℕ → Tables → Asked → Bool
+abbrev pub isPost : ℕ → Tables → Call → Bool
 isPost s t q = eqb (q .number) 0x23 && eqb (q .a) s && eqb (made t q .answer .code) 0
 
 -- how many of these calls are accepted posts on s
-unfoldable pub posts : ℕ → Tables → List Asked → ℕ
+unfoldable pub posts : ℕ → Tables → List Call → ℕ
 posts s t [] = 0
 posts s t (q ∷ qs) = bit (isPost s t q) + posts s (next t q) qs
 
 -- among these calls is the one that served task i: all along before it i waited, it is an accepted post on s after at most k others, and it
 -- leaves i ready with outcome 0 and value 0
-pub record ServedIn (s i k : ℕ) (u : Tables) (qs : List Asked) : Type 0 where
-  pub before : List Asked
-  pub post : Asked
-  pub rest : List Asked
+pub record ServedIn (s i k : ℕ) (u : Tables) (qs : List Call) : Type 0 where
+  pub before : List Call
+  pub post : Call
+  pub rest : List Call
   pub split : qs ≡ before ++ (post ∷ rest)
   pub waits : Always (BlockedOn s i) u before
   pub few : posts s u before ≤ k
@@ -60,15 +61,15 @@ pub record AtFront (p i : ℕ) (t : Tables) : Type 0 where
   pub is : queue p t ≡ i ∷ behind
 
 -- it does not run when the call is made, and the call leaves it its priority
-abbrev pub Undisturbed : ℕ → ℕ → Tables → Asked → Type 0
+abbrev pub Undisturbed : ℕ → ℕ → Tables → Call → Type 0
 Undisturbed p i t q = (running (t .lines) (t .state) ≢ Task i) × (task (next t q .tasks) i .priority ≡ p)
 
 -- task x yields: an accepted call 03 while x runs
-abbrev pub Yields : ℕ → Tables → Asked → Type 0
+abbrev pub Yields : ℕ → Tables → Call → Type 0
 Yields x t q = (running (t .lines) (t .state) ≡ Task x) × (q .number ≡ 0x03) × (made t q .answer .code ≡ 0)
 
 -- x has left the queue of priority p (it stood there no more at some time) or yielded since
-unfoldable pub Gone : ℕ → ℕ → Tables → List Asked → Type 0
+unfoldable pub Gone : ℕ → ℕ → Tables → List Call → Type 0
 Gone p x t [] = count x (queue p t) ≡ 0
 Gone p x t (q ∷ qs) = (count x (queue p t) ≡ 0) ⊎ (Yields x t q ⊎ Gone p x (next t q) qs)
 

@@ -10,7 +10,7 @@ use Rattle.rules.specs.Answer.{unknown}
 use Rattle.rules.specs.Tables.{semaphoreRow}
 use Rattle.rules.specs.Waits.{Served}
 use Rattle.rules.specs.Semaphores.{semaphoreCall}
-use Rattle.laws.proofs.Rows.{withRow-in, withRow-out}
+use Rattle.rules_laws.proofs.Rows.{withRow-in, withRow-out}
 
 -- ---- a row, stored word by word
 module _ (ss : List ℕ) (i u k n : ℕ) where

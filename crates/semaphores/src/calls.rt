@@ -4,18 +4,22 @@ use super::table::put_semaphore;
 use rules::Answer;
 use rules::Lines;
 use rules::Semaphores;
-use words::COUNT;
-use words::KIND;
-use words::USED;
+use rules::numbers::COUNT;
+use rules::numbers::DONE;
+use rules::numbers::KIND;
+use rules::numbers::KIND_COUNT;
+use rules::numbers::SEMAPHORE_ROWS;
+use rules::numbers::T;
+use rules::numbers::USED;
 ghost use mathlib.Core.Path.{_≡_};
 ghost use mathlib.Core.Bool.{not, _||_};
-ghost use mathlib.Core.List.{List};
-ghost use Prim.Native.Nat.{ℕ};
 ghost use lib.Dec.{ltb, leb};
-ghost use Rattle.rules.specs.Answer.{after, answered, called, codeOf, unused};
-ghost use Rattle.rules.specs.Tables.{KIND, COUNT};
+ghost use Rattle.rules.specs.Answer.{after, answered, codeOf, unused};
 ghost use Rattle.rules.specs.Waits.{served};
-ghost use Rattle.rules.specs.Semaphores.{most, createCases, createEffect, deleteCases, deleteEffect, resetCases, resetEffect};
+ghost use Rattle.rules.specs.Semaphores.{most, createCases, createEffect, deleteCases, deleteEffect, resetCases, resetEffect, createCall, deleteCall};
+ghost use Rattle.rules.specs.Semaphores.{resetCall};
+ghost use Rattle.tables.specs.Lent.{old, new};
+ghost use Rattle.rules.specs.Tables.{TaskTable, LineTable};
 
 // ---- 20: create, of a kind, with a count
 
@@ -23,19 +27,19 @@ ghost use Rattle.rules.specs.Semaphores.{most, createCases, createEffect, delet
 pub fn bad_create(kind: u32, count: u32, c: u32, d: u32) -> bool
     ensures { λ r. ⌜ r ≡ (not (ltb kind 4) || not (leb count (most kind)) || unused 0 0 c d) ⌝ }
 {
-    !(kind < 4) | !(count <= rows::readings::most(kind)) | rows::answers::unused(0, 0, c, d)
+    !(kind < KIND_COUNT) | !(count <= rows::readings::most(kind)) | answers::unused(0, 0, c, d)
 }
 
 pub fn create_code(semaphores: &Semaphores, x: u32, a: u32, b: u32, c: u32, d: u32) -> u32
-    ensures { λ r. ⌜ r ≡ codeOf (createCases (now (semaphores .entry)) x a b c d) ⌝ }
+    ensures { λ r. ⌜ r ≡ codeOf (createCases (old semaphores) x a b c d) ⌝ }
 {
-    if x != 0 {
+    if x != T {
         return 2;
     }
     if bad_create(a, b, c, d) {
         return 4;
     }
-    if free_semaphore(semaphores) == 16 {
+    if free_semaphore(semaphores) == SEMAPHORE_ROWS {
         return 6;
     }
     0
@@ -43,19 +47,20 @@ pub fn create_code(semaphores: &Semaphores, x: u32, a: u32, b: u32, c: u32, d: u
 
 // The tasks and the lines stay, whatever they are.
 pub fn create_effect(semaphores: &mut Semaphores, a: u32, b: u32) -> Answer
-    ensures { λ r. ⌜ ((ts ls : List ℕ) → after r (served ts ls (now (semaphores .exit))) ≡ createEffect (served ts ls (now (semaphores .entry))) a b) ⌝ }
+    ensures { λ r. ⌜ ((ts : TaskTable) (ls : LineTable) → after r (served ts ls (new semaphores)) ≡ createEffect (served ts ls (old semaphores)) a b) ⌝ }
 {
     let i = free_semaphore(semaphores);
     put_semaphore(semaphores, i, 1, a, b);
-    rows::answers::accepted(0, i as u32)
+    answers::accepted(DONE, i as u32)
 }
 
 pub fn create(semaphores: &mut Semaphores, x: u32, a: u32, b: u32, c: u32, d: u32) -> Answer
-    ensures { λ r. ⌜ ((ts ls : List ℕ) → after r (served ts ls (now (semaphores .exit))) ≡ answered (served ts ls (now (semaphores .entry))) (called (createCases (now (semaphores .entry)) x a b c d) (createEffect (served ts ls (now (semaphores .entry))) a b))) ⌝ }
+    ensures { λ r. ⌜ ((ts : TaskTable) (ls : LineTable) → after r (served ts ls (new semaphores))
+        ≡ answered (served ts ls (old semaphores)) (createCall (served ts ls (old semaphores)) x a b c d)) ⌝ }
 {
     let code = create_code(semaphores, x, a, b, c, d);
     if code != 0 {
-        return rows::answers::refused(code);
+        return answers::refused(code);
     }
     create_effect(semaphores, a, b)
 }
@@ -71,19 +76,19 @@ pub fn delete_code(
     c: u32,
     d: u32,
 ) -> u32
-    ensures { λ r. ⌜ r ≡ codeOf (deleteCases (now (lines .entry)) (now (semaphores .entry)) x a b c d) ⌝ }
+    ensures { λ r. ⌜ r ≡ codeOf (deleteCases (old lines) (old semaphores) x a b c d) ⌝ }
 {
-    if x != 0 {
+    if x != T {
         return 2;
     }
     let i = a as usize;
-    if words::semaphore(semaphores, i, USED) == 0 {
-        return rows::answers::absent_code(a, rules::SEMAPHORE_COUNT);
+    if rows::semaphore(semaphores, i, USED) == 0 {
+        return answers::absent_code(a, rules::numbers::SEMAPHORE_COUNT);
     }
-    if rows::answers::unused(0, b, c, d) {
+    if answers::unused(0, b, c, d) {
         return 4;
     }
-    if 0 < rows::lines::len(lines, i) {
+    if 0 < lines::len(lines, i) {
         return 5;
     }
     0
@@ -91,10 +96,10 @@ pub fn delete_code(
 
 // The row is all 0.
 pub fn delete_effect(semaphores: &mut Semaphores, a: u32) -> Answer
-    ensures { λ r. ⌜ ((ts ls : List ℕ) → after r (served ts ls (now (semaphores .exit))) ≡ deleteEffect (served ts ls (now (semaphores .entry))) a) ⌝ }
+    ensures { λ r. ⌜ ((ts : TaskTable) (ls : LineTable) → after r (served ts ls (new semaphores)) ≡ deleteEffect (served ts ls (old semaphores)) a) ⌝ }
 {
     put_semaphore(semaphores, a as usize, 0, 0, 0);
-    rows::answers::accepted(0, 0)
+    answers::accepted(DONE, 0)
 }
 
 pub fn delete(
@@ -106,11 +111,12 @@ pub fn delete(
     c: u32,
     d: u32,
 ) -> Answer
-    ensures { λ r. ⌜ ((ts : List ℕ) → after r (served ts (now (lines .entry)) (now (semaphores .exit))) ≡ answered (served ts (now (lines .entry)) (now (semaphores .entry))) (called (deleteCases (now (lines .entry)) (now (semaphores .entry)) x a b c d) (deleteEffect (served ts (now (lines .entry)) (now (semaphores .entry))) a))) ⌝ }
+    ensures { λ r. ⌜ ((ts : TaskTable) → after r (served ts (old lines) (new semaphores))
+        ≡ answered (served ts (old lines) (old semaphores)) (deleteCall (served ts (old lines) (old semaphores)) x a b c d)) ⌝ }
 {
     let code = delete_code(lines, semaphores, x, a, b, c, d);
     if code != 0 {
-        return rows::answers::refused(code);
+        return answers::refused(code);
     }
     delete_effect(semaphores, a)
 }
@@ -121,7 +127,7 @@ pub fn delete(
 pub fn bad_reset(kind: u32, count: u32, c: u32, d: u32) -> bool
     ensures { λ r. ⌜ r ≡ (not (leb count (most kind)) || unused 0 0 c d) ⌝ }
 {
-    !(count <= rows::readings::most(kind)) | rows::answers::unused(0, 0, c, d)
+    !(count <= rows::readings::most(kind)) | answers::unused(0, 0, c, d)
 }
 
 pub fn reset_code(
@@ -133,29 +139,29 @@ pub fn reset_code(
     c: u32,
     d: u32,
 ) -> u32
-    ensures { λ r. ⌜ r ≡ codeOf (resetCases (now (lines .entry)) (now (semaphores .entry)) x a b c d) ⌝ }
+    ensures { λ r. ⌜ r ≡ codeOf (resetCases (old lines) (old semaphores) x a b c d) ⌝ }
 {
-    if x != 0 {
+    if x != T {
         return 2;
     }
     let i = a as usize;
-    if words::semaphore(semaphores, i, USED) == 0 {
-        return rows::answers::absent_code(a, rules::SEMAPHORE_COUNT);
+    if rows::semaphore(semaphores, i, USED) == 0 {
+        return answers::absent_code(a, rules::numbers::SEMAPHORE_COUNT);
     }
-    if bad_reset(words::semaphore(semaphores, i, KIND), b, c, d) {
+    if bad_reset(rows::semaphore(semaphores, i, KIND), b, c, d) {
         return 4;
     }
-    if 0 < rows::lines::len(lines, i) {
+    if 0 < lines::len(lines, i) {
         return 5;
     }
     0
 }
 
 pub fn reset_effect(semaphores: &mut Semaphores, a: u32, b: u32) -> Answer
-    ensures { λ r. ⌜ ((ts ls : List ℕ) → after r (served ts ls (now (semaphores .exit))) ≡ resetEffect (served ts ls (now (semaphores .entry))) a b) ⌝ }
+    ensures { λ r. ⌜ ((ts : TaskTable) (ls : LineTable) → after r (served ts ls (new semaphores)) ≡ resetEffect (served ts ls (old semaphores)) a b) ⌝ }
 {
-    words::set_semaphore(semaphores, a as usize, COUNT, b);
-    rows::answers::accepted(0, 0)
+    rows::set_semaphore(semaphores, a as usize, COUNT, b);
+    answers::accepted(DONE, 0)
 }
 
 pub fn reset(
@@ -167,11 +173,12 @@ pub fn reset(
     c: u32,
     d: u32,
 ) -> Answer
-    ensures { λ r. ⌜ ((ts : List ℕ) → after r (served ts (now (lines .entry)) (now (semaphores .exit))) ≡ answered (served ts (now (lines .entry)) (now (semaphores .entry))) (called (resetCases (now (lines .entry)) (now (semaphores .entry)) x a b c d) (resetEffect (served ts (now (lines .entry)) (now (semaphores .entry))) a b))) ⌝ }
+    ensures { λ r. ⌜ ((ts : TaskTable) → after r (served ts (old lines) (new semaphores))
+        ≡ answered (served ts (old lines) (old semaphores)) (resetCall (served ts (old lines) (old semaphores)) x a b c d)) ⌝ }
 {
     let code = reset_code(lines, semaphores, x, a, b, c, d);
     if code != 0 {
-        return rows::answers::refused(code);
+        return answers::refused(code);
     }
     reset_effect(semaphores, a, b)
 }

@@ -1,5 +1,7 @@
 // The calls on semaphores, 20 to 24.
 pub mod calls;
+pub mod pends;
+pub mod posts;
 pub mod table;
 
 use rules::Answer;
@@ -9,8 +11,8 @@ use rules::State;
 use rules::Tasks;
 ghost use mathlib.Core.Path.{_≡_};
 ghost use Rattle.rules.specs.Answer.{after, answered};
-ghost use Rattle.rules.specs.Waits.{served};
 ghost use Rattle.rules.specs.Semaphores.{semaphoreCall};
+ghost use Rattle.tables.specs.Lent.{old, servedOld, servedNew};
 
 // The call of this number, made by x: 0 a task, 1 a Swi, 2 an interrupt.
 pub fn semaphore_call(
@@ -25,14 +27,15 @@ pub fn semaphore_call(
     c: u32,
     d: u32,
 ) -> Answer
-    ensures { λ r. ⌜ after r (served (now (tasks .exit)) (now (lines .exit)) (now (semaphores .exit))) ≡ answered (served (now (tasks .entry)) (now (lines .entry)) (now (semaphores .entry))) (semaphoreCall (served (now (tasks .entry)) (now (lines .entry)) (now (semaphores .entry))) (now (state .entry)) x number a b c d) ⌝ }
+    ensures { λ r. ⌜ after r (servedNew tasks lines semaphores)
+        ≡ answered (servedOld tasks lines semaphores) (semaphoreCall (servedOld tasks lines semaphores) (old state) x number a b c d) ⌝ }
 {
     match number {
         0x20 => calls::create(semaphores, x, a, b, c, d),
         0x21 => calls::delete(lines, semaphores, x, a, b, c, d),
-        0x22 => counting::pend(tasks, lines, semaphores, state, x, a, b, c, d),
-        0x23 => counting::post(tasks, lines, semaphores, a, b, c, d),
+        0x22 => pends::pend(tasks, lines, semaphores, state, x, a, b, c, d),
+        0x23 => posts::post(tasks, lines, semaphores, a, b, c, d),
         0x24 => calls::reset(lines, semaphores, x, a, b, c, d),
-        _ => rows::answers::refused(1),
+        _ => answers::refused(1),
     }
 }

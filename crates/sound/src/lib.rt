@@ -1,5 +1,7 @@
 // Whether tables are sound, whatever stands in them: a function for each rule of 'Sound tables'.
+pub mod objects;
 pub mod records;
+pub mod standing;
 
 use rules::Clocks;
 use rules::Events;
@@ -11,18 +13,18 @@ use rules::State;
 use rules::Swis;
 use rules::Tasks;
 ghost use mathlib.Core.Path.{_≡_};
-ghost use Rattle.fold.specs.Rule.{holds};
-ghost use Rattle.rules.specs.Tables.{tables};
+ghost use Rattle.basics.specs.Rule.{holds};
 ghost use Rattle.rules.specs.Sound.{dispatchRule, sound};
+ghost use Rattle.tables.specs.Lent.{old, tablesOld};
 
 // The dispatch rule has nothing left to do.
 pub fn dispatch_sound(swis: &Swis, lines: &Lines, state: &State) -> bool
-    ensures { λ r. ⌜ r ≡ holds (
-        dispatchRule (now (swis .entry)) (now (lines .entry)) (now (state .entry))) ⌝ }
+    ensures { λ r. ⌜ r ≡ holds (dispatchRule (old swis) (old lines) (old state)) ⌝ }
 {
-    let current = fold::index(state[words::CURRENT]);
-    let front = fold::wide(due::front(lines, state));
-    !due::swi_due(swis, lines, state) & (!due::task_due(lines, state) | (current == front))
+    let current = basics::index(state[rules::numbers::CURRENT]);
+    let front = basics::wide(dispatch::due::front(lines, state));
+    !dispatch::due::swi_due(swis, lines, state)
+        & (!dispatch::due::task_due(lines, state) | (current == front))
 }
 
 // The tables are sound.
@@ -37,15 +39,12 @@ pub fn is_sound(
     heap: &Heap,
     state: &State,
 ) -> bool
-    ensures { λ r. ⌜ r ≡ sound (tables
-        (now (tasks .entry)) (now (lines .entry)) (now (semaphores .entry))
-        (now (events .entry)) (now (mailboxes .entry)) (now (swis .entry))
-        (now (clocks .entry)) (now (heap .entry)) (now (state .entry))) ⌝ }
+    ensures { λ r. ⌜ r ≡ sound (tablesOld tasks lines semaphores events mailboxes swis clocks heap state) ⌝ }
 {
     records::state_sound(tasks, state)
         & records::heap_sound(heap)
         & records::clocks_sound(clocks, swis)
-        & records::tasks_sound(tasks, rows::answers::levels(state))
+        & records::tasks_sound(tasks, rows::readings::levels(state))
         & standing::lines_sound(lines)
         & standing::members_sound(tasks, swis, lines)
         & standing::task_once(tasks, lines)

@@ -10,16 +10,16 @@ use borrow.Author.Tests.{eq-eqb, ne-eqb, lt-ltb, le-ltb}
 use lib.Dec.{eqb}
 use lib.ListN.{length, take, drop, getD, set, take-append-drop}
 use lib.Seq.{take-suc, take-all}
-use Rattle.fold.specs.Lists.{bit, count}
-use Rattle.fold.specs.Find.{allBelow}
-use Rattle.fold.proofs.Laws.{count-append, count-snoc}
-use Rattle.fold.proofs.Finds.{all-yes, all-no}
+use Rattle.basics.specs.Lists.{bit, count}
+use Rattle.basics.specs.Find.{allBelow}
+use Rattle.basics.proofs.Laws.{count-append, count-snoc}
+use Rattle.basics.proofs.Finds.{all-yes, all-no}
 use Rattle.rules.specs.Answer.{unknown}
 use Rattle.rules.specs.Tables.{swi, swiRow, clock}
 use Rattle.rules.specs.Lines.{line, activeLine}
 use Rattle.rules.specs.Swis.{Posts, isActive, isNamed, swiCall}
 use Rattle.rules.specs.declared.Clock.{Clock}
-use Rattle.laws.proofs.Rows.{withRow-in, withRow-out}
+use Rattle.rules_laws.proofs.Rows.{withRow-in, withRow-out}
 
 -- ---- a row, stored word by word
 module _ (ws : List ℕ) (i u p n t q k : ℕ) where

@@ -7,32 +7,37 @@ use rules::Clocks;
 use rules::Lines;
 use rules::State;
 use rules::Swis;
-use words::SWIS;
-use words::TAKEN;
-use words::USED;
+use rules::numbers::ACTIVE_LINE;
+use rules::numbers::DONE;
+use rules::numbers::S;
+use rules::numbers::SWI_LEVELS;
+use rules::numbers::SWI_ROWS;
+use rules::numbers::T;
+use rules::numbers::TAKEN;
+use rules::numbers::USED;
 ghost use mathlib.Core.Path.{_≡_};
-ghost use mathlib.Core.List.{List};
-ghost use Prim.Native.Nat.{ℕ};
-ghost use Rattle.rules.specs.Answer.{after, answered, called, codeOf};
-ghost use Rattle.rules.specs.Swis.{posts, createCases, createEffect, deleteCases, deleteEffect};
-ghost use Rattle.rules.specs.Swis.{endCases, endEffect, takenCases, takenEffect};
+ghost use Rattle.rules.specs.Answer.{after, answered, codeOf};
+ghost use Rattle.rules.specs.Swis.{posts, createCases, createEffect, deleteCases, deleteEffect, endCases, endEffect, takenCases, takenEffect, createCall};
+ghost use Rattle.rules.specs.Swis.{deleteCall, endCall, takenCall};
+ghost use Rattle.tables.specs.Lent.{old, new, postsOld, postsNew};
+ghost use Rattle.rules.specs.Tables.{LineTable};
 
 // ---- 10: create, with a priority of 0 to 15 and an initial trigger
 
 // Any initial trigger b is allowed.
 pub fn create_code(swis: &Swis, x: u32, a: u32, b: u32, c: u32, d: u32) -> u32
-    ensures { λ r. ⌜ r ≡ codeOf (createCases (now (swis .entry)) x a b c d) ⌝ }
+    ensures { λ r. ⌜ r ≡ codeOf (createCases (old swis) x a b c d) ⌝ }
 {
-    if x != 0 {
+    if x != T {
         return 2;
     }
-    if 16 <= a {
+    if SWI_LEVELS <= a {
         return 4;
     }
-    if rows::answers::unused(0, 0, c, d) {
+    if answers::unused(0, 0, c, d) {
         return 4;
     }
-    if free_swi(swis) == 16 {
+    if free_swi(swis) == SWI_ROWS {
         return 6;
     }
     0
@@ -40,23 +45,19 @@ pub fn create_code(swis: &Swis, x: u32, a: u32, b: u32, c: u32, d: u32) -> u32
 
 // The lines, whatever stands in them, stay.
 pub fn create_effect(swis: &mut Swis, a: u32, b: u32) -> Answer
-    ensures { λ r. ⌜ ((ls : List ℕ) → after r (posts (now (swis .exit)) ls)
-        ≡ createEffect (posts (now (swis .entry)) ls) a b) ⌝ }
+    ensures { λ r. ⌜ ((ls : LineTable) → after r (posts (new swis) ls) ≡ createEffect (posts (old swis) ls) a b) ⌝ }
 {
     let i = free_swi(swis);
     put_swi(swis, i, 1, a, b, b, 0, 0);
-    rows::answers::accepted(0, i as u32)
+    answers::accepted(DONE, i as u32)
 }
 
 pub fn create(swis: &mut Swis, x: u32, a: u32, b: u32, c: u32, d: u32) -> Answer
-    ensures { λ r. ⌜ ((ls : List ℕ) → after r (posts (now (swis .exit)) ls)
-        ≡ answered (posts (now (swis .entry)) ls)
-        (called (createCases (now (swis .entry)) x a b c d)
-        (createEffect (posts (now (swis .entry)) ls) a b))) ⌝ }
+    ensures { λ r. ⌜ ((ls : LineTable) → after r (posts (new swis) ls) ≡ answered (posts (old swis) ls) (createCall (posts (old swis) ls) x a b c d)) ⌝ }
 {
     let code = create_code(swis, x, a, b, c, d);
     if code != 0 {
-        return rows::answers::refused(code);
+        return answers::refused(code);
     }
     create_effect(swis, a, b)
 }
@@ -73,17 +74,15 @@ pub fn delete_code(
     c: u32,
     d: u32,
 ) -> u32
-    ensures { λ r. ⌜ r
-        ≡ codeOf (deleteCases (now (swis .entry)) (now (lines .entry)) (now (clocks .entry))
-        x a b c d) ⌝ }
+    ensures { λ r. ⌜ r ≡ codeOf (deleteCases (old swis) (old lines) (old clocks) x a b c d) ⌝ }
 {
-    if x != 0 {
+    if x != T {
         return 2;
     }
-    if words::swi(swis, a as usize, USED) == 0 {
-        return rows::answers::absent_code(a, rules::SWI_COUNT);
+    if rows::swi(swis, a as usize, USED) == 0 {
+        return answers::absent_code(a, rules::numbers::SWI_COUNT);
     }
-    if rows::answers::unused(0, b, c, d) {
+    if answers::unused(0, b, c, d) {
         return 4;
     }
     if is_held(swis, lines, clocks, a) {
@@ -94,11 +93,10 @@ pub fn delete_code(
 
 // The row is all 0; the lines, whatever stands in them, stay.
 pub fn delete_effect(swis: &mut Swis, a: u32) -> Answer
-    ensures { λ r. ⌜ ((ls : List ℕ) → after r (posts (now (swis .exit)) ls)
-        ≡ deleteEffect (posts (now (swis .entry)) ls) a) ⌝ }
+    ensures { λ r. ⌜ ((ls : LineTable) → after r (posts (new swis) ls) ≡ deleteEffect (posts (old swis) ls) a) ⌝ }
 {
     put_swi(swis, a as usize, 0, 0, 0, 0, 0, 0);
-    rows::answers::accepted(0, 0)
+    answers::accepted(DONE, 0)
 }
 
 pub fn delete(
@@ -111,14 +109,11 @@ pub fn delete(
     c: u32,
     d: u32,
 ) -> Answer
-    ensures { λ r. ⌜ after r (posts (now (swis .exit)) (now (lines .entry)))
-        ≡ answered (posts (now (swis .entry)) (now (lines .entry)))
-        (called (deleteCases (now (swis .entry)) (now (lines .entry)) (now (clocks .entry))
-        x a b c d) (deleteEffect (posts (now (swis .entry)) (now (lines .entry))) a)) ⌝ }
+    ensures { λ r. ⌜ after r (posts (new swis) (old lines)) ≡ answered (postsOld swis lines) (deleteCall (postsOld swis lines) (old clocks) x a b c d) ⌝ }
 {
     let code = delete_code(swis, lines, clocks, x, a, b, c, d);
     if code != 0 {
-        return rows::answers::refused(code);
+        return answers::refused(code);
     }
     delete_effect(swis, a)
 }
@@ -126,15 +121,15 @@ pub fn delete(
 // ---- 17: end of the running Swi
 
 pub fn end_code(state: &State, x: u32, a: u32, b: u32, c: u32, d: u32) -> u32
-    ensures { λ r. ⌜ r ≡ codeOf (endCases (now (state .entry)) x a b c d) ⌝ }
+    ensures { λ r. ⌜ r ≡ codeOf (endCases (old state) x a b c d) ⌝ }
 {
-    if x != 1 {
+    if x != S {
         return 2;
     }
-    if rows::answers::unused(a, b, c, d) {
+    if answers::unused(a, b, c, d) {
         return 4;
     }
-    if state[SWIS] == 0 {
+    if state[rules::numbers::SWIS] == 0 {
         return 9;
     }
     0
@@ -142,13 +137,12 @@ pub fn end_code(state: &State, x: u32, a: u32, b: u32, c: u32, d: u32) -> u32
 
 // The top active Swi is active no more, and its taken trigger 0.
 pub fn end_effect(swis: &mut Swis, lines: &mut Lines) -> Answer
-    ensures { λ r. ⌜ after r (posts (now (swis .exit)) (now (lines .exit)))
-        ≡ endEffect (posts (now (swis .entry)) (now (lines .entry))) ⌝ }
+    ensures { λ r. ⌜ after r (postsNew swis lines) ≡ endEffect (postsOld swis lines) ⌝ }
 {
-    let i = rows::readings::top(lines);
-    words::set_swi(swis, fold::wide(i), TAKEN, 0);
-    rows::lines::leave(lines, 48, i);
-    rows::answers::accepted(0, 0)
+    let i = lines::top(lines);
+    rows::set_swi(swis, basics::wide(i), TAKEN, 0);
+    lines::leave(lines, ACTIVE_LINE, i);
+    answers::accepted(DONE, 0)
 }
 
 pub fn end(
@@ -161,14 +155,11 @@ pub fn end(
     c: u32,
     d: u32,
 ) -> Answer
-    ensures { λ r. ⌜ after r (posts (now (swis .exit)) (now (lines .exit)))
-        ≡ answered (posts (now (swis .entry)) (now (lines .entry)))
-        (called (endCases (now (state .entry)) x a b c d)
-        (endEffect (posts (now (swis .entry)) (now (lines .entry))))) ⌝ }
+    ensures { λ r. ⌜ after r (postsNew swis lines) ≡ answered (postsOld swis lines) (endCall (postsOld swis lines) (old state) x a b c d) ⌝ }
 {
     let code = end_code(state, x, a, b, c, d);
     if code != 0 {
-        return rows::answers::refused(code);
+        return answers::refused(code);
     }
     end_effect(swis, lines)
 }
@@ -178,32 +169,28 @@ pub fn end(
 pub fn taken_code(x: u32, a: u32, b: u32, c: u32, d: u32) -> u32
     ensures { λ r. ⌜ r ≡ codeOf (takenCases x a b c d) ⌝ }
 {
-    if x != 1 {
+    if x != S {
         return 2;
     }
-    if rows::answers::unused(a, b, c, d) {
+    if answers::unused(a, b, c, d) {
         return 4;
     }
     0
 }
 
 pub fn taken_effect(swis: &Swis, lines: &Lines) -> Answer
-    ensures { λ r. ⌜ after r (posts (now (swis .entry)) (now (lines .entry)))
-        ≡ takenEffect (posts (now (swis .entry)) (now (lines .entry))) ⌝ }
+    ensures { λ r. ⌜ after r (postsOld swis lines) ≡ takenEffect (postsOld swis lines) ⌝ }
 {
-    let i = rows::readings::top(lines);
-    rows::answers::accepted(0, words::swi(swis, fold::wide(i), TAKEN))
+    let i = lines::top(lines);
+    answers::accepted(DONE, rows::swi(swis, basics::wide(i), TAKEN))
 }
 
 pub fn taken(swis: &Swis, lines: &Lines, x: u32, a: u32, b: u32, c: u32, d: u32) -> Answer
-    ensures { λ r. ⌜ after r (posts (now (swis .entry)) (now (lines .entry)))
-        ≡ answered (posts (now (swis .entry)) (now (lines .entry)))
-        (called (takenCases x a b c d)
-        (takenEffect (posts (now (swis .entry)) (now (lines .entry))))) ⌝ }
+    ensures { λ r. ⌜ after r (postsOld swis lines) ≡ answered (postsOld swis lines) (takenCall (postsOld swis lines) x a b c d) ⌝ }
 {
     let code = taken_code(x, a, b, c, d);
     if code != 0 {
-        return rows::answers::refused(code);
+        return answers::refused(code);
     }
     taken_effect(swis, lines)
 }

@@ -1,5 +1,6 @@
 // The calls on Swis, 10 to 18.
 pub mod calls;
+pub mod posts;
 pub mod table;
 
 use rules::Answer;
@@ -9,7 +10,8 @@ use rules::State;
 use rules::Swis;
 ghost use mathlib.Core.Path.{_≡_};
 ghost use Rattle.rules.specs.Answer.{after, answered};
-ghost use Rattle.rules.specs.Swis.{posts, swiCall};
+ghost use Rattle.rules.specs.Swis.{swiCall};
+ghost use Rattle.tables.specs.Lent.{old, postsOld, postsNew};
 
 // The call of this number, made by x: 0 a task, 1 a Swi, 2 an interrupt.
 pub fn swi_call(
@@ -24,21 +26,19 @@ pub fn swi_call(
     c: u32,
     d: u32,
 ) -> Answer
-    ensures { λ r. ⌜ after r (posts (now (swis .exit)) (now (lines .exit)))
-        ≡ answered (posts (now (swis .entry)) (now (lines .entry)))
-        (swiCall (posts (now (swis .entry)) (now (lines .entry)))
-        (now (clocks .entry)) (now (state .entry)) x number a b c d) ⌝ }
+    ensures { λ r. ⌜ after r (postsNew swis lines)
+        ≡ answered (postsOld swis lines) (swiCall (postsOld swis lines) (old clocks) (old state) x number a b c d) ⌝ }
 {
     match number {
         0x10 => calls::create(swis, x, a, b, c, d),
         0x11 => calls::delete(swis, lines, clocks, x, a, b, c, d),
-        0x12 => posting::post(swis, lines, a, b, c, d),
-        0x13 => posting::add(swis, lines, a, b, c, d),
-        0x14 => posting::take(swis, lines, a, b, c, d),
-        0x15 => posting::set_bits(swis, lines, a, b, c, d),
-        0x16 => posting::clear_bits(swis, lines, a, b, c, d),
+        0x12 => posts::post(swis, lines, a, b, c, d),
+        0x13 => posts::add(swis, lines, a, b, c, d),
+        0x14 => posts::take(swis, lines, a, b, c, d),
+        0x15 => posts::set_bits(swis, lines, a, b, c, d),
+        0x16 => posts::clear_bits(swis, lines, a, b, c, d),
         0x17 => calls::end(swis, lines, state, x, a, b, c, d),
         0x18 => calls::taken(swis, lines, x, a, b, c, d),
-        _ => rows::answers::refused(1),
+        _ => answers::refused(1),
     }
 }

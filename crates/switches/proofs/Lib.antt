@@ -1,2 +1,4 @@
 pub mod Numbers
 pub mod Steps
+pub mod Still
+pub mod Ticks

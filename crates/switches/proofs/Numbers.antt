@@ -2,19 +2,19 @@
 use Prim.Native.Nat.{ℕ}
 use mathlib.Core.Path.{_≡_, ap, _∙_}
 use mathlib.Core.Logic.{_≢_}
-use mathlib.Core.List.{List}
 use borrow.Author.Tests.{ne-eqb}
-use Rattle.rules.specs.Answer.{Cases, After, after, answer, answered, called, accepted, codeOf, done, unknown}
+use Rattle.rules.specs.Answer.{CallRule, after, answer, answered, accepted, codeOf, done, unknown}
+use Rattle.rules.specs.Tables.{StateRow}
 use Rattle.rules.specs.Tick.{Ticked, tickedOf, ticked, onState, switchCall}
-use Rattle.laws.proofs.Calls.{mapped, mapped-guarded}
+use Rattle.rules_laws.proofs.Calls.{mapped, mapped-guarded}
 use Rattle.rules.specs.declared.Answer.{Answer}
 
 -- ---- a call on the state, as a call on all that a tick may change
-pub on-state : (t : Ticked) (k : Cases) (e : After (List ℕ)) {r : Answer} {st : List ℕ} → after r st ≡ answered (t .state) (called k e)
-    → after r (tickedOf (t .tasks) (t .lines) (t .swis) (t .clocks) st) ≡ answered t (called k (onState t e))
-on-state t k e q =
-    let with : List ℕ → Ticked = λ st. tickedOf (t .tasks) (t .lines) (t .swis) (t .clocks) st in
-    ap (mapped with) q ∙ mapped-guarded with (codeOf k) (t .state) e
+pub on-state : (t : Ticked) (k : CallRule StateRow) {r : Answer} {st : StateRow} → after r st ≡ answered (t .state) k
+    → after r (tickedOf (t .tasks) (t .lines) (t .swis) (t .clocks) st) ≡ answered t (onState t k)
+on-state t k q =
+    let with : StateRow → Ticked = λ st. tickedOf (t .tasks) (t .lines) (t .swis) (t .clocks) st in
+    ap (mapped with) q ∙ mapped-guarded with (codeOf (k .cases)) (t .state) (k .effect)
 
 -- an accepted tick
 pub tick-done : (t : Ticked) {u : Ticked} {r : Answer} → r ≡ answer 0 0 0 → u ≡ ticked t → after r u ≡ accepted done 0 (ticked t)

@@ -1,12 +1,18 @@
 // Calls 74, 75, 77 and 78: they change the state alone.
 use rules::Answer;
 use rules::State;
-use words::SWIS;
-use words::TASKS;
+use rules::numbers::DEPTH;
+use rules::numbers::DONE;
+use rules::numbers::I;
+use rules::numbers::MOST_DEPTH;
+use rules::numbers::S;
+use rules::numbers::SWIS;
+use rules::numbers::TASKS;
 ghost use mathlib.Core.Path.{_≡_};
-ghost use Rattle.rules.specs.Answer.{after, answered, called, codeOf};
-ghost use Rattle.rules.specs.Switches.{setting, settings, turned, mayNotName, badWhich, badKey};
-ghost use Rattle.rules.specs.Switches.{offCases, offEffect, restoreCases, restoreEffect, inCases, inEffect, interruptCases, outEffect};
+ghost use Rattle.rules.specs.Answer.{after, answered, codeOf};
+ghost use Rattle.rules.specs.Switches.{setting, settings, turned, mayNotName, badWhich, badKey, offCases, restoreCases, inCases, interruptCases, offCall};
+ghost use Rattle.rules.specs.Switches.{restoreCall, inCall, outCall};
+ghost use Rattle.tables.specs.Lent.{old, new};
 
 // ---- the bits by which 77 and 78 name the switches
 
@@ -23,7 +29,7 @@ const OFF: u32 = 0;
 
 // The settings of both switches, the bit of each that is on.
 pub fn settings(state: &State) -> u32
-    ensures { λ r. ⌜ r ≡ settings (now (state .entry)) ⌝ }
+    ensures { λ r. ⌜ r ≡ settings (old state) ⌝ }
 {
     setting(state[SWIS], SWIS_BIT) | setting(state[TASKS], TASKS_BIT)
 }
@@ -39,7 +45,7 @@ fn setting(switch: u32, bit: u32) -> u32
 
 // The switches that these bits name are v now, the others as they were.
 pub fn turn(state: &mut State, bits: u32, v: u32)
-    ensures { λ _. ⌜ now (state .exit) ≡ turned bits v (now (state .entry)) ⌝ }
+    ensures { λ _. ⌜ new state ≡ turned bits v (old state) ⌝ }
 {
     match bits & BOTH_BITS {
         SWIS_BIT => {
@@ -60,7 +66,7 @@ pub fn turn(state: &mut State, bits: u32, v: u32)
 pub fn may_not_name(x: u32, which: u32) -> bool
     ensures { λ r. ⌜ r ≡ mayNotName x which ⌝ }
 {
-    (x == 2) | ((x == 1) & (which != SWIS_BIT))
+    (x == I) | ((x == S) & (which != SWIS_BIT))
 }
 
 // 0, or above 3.
@@ -85,7 +91,7 @@ pub fn off_code(x: u32, which: u32, b: u32, c: u32, d: u32) -> u32
     if may_not_name(x, which) {
         return 2;
     }
-    if bad_which(which) | rows::answers::unused(0, b, c, d) {
+    if bad_which(which) | answers::unused(0, b, c, d) {
         return 4;
     }
     0
@@ -93,15 +99,15 @@ pub fn off_code(x: u32, which: u32, b: u32, c: u32, d: u32) -> u32
 
 // 77 off: the named ones' old settings.
 pub fn off(state: &mut State, x: u32, which: u32, b: u32, c: u32, d: u32) -> Answer
-    ensures { λ r. ⌜ after r (now (state .exit)) ≡ answered (now (state .entry)) (called (offCases x which b c d) (offEffect (now (state .entry)) which)) ⌝ }
+    ensures { λ r. ⌜ after r (new state) ≡ answered (old state) (offCall (old state) x which b c d) ⌝ }
 {
     let code = off_code(x, which, b, c, d);
     if code != 0 {
-        return rows::answers::refused(code);
+        return answers::refused(code);
     }
     let old = settings(state) & which;
     turn(state, which, OFF);
-    rows::answers::accepted(0, old)
+    answers::accepted(DONE, old)
 }
 
 // ---- 78: switches on
@@ -112,7 +118,7 @@ pub fn restore_code(x: u32, which: u32, key: u32, c: u32, d: u32) -> u32
     if may_not_name(x, which) {
         return 2;
     }
-    if bad_which(which) | bad_key(which, key) | rows::answers::unused(0, 0, c, d) {
+    if bad_which(which) | bad_key(which, key) | answers::unused(0, 0, c, d) {
         return 4;
     }
     0
@@ -120,25 +126,25 @@ pub fn restore_code(x: u32, which: u32, key: u32, c: u32, d: u32) -> u32
 
 // 78 restore: those of the named ones whose bit is in the key.
 pub fn restore(state: &mut State, x: u32, which: u32, key: u32, c: u32, d: u32) -> Answer
-    ensures { λ r. ⌜ after r (now (state .exit)) ≡ answered (now (state .entry)) (called (restoreCases x which key c d) (restoreEffect (now (state .entry)) which key)) ⌝ }
+    ensures { λ r. ⌜ after r (new state) ≡ answered (old state) (restoreCall (old state) x which key c d) ⌝ }
 {
     let code = restore_code(x, which, key, c, d);
     if code != 0 {
-        return rows::answers::refused(code);
+        return answers::refused(code);
     }
     turn(state, which & key, ON);
-    rows::answers::accepted(0, 0)
+    answers::accepted(DONE, 0)
 }
 
 // ---- 74 and 75: the interrupt
 
 pub fn in_code(state: &State, a: u32, b: u32, c: u32, d: u32) -> u32
-    ensures { λ r. ⌜ r ≡ codeOf (inCases (now (state .entry)) a b c d) ⌝ }
+    ensures { λ r. ⌜ r ≡ codeOf (inCases (old state) a b c d) ⌝ }
 {
-    if rows::answers::unused(a, b, c, d) {
+    if answers::unused(a, b, c, d) {
         return 4;
     }
-    if 8 <= state[0] {
+    if MOST_DEPTH <= state[DEPTH] {
         return 7;
     }
     0
@@ -146,27 +152,27 @@ pub fn in_code(state: &State, a: u32, b: u32, c: u32, d: u32) -> u32
 
 // 74 interrupt in.
 pub fn interrupt_in(state: &mut State, a: u32, b: u32, c: u32, d: u32) -> Answer
-    ensures { λ r. ⌜ after r (now (state .exit)) ≡ answered (now (state .entry)) (called (inCases (now (state .entry)) a b c d) (inEffect (now (state .entry)))) ⌝ }
+    ensures { λ r. ⌜ after r (new state) ≡ answered (old state) (inCall (old state) a b c d) ⌝ }
 {
     let code = in_code(state, a, b, c, d);
     if code != 0 {
-        return rows::answers::refused(code);
+        return answers::refused(code);
     }
-    let depth = state[0];
-    if depth < 8 {
-        state[0] = depth + 1;
-        return rows::answers::accepted(0, 0);
+    let depth = state[DEPTH];
+    if depth < MOST_DEPTH {
+        state[DEPTH] = depth + 1;
+        return answers::accepted(DONE, 0);
     }
-    rows::answers::accepted(0, 0)
+    answers::accepted(DONE, 0)
 }
 
 pub fn interrupt_code(x: u32, a: u32, b: u32, c: u32, d: u32) -> u32
     ensures { λ r. ⌜ r ≡ codeOf (interruptCases x a b c d) ⌝ }
 {
-    if x != 2 {
+    if x != I {
         return 2;
     }
-    if rows::answers::unused(a, b, c, d) {
+    if answers::unused(a, b, c, d) {
         return 4;
     }
     0
@@ -174,12 +180,12 @@ pub fn interrupt_code(x: u32, a: u32, b: u32, c: u32, d: u32) -> u32
 
 // 75 interrupt out.
 pub fn interrupt_out(state: &mut State, x: u32, a: u32, b: u32, c: u32, d: u32) -> Answer
-    ensures { λ r. ⌜ after r (now (state .exit)) ≡ answered (now (state .entry)) (called (interruptCases x a b c d) (outEffect (now (state .entry)))) ⌝ }
+    ensures { λ r. ⌜ after r (new state) ≡ answered (old state) (outCall (old state) x a b c d) ⌝ }
 {
     let code = interrupt_code(x, a, b, c, d);
     if code != 0 {
-        return rows::answers::refused(code);
+        return answers::refused(code);
     }
-    state[0] = rows::readings::one_less(state[0]);
-    rows::answers::accepted(0, 0)
+    state[DEPTH] = rows::readings::one_less(state[DEPTH]);
+    answers::accepted(DONE, 0)
 }

@@ -5,7 +5,7 @@ use mathlib.Core.Logic.{_≢_}
 use mathlib.Core.Bool.{Bool, true, false}
 use mathlib.Core.List.{List}
 use borrow.Author.Tests.{eq-eqb, ne-eqb}
-use Rattle.laws.proofs.Calls.{unknown-is}
+use Rattle.rules_laws.proofs.Calls.{unknown-is}
 use Rattle.rules.specs.Answer.{After, after, answer, answered}
 use Rattle.rules.specs.Rows.{field}
 use Rattle.rules.specs.Tables.{task, withTask, noTask}

@@ -1,45 +1,47 @@
 // The calls that name a task: 00 create, 01 delete, 02 set priority and 06 last result. Of each: its code, 0 where it is accepted; its
 // effect where it is; and the call. x is who calls: 0 T, 1 S, 2 I; a, b, c, d are the arguments.
+use super::table::blocked;
+use super::table::current;
+use super::table::free_task;
+use super::table::is_priority;
+use super::table::no_task;
+use super::table::placed_at;
+use super::table::with_priority;
 use rules::Answer;
 use rules::Lines;
 use rules::State;
 use rules::Tasks;
-use task_rows::INACTIVE;
-use task_rows::MINUS_ONE;
-use task_rows::MODE;
-use task_rows::NOT_IN_USE;
-use task_rows::PRIORITY;
-use task_rows::TERMINATED;
-use task_rows::blocked;
-use task_rows::current;
-use task_rows::free_task;
-use task_rows::is_priority;
-use task_rows::no_task;
-use task_rows::placed_at;
-use task_rows::with_priority;
+use rules::numbers::DONE;
+use rules::numbers::I;
+use rules::numbers::INACTIVE;
+use rules::numbers::MINUS_ONE;
+use rules::numbers::MODE;
+use rules::numbers::NOT_IN_USE;
+use rules::numbers::T;
+use rules::numbers::TASK_PRIORITY;
+use rules::numbers::TASK_ROWS;
+use rules::numbers::TERMINATED;
 ghost use mathlib.Core.Path.{_≡_};
-ghost use mathlib.Core.List.{List};
-ghost use Prim.Native.Nat.{ℕ};
-ghost use Rattle.rules.specs.Answer.{codeOf, after, called, answered};
+ghost use Rattle.rules.specs.Answer.{codeOf, after, answered};
 ghost use Rattle.rules.specs.Lines.{queued};
-ghost use Rattle.rules.specs.Tasks.{createCases};
-ghost use Rattle.rules.specs.Tasks.{createEffect, deleteCases, deleteEffect, setPriorityCases};
-ghost use Rattle.rules.specs.Tasks.{reprioritized, setPriorityEffect};
-ghost use Rattle.rules.specs.Tasks.{lastResultCases, lastResultEffect};
+ghost use Rattle.rules.specs.Tasks.{createCases, createEffect, deleteCases, deleteEffect, setPriorityCases, reprioritized, setPriorityEffect, lastResultCases};
+ghost use Rattle.rules.specs.Tasks.{createCall, deleteCall, setPriorityCall, lastResultCall};
+ghost use Rattle.tables.specs.Lent.{old, new, queuedOld, queuedNew};
+ghost use Rattle.rules.specs.Tables.{LineTable};
 
 // ---- 00 create (priority; T)
 
 // 4 for a bad priority, 6 where no number is free.
 pub fn create_code(tasks: &Tasks, state: &State, x: u32, a: u32, b: u32, c: u32, d: u32) -> u32
-    ensures { λ r. ⌜ r ≡ codeOf (createCases (now (tasks .entry)) (now (state .entry)) x a b c d) ⌝ }
+    ensures { λ r. ⌜ r ≡ codeOf (createCases (old tasks) (old state) x a b c d) ⌝ }
 {
-    if x != 0 {
+    if x != T {
         return 2;
     }
-    if !is_priority(rows::answers::levels(state), a) | rows::answers::unused(0, b, c, d) {
+    if !is_priority(rows::readings::levels(state), a) | answers::unused(0, b, c, d) {
         return 4;
     }
-    if free_task(tasks) == 32 {
+    if free_task(tasks) == TASK_ROWS {
         return 6;
     }
     0
@@ -47,12 +49,11 @@ pub fn create_code(tasks: &Tasks, state: &State, x: u32, a: u32, b: u32, c: u32,
 
 // A task at the lowest free number, ready at once unless at -1: value its number.
 pub fn create_effect(tasks: &mut Tasks, lines: &mut Lines, a: u32) -> Answer
-    ensures { λ r. ⌜ after r (queued (now (tasks .exit)) (now (lines .exit)))
-        ≡ createEffect (queued (now (tasks .entry)) (now (lines .entry))) a ⌝ }
+    ensures { λ r. ⌜ after r (queuedNew tasks lines) ≡ createEffect (queuedOld tasks lines) a ⌝ }
 {
     let i = free_task(tasks) as u32;
-    waits::moves::move_back(tasks, lines, i, placed_at(no_task(), a));
-    rows::answers::accepted(0, i)
+    moves::move_back(tasks, lines, i, placed_at(no_task(), a));
+    answers::accepted(DONE, i)
 }
 
 // 00 create.
@@ -66,14 +67,11 @@ pub fn create(
     c: u32,
     d: u32,
 ) -> Answer
-    ensures { λ r. ⌜ after r (queued (now (tasks .exit)) (now (lines .exit)))
-        ≡ answered (queued (now (tasks .entry)) (now (lines .entry)))
-        (called (createCases (now (tasks .entry)) (now (state .entry)) x a b c d)
-        (createEffect (queued (now (tasks .entry)) (now (lines .entry))) a)) ⌝ }
+    ensures { λ r. ⌜ after r (queuedNew tasks lines) ≡ answered (queuedOld tasks lines) (createCall (queuedOld tasks lines) (old state) x a b c d) ⌝ }
 {
     let code = create_code(tasks, state, x, a, b, c, d);
     if code != 0 {
-        return rows::answers::refused(code);
+        return answers::refused(code);
     }
     create_effect(tasks, lines, a)
 }
@@ -82,16 +80,16 @@ pub fn create(
 
 // 5 but for a terminated or inactive task.
 pub fn delete_code(tasks: &Tasks, x: u32, a: u32, b: u32, c: u32, d: u32) -> u32
-    ensures { λ r. ⌜ r ≡ codeOf (deleteCases (now (tasks .entry)) x a b c d) ⌝ }
+    ensures { λ r. ⌜ r ≡ codeOf (deleteCases (old tasks) x a b c d) ⌝ }
 {
-    if x != 0 {
+    if x != T {
         return 2;
     }
-    let mode = words::task_word(tasks, a as usize, MODE);
+    let mode = rows::task_word(tasks, a as usize, MODE);
     if mode == NOT_IN_USE {
-        return rows::answers::absent_code(a, rules::TASK_COUNT);
+        return answers::absent_code(a, rules::numbers::TASK_COUNT);
     }
-    if rows::answers::unused(0, b, c, d) {
+    if answers::unused(0, b, c, d) {
         return 4;
     }
     if !((mode == TERMINATED) | (mode == INACTIVE)) {
@@ -102,23 +100,20 @@ pub fn delete_code(tasks: &Tasks, x: u32, a: u32, b: u32, c: u32, d: u32) -> u32
 
 // The number is free again. No line is touched: such a task stands in none.
 pub fn delete_effect(tasks: &mut Tasks, a: u32) -> Answer
-    ensures { λ r. ⌜ ((ls : List ℕ) → after r (queued (now (tasks .exit)) ls)
-        ≡ deleteEffect (queued (now (tasks .entry)) ls) a) ⌝ }
+    ensures { λ r. ⌜ ((ls : LineTable) → after r (queued (new tasks) ls) ≡ deleteEffect (queued (old tasks) ls) a) ⌝ }
 {
-    words::set_task(tasks, a as usize, no_task());
-    rows::answers::accepted(0, 0)
+    rows::set_task(tasks, a as usize, no_task());
+    answers::accepted(DONE, 0)
 }
 
 // 01 delete.
 pub fn delete(tasks: &mut Tasks, x: u32, a: u32, b: u32, c: u32, d: u32) -> Answer
-    ensures { λ r. ⌜ ((ls : List ℕ) → after r (queued (now (tasks .exit)) ls)
-        ≡ answered (queued (now (tasks .entry)) ls)
-        (called (deleteCases (now (tasks .entry)) x a b c d)
-        (deleteEffect (queued (now (tasks .entry)) ls) a))) ⌝ }
+    ensures { λ r. ⌜ ((ls : LineTable) → after r (queued (new tasks) ls)
+        ≡ answered (queued (old tasks) ls) (deleteCall (queued (old tasks) ls) x a b c d)) ⌝ }
 {
     let code = delete_code(tasks, x, a, b, c, d);
     if code != 0 {
-        return rows::answers::refused(code);
+        return answers::refused(code);
     }
     delete_effect(tasks, a)
 }
@@ -135,17 +130,16 @@ pub fn set_priority_code(
     c: u32,
     d: u32,
 ) -> u32
-    ensures { λ r. ⌜ r
-        ≡ codeOf (setPriorityCases (now (tasks .entry)) (now (state .entry)) x a b c d) ⌝ }
+    ensures { λ r. ⌜ r ≡ codeOf (setPriorityCases (old tasks) (old state) x a b c d) ⌝ }
 {
-    if x == 2 {
+    if x == I {
         return 2;
     }
-    let mode = words::task_word(tasks, a as usize, MODE);
+    let mode = rows::task_word(tasks, a as usize, MODE);
     if mode == NOT_IN_USE {
-        return rows::answers::absent_code(a, rules::TASK_COUNT);
+        return answers::absent_code(a, rules::numbers::TASK_COUNT);
     }
-    if !is_priority(rows::answers::levels(state), b) | rows::answers::unused(0, 0, c, d) {
+    if !is_priority(rows::readings::levels(state), b) | answers::unused(0, 0, c, d) {
         return 4;
     }
     if (a == 0) | (mode == TERMINATED) {
@@ -160,27 +154,25 @@ pub fn set_priority_code(
 // The same priority changes nothing; a blocked task keeps its place in line; a ready or inactive
 // one joins the new queue at the back, or is inactive at -1.
 pub fn reprioritize(tasks: &mut Tasks, lines: &mut Lines, a: u32, p: u32)
-    ensures { λ _. ⌜ queued (now (tasks .exit)) (now (lines .exit))
-        ≡ reprioritized (queued (now (tasks .entry)) (now (lines .entry))) a p ⌝ }
+    ensures { λ _. ⌜ queuedNew tasks lines ≡ reprioritized (queuedOld tasks lines) a p ⌝ }
 {
-    let old = words::task(tasks, a as usize);
+    let old = rows::task(tasks, a as usize);
     if p != old.priority {
         if blocked(old.mode) {
-            words::set_task(tasks, a as usize, with_priority(old, p));
+            rows::set_task(tasks, a as usize, with_priority(old, p));
         } else {
-            waits::moves::move_back(tasks, lines, a, placed_at(old, p));
+            moves::move_back(tasks, lines, a, placed_at(old, p));
         }
     }
 }
 
 // Value the old priority.
 pub fn set_priority_effect(tasks: &mut Tasks, lines: &mut Lines, a: u32, b: u32) -> Answer
-    ensures { λ r. ⌜ after r (queued (now (tasks .exit)) (now (lines .exit)))
-        ≡ setPriorityEffect (queued (now (tasks .entry)) (now (lines .entry))) a b ⌝ }
+    ensures { λ r. ⌜ after r (queuedNew tasks lines) ≡ setPriorityEffect (queuedOld tasks lines) a b ⌝ }
 {
-    let old = words::task_word(tasks, a as usize, PRIORITY);
+    let old = rows::task_word(tasks, a as usize, TASK_PRIORITY);
     reprioritize(tasks, lines, a, b);
-    rows::answers::accepted(0, old)
+    answers::accepted(DONE, old)
 }
 
 // 02 set priority.
@@ -194,14 +186,12 @@ pub fn set_priority(
     c: u32,
     d: u32,
 ) -> Answer
-    ensures { λ r. ⌜ after r (queued (now (tasks .exit)) (now (lines .exit)))
-        ≡ answered (queued (now (tasks .entry)) (now (lines .entry)))
-        (called (setPriorityCases (now (tasks .entry)) (now (state .entry)) x a b c d)
-        (setPriorityEffect (queued (now (tasks .entry)) (now (lines .entry))) a b)) ⌝ }
+    ensures { λ r. ⌜ after r (queuedNew tasks lines)
+        ≡ answered (queuedOld tasks lines) (setPriorityCall (queuedOld tasks lines) (old state) x a b c d) ⌝ }
 {
     let code = set_priority_code(tasks, state, x, a, b, c, d);
     if code != 0 {
-        return rows::answers::refused(code);
+        return answers::refused(code);
     }
     set_priority_effect(tasks, lines, a, b)
 }
@@ -210,12 +200,12 @@ pub fn set_priority(
 
 // 3 for a number outside the table, 11 for a task not in use.
 pub fn last_result_code(tasks: &Tasks, a: u32, b: u32, c: u32, d: u32) -> u32
-    ensures { λ r. ⌜ r ≡ codeOf (lastResultCases (now (tasks .entry)) a b c d) ⌝ }
+    ensures { λ r. ⌜ r ≡ codeOf (lastResultCases (old tasks) a b c d) ⌝ }
 {
-    if words::task_word(tasks, a as usize, MODE) == NOT_IN_USE {
-        return rows::answers::absent_code(a, rules::TASK_COUNT);
+    if rows::task_word(tasks, a as usize, MODE) == NOT_IN_USE {
+        return answers::absent_code(a, rules::numbers::TASK_COUNT);
     }
-    if rows::answers::unused(0, b, c, d) {
+    if answers::unused(0, b, c, d) {
         return 4;
     }
     0
@@ -223,15 +213,13 @@ pub fn last_result_code(tasks: &Tasks, a: u32, b: u32, c: u32, d: u32) -> u32
 
 // 06 last result: outcome and value of its last ended wait or sleep. Nothing is changed.
 pub fn last_result(tasks: &Tasks, a: u32, b: u32, c: u32, d: u32) -> Answer
-    ensures { λ r. ⌜ ((ls : List ℕ) → after r (queued (now (tasks .entry)) ls)
-        ≡ answered (queued (now (tasks .entry)) ls)
-        (called (lastResultCases (now (tasks .entry)) a b c d)
-        (lastResultEffect (queued (now (tasks .entry)) ls) a))) ⌝ }
+    ensures { λ r. ⌜ ((ls : LineTable) → after r (queued (old tasks) ls)
+        ≡ answered (queued (old tasks) ls) (lastResultCall (queued (old tasks) ls) a b c d)) ⌝ }
 {
     let code = last_result_code(tasks, a, b, c, d);
     if code != 0 {
-        return rows::answers::refused(code);
+        return answers::refused(code);
     }
-    let k = words::task(tasks, a as usize);
-    rows::answers::accepted(k.outcome, k.value)
+    let k = rows::task(tasks, a as usize);
+    answers::accepted(k.outcome, k.value)
 }

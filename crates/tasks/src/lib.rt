@@ -1,5 +1,7 @@
 // The calls of tasks, 00 to 06.
 pub mod calls;
+pub mod running;
+pub mod table;
 
 use rules::Answer;
 use rules::Lines;
@@ -7,8 +9,8 @@ use rules::State;
 use rules::Tasks;
 ghost use mathlib.Core.Path.{_≡_};
 ghost use Rattle.rules.specs.Answer.{after, answered};
-ghost use Rattle.rules.specs.Lines.{queued};
 ghost use Rattle.rules.specs.Tasks.{taskCall};
+ghost use Rattle.tables.specs.Lent.{old, queuedOld, queuedNew};
 
 // 00 to 06; 1 for another number.
 pub fn task_call(
@@ -22,19 +24,17 @@ pub fn task_call(
     c: u32,
     d: u32,
 ) -> Answer
-    ensures { λ r. ⌜ after r (queued (now (tasks .exit)) (now (lines .exit)))
-        ≡ answered (queued (now (tasks .entry)) (now (lines .entry)))
-        (taskCall (queued (now (tasks .entry)) (now (lines .entry)))
-        (now (state .entry)) x number a b c d) ⌝ }
+    ensures { λ r. ⌜ after r (queuedNew tasks lines)
+        ≡ answered (queuedOld tasks lines) (taskCall (queuedOld tasks lines) (old state) x number a b c d) ⌝ }
 {
     match number {
         0x00 => calls::create(tasks, lines, state, x, a, b, c, d),
         0x01 => calls::delete(tasks, x, a, b, c, d),
         0x02 => calls::set_priority(tasks, lines, state, x, a, b, c, d),
-        0x03 => running_task::yield_task(tasks, lines, state, x, a, b, c, d),
-        0x04 => running_task::end(tasks, lines, state, x, a, b, c, d),
-        0x05 => running_task::sleep(tasks, lines, state, x, a, b, c, d),
+        0x03 => running::yield_task(tasks, lines, state, x, a, b, c, d),
+        0x04 => running::end(tasks, lines, state, x, a, b, c, d),
+        0x05 => running::sleep(tasks, lines, state, x, a, b, c, d),
         0x06 => calls::last_result(tasks, a, b, c, d),
-        _ => rows::answers::refused(1),
+        _ => answers::refused(1),
     }
 }

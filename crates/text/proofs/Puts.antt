@@ -11,8 +11,8 @@ use lib.Dec.{ltb}
 use lib.ListN.{length, take, drop, set, getD, length-append, length-take, take-append-drop}
 use lib.Seq.{take-all, take-nil, take-suc}
 use borrow.Author.Tests.{lt-ltb, le-ltb, ltb-true, ltb-false}
-use Rattle.fold.proofs.Laws.{lt-or-le}
-use Rattle.fold.proofs.Runs.{sets-append}
+use Rattle.basics.proofs.Laws.{lt-or-le}
+use Rattle.basics.proofs.Runs.{sets-append}
 use Rattle.rules.specs.Text.{digits, decimal, space, lineFeed, threadText, lineText, wordText}
 use Rattle.rules.specs.declared.Answer.{Answer}
 use Rattle.rules.specs.declared.Thread.{Thread}

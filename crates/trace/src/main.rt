@@ -1,7 +1,6 @@
 // For the desk's views: replays each log that an argument names, or standard input where there is none, and prints a line of numbers for each
 // record (docs/TRACE.md), last the line that ends every replay.
 // The calls are made by the entry, on tables by value, so that those before a call are there beside those after it.
-use changes::Made;
 use rules::Clocks;
 use rules::Events;
 use rules::Heap;
@@ -14,6 +13,7 @@ use rules::Swis;
 use rules::Tables;
 use rules::Tasks;
 use text::Text;
+use trace_changes::Made;
 
 // A part of a log: the bytes that waited, and those that came.
 type Part = [u8; 2560];
@@ -116,10 +116,10 @@ struct Carried {
 // The call of a record, and its line.
 fn told(c: Carried, number: u8, bytes: &[u8], out: &mut Text) -> Carried {
     let before = c.tables;
-    let a = calllog::argument(bytes, 0);
-    let b = calllog::argument(bytes, 1);
-    let c3 = calllog::argument(bytes, 2);
-    let d = calllog::argument(bytes, 3);
+    let a = call_log::argument(bytes, 0);
+    let b = call_log::argument(bytes, 1);
+    let c3 = call_log::argument(bytes, 2);
+    let d = call_log::argument(bytes, 3);
     let step = entries::call(before, number as u32, a, b, c3, d);
     let tables = step.tables;
     let answer = step.answer;
@@ -197,14 +197,14 @@ fn read_one(log: &[u8], at: usize, carried: Carried, out: &mut Text) -> Carried 
         return c;
     }
     let state = c.tables.state;
-    let found = calllog::read_in(log, at, reads::version_by(&state));
+    let found = call_log::read_in(log, at, desk_reads::version_by(&state));
     let Read::Record { number, start } = found else {
         let mut over = c;
         over.len = put_last(out, c.len, found, c.offset, c.count);
         over.going = false;
         return over;
     };
-    told(c, number, calllog::arguments(log, start), out)
+    told(c, number, call_log::arguments(log, start), out)
 }
 
 // The whole records of a part.
@@ -223,7 +223,7 @@ fn begun(log: &[u8], carried: Carried) -> Carried {
     let mut c = carried;
     let mut tables = c.tables;
     let mut state = tables.state;
-    reads::begin(&mut state, log, c.count);
+    desk_reads::begin(&mut state, log, c.count);
     tables.state = state;
     c.tables = tables;
     c
@@ -271,7 +271,7 @@ fn read_behind(fd: i32, name: &[u8], part: &mut [u8], held: usize) -> Came {
 
 // The bytes of the first n behind the whole records, to the front; how many they are.
 fn to_front(part: &mut [u8], n: usize) -> usize {
-    let end = rows::lines::least(n, part.len());
+    let end = basics::least(n, part.len());
     let mut from = n - n % 20;
     let mut i = 0;
     while from < end {
@@ -304,7 +304,7 @@ fn read_then_turn(fd: i32, name: &[u8], part: &mut Part, c: Carried, out: &mut T
 fn trace_all(fd: i32, name: &[u8]) {
     let mut part = [0u8; 2560];
     let mut out = [0u8; 16384];
-    let fresh = entries::fresh(rules::FEW_LEVELS);
+    let fresh = entries::fresh(rules::numbers::FEW_LEVELS);
     let tables = fresh.tables;
     let mut c = Carried {
         tables,

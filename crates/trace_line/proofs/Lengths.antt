@@ -8,7 +8,7 @@ use native.Mathlib.Nat.{mul-le-mul-right}
 use borrow.Author.Tests.{lt-ltb}
 use lib.Dec.{eqb, ltb}
 use lib.ListN.{length, getD, length-append}
-use Rattle.fold.specs.Lists.{bit}
+use Rattle.basics.specs.Lists.{bit}
 use Rattle.rules.specs.Rows.{field, listed}
 use Rattle.rules.specs.Tables.{task, clock, messages, state, TICK}
 use Rattle.rules.specs.Lines.{line, lineCount, mailboxLine, activeLine}
@@ -16,18 +16,18 @@ use Rattle.rules.specs.Swis.{top}
 use Rattle.rules.specs.Dispatch.{running}
 use Rattle.rules.specs.Text.{digits, decimal}
 use Rattle.rules.specs.declared.Tables.{Tables}
-use Rattle.laws.proofs.Rows.{by-range}
-use Rattle.laws.proofs.Listed.{listed-le, at-listed}
-use Rattle.laws.proofs.Lines.{line-in, line-out, line-le}
-use Rattle.laws.proofs.Calls.{chosen}
+use Rattle.rules_laws.proofs.Rows.{by-range}
+use Rattle.rules_laws.proofs.Listed.{listed-le, at-listed}
+use Rattle.rules_laws.proofs.Lines.{line-in, line-out, line-le}
+use Rattle.rules_laws.proofs.Calls.{chosen}
 use Rattle.text.proofs.Lengths.{decimal-most, thread-most}
-use Rattle.changes.specs.Numbers.{columns, eachBelow, sameList, told}
-use Rattle.changes.specs.Changes.{row, sameRow, waiting, stateNow, sameTask, taskNumbers, changedTasks, post, isPosted, callClock, callPosts, callPost, runsOut, postedBelow, clockPost, clockPosts, isTick, postsMade}
-use Rattle.changes.specs.Changes.{isStarted, startedSwi, postedSwis, changedLined, sameMailbox, changedMailboxes, mailboxNumbers, changedRows, ranOut, changedClocks, sameHeap, blocks, unitsTaken, changedHeap}
-use Rattle.changes.specs.Line.{callText, barred, parts, traceLine, Under, Typical, lineMost}
-use Rattle.changes.specs.declared.Made.{Made}
-use Rattle.changes.proofs.Telling.{columns-append}
-use Rattle.changes.proofs.Steps.{bit-most}
+use Rattle.trace_changes.specs.Numbers.{columns, eachBelow, sameList, told}
+use Rattle.trace_changes.specs.Changes.{row, sameRow, waiting, stateNow, sameTask, taskNumbers, changedTasks, post, isPosted, callClock, callPosts, callPost, runsOut, postedBelow, clockPost, clockPosts, isTick, postsMade}
+use Rattle.trace_changes.specs.Changes.{isStarted, startedSwi, postedSwis, changedLined, sameMailbox, changedMailboxes, mailboxNumbers, changedRows, ranOut, changedClocks, sameHeap, blocks, unitsTaken, changedHeap}
+use Rattle.trace_changes.specs.Line.{callText, barred, parts, traceLine, Under, Typical, lineMost}
+use Rattle.trace_changes.specs.declared.Made.{Made}
+use Rattle.trace_changes.proofs.Telling.{columns-append}
+use Rattle.trace_changes.proofs.Steps.{bit-most}
 
 -- ---- the digits of a number
 tens : ℕ → ℕ

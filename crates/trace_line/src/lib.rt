@@ -1,15 +1,4 @@
 // The line of a record in the trace: its parts one after the other, in a lent text.
-use changed_objects::put_clocks;
-use changed_objects::put_heap;
-use changed_objects::put_lined;
-use changed_objects::put_mailboxes;
-use changed_objects::put_rows;
-use changed_threads::put_posted;
-use changed_threads::put_posts;
-use changed_threads::put_started;
-use changed_threads::put_state;
-use changed_threads::put_tasks;
-use changes::Made;
 use rules::Answer;
 use rules::Clocks;
 use rules::Events;
@@ -21,30 +10,51 @@ use rules::State;
 use rules::Swis;
 use rules::Tasks;
 use rules::Thread;
-use telling::put;
-use telling::put_line;
-use telling::put_long;
+use rules::numbers::ACTIVE_LINE;
+use rules::numbers::EVENT_LINES_U8;
+use rules::numbers::EVENT_ROWS_U8;
+use rules::numbers::EVENT_WIDTH_U8;
+use rules::numbers::SEMAPHORE_LINES_U8;
+use rules::numbers::SEMAPHORE_ROWS_U8;
+use rules::numbers::SEMAPHORE_WIDTH_U8;
+use rules::numbers::SWI_ROWS_U8;
+use rules::numbers::SWI_WIDTH_U8;
+use rules::numbers::TICK;
 use text::Text;
+use trace_changes::Made;
+use trace_objects::put_clocks;
+use trace_objects::put_heap;
+use trace_objects::put_lined;
+use trace_objects::put_mailboxes;
+use trace_objects::put_rows;
+use trace_put::put;
+use trace_put::put_line;
+use trace_put::put_long;
+use trace_threads::put_posted;
+use trace_threads::put_posts;
+use trace_threads::put_started;
+use trace_threads::put_state;
+use trace_threads::put_tasks;
 ghost use mathlib.Core.List.{[], _∷_, _++_};
 ghost use Rattle.rules.specs.Tables.{wordEnd};
 ghost use Rattle.rules.specs.Text.{space, threadText};
 ghost use Rattle.text.specs.Put.{Put};
-ghost use Rattle.lent.specs.Lent.{before};
-ghost use Rattle.changes.specs.Numbers.{PutNumbers};
-ghost use Rattle.changes.specs.Changes.{stateNow, changedTasks, postsMade, startedSwi, postedSwis, activeSwis};
-ghost use Rattle.changes.specs.Changes.{changedSemaphores, changedEvents, changedMailboxes, changedSwis, changedClocks, changedHeap};
-ghost use Rattle.changes.specs.Line.{bar, barred, callText, traceLine, Under, Typical, Lined};
+ghost use Rattle.tables.specs.Lent.{old, new, tablesOld};
+ghost use Rattle.trace_changes.specs.Numbers.{PutNumbers};
+ghost use Rattle.trace_changes.specs.Changes.{stateNow, changedTasks, postsMade, startedSwi, postedSwis, activeSwis, changedSemaphores, changedEvents};
+ghost use Rattle.trace_changes.specs.Changes.{changedMailboxes, changedSwis, changedClocks, changedHeap};
+ghost use Rattle.trace_changes.specs.Line.{bar, barred, callText, traceLine, Under, Typical, Lined};
 
 // What stands between two parts.
 fn put_bar(out: &mut Text, at: usize) -> usize
-    ensures { λ r. ⌜ Put (now (out .entry)) at bar (now (out .exit)) r ⌝ }
+    ensures { λ r. ⌜ Put (old out) at bar (new out) r ⌝ }
 {
     let p = text::put_byte(out, at, b';');
     text::put_byte(out, p, b' ')
 }
 
 fn put_thread(out: &mut Text, at: usize, thread: Thread) -> usize
-    ensures { λ r. ⌜ Put (now (out .entry)) at (threadText thread ++ space) (now (out .exit)) r ⌝ }
+    ensures { λ r. ⌜ Put (old out) at (threadText thread ++ space) (new out) r ⌝ }
 {
     let p = text::put_thread(out, at, thread);
     text::put_byte(out, p, b' ')
@@ -72,10 +82,10 @@ fn put_answer(out: &mut Text, at: usize, answer: Answer) -> usize
 
 // The call, by the tables before it.
 fn put_call(out: &mut Text, at: usize, made: Made, lines: &Lines, state: &State) -> usize
-    ensures { λ r. ⌜ Put (now (out .entry)) at (callText made (now (lines .entry)) (now (state .entry))) (now (out .exit)) r ⌝ }
+    ensures { λ r. ⌜ Put (old out) at (callText made (old lines) (old state)) (new out) r ⌝ }
 {
     let tick = put_long(out, at, made.n);
-    let caller = put(out, tick, state[3]);
+    let caller = put(out, tick, state[TICK]);
     let asked = put_thread(out, caller, dispatch::running(lines, state));
     let answered = put_asked(out, asked, made);
     let answer = made.answer;
@@ -97,13 +107,16 @@ fn put_threads(
     lines: &Lines,
     state: &State,
 ) -> usize
-    ensures { λ r. ⌜ Put (now (out .entry)) at (barred (
-        stateNow (now (state .entry))
-        ∷ changedTasks (now («tasks_before» .entry)) (now (tasks .entry))
-        ∷ postsMade made (now («clocks_before» .entry)) (now («swis_before» .entry))
-        ∷ startedSwi made (now («lines_before» .entry)) (now (lines .entry))
-        ∷ postedSwis (now (lines .entry))
-        ∷ activeSwis (now (lines .entry)) ∷ [])) (now (out .exit)) r ⌝ }
+    ensures { λ r. ⌜ Put (old out) at
+        (barred
+        (stateNow (old state)
+        ∷ changedTasks (old «tasks_before») (old tasks)
+        ∷ postsMade made (old «clocks_before») (old «swis_before»)
+        ∷ startedSwi made (old «lines_before») (old lines)
+        ∷ postedSwis (old lines)
+        ∷ activeSwis (old lines)
+        ∷ []))
+        (new out) r ⌝ }
 {
     let s = put_bar(out, at);
     let after_s = put_state(out, s, state);
@@ -116,7 +129,7 @@ fn put_threads(
     let w = put_bar(out, after_d);
     let after_w = put_posted(out, w, lines);
     let a = put_bar(out, after_w);
-    put_line(out, a, lines, 48)
+    put_line(out, a, lines, ACTIVE_LINE)
 }
 
 // The objects at which tasks wait.
@@ -132,10 +145,13 @@ fn put_waited(
     events: &Events,
     mailboxes: &Mailboxes,
 ) -> usize
-    ensures { λ r. ⌜ Put (now (out .entry)) at (barred (
-        changedSemaphores (now («semaphores_before» .entry)) (now («lines_before» .entry)) (now (semaphores .entry)) (now (lines .entry))
-        ∷ changedEvents (now («events_before» .entry)) (now («lines_before» .entry)) (now (events .entry)) (now (lines .entry))
-        ∷ changedMailboxes (now («mailboxes_before» .entry)) (now («lines_before» .entry)) (now (mailboxes .entry)) (now (lines .entry)) ∷ [])) (now (out .exit)) r ⌝ }
+    ensures { λ r. ⌜ Put (old out) at
+        (barred
+        (changedSemaphores (old «semaphores_before») (old «lines_before») (old semaphores) (old lines)
+        ∷ changedEvents (old «events_before») (old «lines_before») (old events) (old lines)
+        ∷ changedMailboxes (old «mailboxes_before») (old «lines_before») (old mailboxes) (old lines)
+        ∷ []))
+        (new out) r ⌝ }
 {
     let s = put_bar(out, at);
     let after_s = put_lined(
@@ -143,14 +159,24 @@ fn put_waited(
         s,
         semaphores_before,
         semaphores,
-        3,
-        16,
+        SEMAPHORE_WIDTH_U8,
+        SEMAPHORE_ROWS_U8,
         lines_before,
         lines,
-        0,
+        SEMAPHORE_LINES_U8,
     );
     let e = put_bar(out, after_s);
-    let after_e = put_lined(out, e, events_before, events, 2, 8, lines_before, lines, 24);
+    let after_e = put_lined(
+        out,
+        e,
+        events_before,
+        events,
+        EVENT_WIDTH_U8,
+        EVENT_ROWS_U8,
+        lines_before,
+        lines,
+        EVENT_LINES_U8,
+    );
     let m = put_bar(out, after_e);
     put_mailboxes(out, m, mailboxes_before, lines_before, mailboxes, lines)
 }
@@ -167,13 +193,16 @@ fn put_others(
     clocks: &Clocks,
     heap: &Heap,
 ) -> usize
-    ensures { λ r. ⌜ Put (now (out .entry)) at (barred (
-        changedSwis (now («swis_before» .entry)) (now (swis .entry))
-        ∷ changedClocks made (now («clocks_before» .entry)) (now (clocks .entry))
-        ∷ changedHeap (now («heap_before» .entry)) (now (heap .entry)) ∷ [])) (now (out .exit)) r ⌝ }
+    ensures { λ r. ⌜ Put (old out) at
+        (barred
+        (changedSwis (old «swis_before») (old swis)
+        ∷ changedClocks made (old «clocks_before») (old clocks)
+        ∷ changedHeap (old «heap_before») (old heap)
+        ∷ []))
+        (new out) r ⌝ }
 {
     let s = put_bar(out, at);
-    let after_s = put_rows(out, s, swis_before, swis, 6, 16);
+    let after_s = put_rows(out, s, swis_before, swis, SWI_WIDTH_U8, SWI_ROWS_U8);
     let c = put_bar(out, after_s);
     let after_c = put_clocks(out, c, made, clocks_before, clocks);
     let h = put_bar(out, after_c);
@@ -184,7 +213,7 @@ fn put_others(
 
 // A table's numbers are words: its type tells a proof so where one is read, and nothing is left of this in a compiled program.
 fn are_words(t: &[u32])
-    ensures { λ _. ⌜ Under wordEnd (now (t .entry)) ⌝ }
+    ensures { λ _. ⌜ Under wordEnd (old t) ⌝ }
 {
     if 0 < t.len() {
         let _first = t[0];
@@ -193,7 +222,7 @@ fn are_words(t: &[u32])
 
 // The same of bytes.
 fn are_bytes(t: &[u8])
-    ensures { λ _. ⌜ Under 256 (now (t .entry)) ⌝ }
+    ensures { λ _. ⌜ Under 256 (old t) ⌝ }
 {
     if 0 < t.len() {
         let _first = t[0];
@@ -210,7 +239,7 @@ fn are_typical(
     swis: &Swis,
     clocks: &Clocks,
 )
-    ensures { λ _. ⌜ Typical (now (tasks .entry)) (now (lines .entry)) (now (semaphores .entry)) (now (events .entry)) (now (mailboxes .entry)) (now (swis .entry)) (now (clocks .entry)) ⌝ }
+    ensures { λ _. ⌜ Typical (old tasks) (old lines) (old semaphores) (old events) (old mailboxes) (old swis) (old clocks) ⌝ }
 {
     are_words(tasks);
     are_bytes(lines);
@@ -245,9 +274,12 @@ pub fn put_trace(
     heap: &Heap,
     state: &State,
 ) -> usize
-    ensures { λ r. ⌜ Lined (now (out .entry)) at (traceLine made
-        (before «tasks_before» «lines_before» «semaphores_before» «events_before» «mailboxes_before» «swis_before» «clocks_before» «heap_before» «state_before»)
-        (before tasks lines semaphores events mailboxes swis clocks heap state)) (now (out .exit)) r ⌝ }
+    ensures { λ r. ⌜ Lined (old out) at
+        (traceLine made
+        (tablesOld «tasks_before» «lines_before» «semaphores_before» «events_before» «mailboxes_before» «swis_before» «clocks_before» «heap_before»
+        «state_before»)
+        (tablesOld tasks lines semaphores events mailboxes swis clocks heap state))
+        (new out) r ⌝ }
 {
     are_typical(tasks, lines, semaphores, events, mailboxes, swis, clocks);
     let told = put_call(out, at, made, lines_before, state_before);

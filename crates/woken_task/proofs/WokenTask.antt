@@ -1,5 +1,5 @@
 -- A post's value is the task that it woke. Where somebody is due its value is the first in line by definition, and the first in line waits there
--- (`turns/proofs/Wakes`); where nobody is its value is 0, and no task but a caller that goes to wait has another row (`turns/proofs/Posts`).
+-- (`demand_3_turns/proofs/Wakes`); where nobody is its value is 0, and no task but a caller that goes to wait has another row (`demand_3_turns/proofs/Posts`).
 use Prim.Native.Nat.{ℕ}
 use mathlib.Core.Path.{_≡_, refl, sym, ap, subst, _∙_}
 use mathlib.Core.Logic.{_⊎_, inl, inr}
@@ -15,19 +15,20 @@ use Rattle.rules.specs.Sound.{Sound}
 use Rattle.rules.specs.declared.Answer.{Answer}
 use Rattle.rules.specs.declared.Tables.{Tables}
 use Rattle.rules.specs.declared.Task.{Task}
-use Rattle.runs.specs.Run.{Asked, made, next}
-use Rattle.refusals.proofs.First.{by-bool}
-use Rattle.keeps.proofs.TaskRows.{task-stands, semaphore-row, event-row, mailbox-row}
-use Rattle.keeps.proofs.Waiting.{both}
-use Rattle.turns.proofs.Made.{Accepted, by-answer}
-use Rattle.turns.proofs.Reach.{of-post, of-event, of-mailbox}
-use Rattle.turns.proofs.Wakes.{ServesFirst, wake-done, foremost-named, foremost-not-0, foremost-home, foremost-readied, others-stay, foremost-first}
-use Rattle.turns.proofs.Posts.{semaphore-wakes, counts-value, counts-tasks, event-wakes, sets-value, sets-tasks}
-use Rattle.turns.proofs.Posts.{mailbox-wakes, stores-value, stores-rows}
+use Rattle.runs.specs.Run.{made, next}
+use Rattle.demand_1_refusals.proofs.First.{by-bool}
+use Rattle.demand_2_soundness.proofs.TaskRows.{task-stands, semaphore-row, event-row, mailbox-row}
+use Rattle.demand_2_soundness.proofs.Waiting.{both}
+use Rattle.demand_3_turns.proofs.Made.{Accepted, by-answer}
+use Rattle.demand_3_turns.proofs.Reach.{of-post, of-event, of-mailbox}
+use Rattle.demand_3_turns.proofs.Wakes.{ServesFirst, wake-done, foremost-named, foremost-not-0, foremost-home, foremost-readied, others-stay, foremost-first}
+use Rattle.demand_3_turns.proofs.Posts.{semaphore-wakes, counts-value, counts-tasks, event-wakes, sets-value, sets-tasks}
+use Rattle.demand_3_turns.proofs.Posts.{mailbox-wakes, stores-value, stores-rows}
 use Rattle.woken_task.specs.WokenTask.{Post, semaphorePost, match, eventPost, mailboxPost, BlockedAt, Woke, WokeNobody, Tells}
 use Rattle.woken_task.specs.WokenTask.{ValueTells, EnteredTells, OfAllThree}
+use Rattle.rules.specs.declared.Call.{Call}
 
-module _ (t : Tables) (typed : Typed t) (sound : Sound t) (q : Asked) (ok : Accepted t q) where
+module _ (t : Tables) (typed : Typed t) (sound : Sound t) (q : Call) (ok : Accepted t q) where
   abbrev Told : Post → Type 0
   Told p = Tells p t q (made t q .answer) (next t q)
 
@@ -104,7 +105,7 @@ module _ (t : Tables) (typed : Typed t) (sound : Sound t) (q : Asked) (ok : Acce
 
 -- ---- an accepted post
 accepted-tells : (p : Post)
-    → ((t : Tables) (typed : Typed t) (sound : Sound t) (q : Asked) (ok : Accepted t q) → q .number ≡ p .number → Told t typed sound q ok p)
+    → ((t : Tables) (typed : Typed t) (sound : Sound t) (q : Call) (ok : Accepted t q) → q .number ≡ p .number → Told t typed sound q ok p)
     → ValueTells p
 accepted-tells p told t typed sound q number code =
     by-answer t sound q (λ back. absurd (back .code code)) (λ ok. told t typed sound q ok number)
@@ -118,7 +119,7 @@ woken-task =
     }
 
 -- ---- where nobody was woken nobody was readied: whoever is ready was so before
-pub nobody-readied : (p : Post) (t : Tables) (q : Asked) (r : Answer) (u : Tables) → WokeNobody p t q r u
+pub nobody-readied : (p : Post) (t : Tables) (q : Call) (r : Answer) (u : Tables) → WokeNobody p t q r u
     → (x : ℕ) → task (u .tasks) x .mode ≡ ready → task (t .tasks) x .mode ≡ ready
 nobody-readied p t q r u nobody x now = by-row (nobody .rows x)
   where

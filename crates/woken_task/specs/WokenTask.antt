@@ -16,8 +16,9 @@ use Rattle.rules.specs.Sound.{Sound}
 use Rattle.rules.specs.declared.Answer.{Answer}
 use Rattle.rules.specs.declared.Tables.{Tables}
 use Rattle.rules.specs.declared.Step.{Step}
-use Rattle.runs.specs.Run.{Asked, made, next}
+use Rattle.runs.specs.Run.{made, next}
 use Rattle.demands.specs.Promised.{Promised}
+use Rattle.rules.specs.declared.Call.{Call}
 
 -- ---- "It applies to semaphore and event posts, and a mailbox post that goes straight to a reader"
 -- a post: the call's number; the mode of those whom it can wake, and the line in which they stand at an object; of a call on tables, whether it has
@@ -26,8 +27,8 @@ pub record Post : Type 0 where
   pub number : ℕ
   pub mode : ℕ
   pub lineOf : ℕ → ℕ
-  pub due : Tables → Asked → Bool
-  pub given : Tables → Asked → ℕ
+  pub due : Tables → Call → Bool
+  pub given : Tables → Call → ℕ
 
 -- somebody is due if anyone waits, and is given nothing: value 0
 abbrev pub semaphorePost : Post
@@ -41,7 +42,7 @@ semaphorePost =
     }
 
 -- what the waiter matches of the event's bits with the post's set; 0 where nobody waits
-abbrev pub match : Tables → Asked → ℕ
+abbrev pub match : Tables → Call → ℕ
 match t q = waiterMatch (t .tasks) (t .lines) (q .a) (bitOr (event (t .events) (q .a) BITS) (q .b))
 
 -- the waiter is due if that is not 0, and is given it
@@ -66,7 +67,7 @@ BlockedAt p a i t = (task (t .tasks) i .mode ≡ p .mode) × (task (t .tasks) i 
 -- ---- the post q on tables t is answered r and leaves tables u
 -- it woke a task, which is the value: that task was blocked there and the first in line, and is ready, its wait ended with what the post gives (`row`, of
 -- which `ready` is the mode). The post was done; those behind wait on, and no other task's row has changed
-pub record Woke (p : Post) (t : Tables) (q : Asked) (r : Answer) (u : Tables) : Type 0 where
+pub record Woke (p : Post) (t : Tables) (q : Call) (r : Answer) (u : Tables) : Type 0 where
   pub named : r .value ≢ 0
   pub due : p .due t q ≡ true
   pub outcome : r .outcome ≡ done
@@ -78,25 +79,25 @@ pub record Woke (p : Post) (t : Tables) (q : Asked) (r : Answer) (u : Tables) : 
 
 -- it woke nobody, since nobody was due, and the value is 0: every task's row is as it was, but that of the current task, which may now wait to write (where
 -- and with what word is `Mailboxes.postEffect`'s)
-pub record WokeNobody (p : Post) (t : Tables) (q : Asked) (r : Answer) (u : Tables) : Type 0 where
+pub record WokeNobody (p : Post) (t : Tables) (q : Call) (r : Answer) (u : Tables) : Type 0 where
   pub none : r .value ≡ 0
   pub due : p .due t q ≡ false
   pub rows : (x : ℕ) → (task (u .tasks) x ≡ task (t .tasks) x) ⊎ ((x ≡ current (t .state)) × (task (u .tasks) x .mode ≡ writing))
 
 -- "Let the value be the woken task's number, and 0 if none was woken; task 0 never waits, so 0 is free for that."
-abbrev pub Tells : Post → Tables → Asked → Answer → Tables → Type 0
+abbrev pub Tells : Post → Tables → Call → Answer → Tables → Type 0
 Tells p t q r u = Woke p t q r u ⊎ WokeNobody p t q r u
 
 -- ---- of every post that is accepted on sound tables. 01 shuts out a core "whose post reports a wake that did not occur (value tied to the line)"
 abbrev pub ValueTells : Post → Type 0
 ValueTells p =
-    (t : Tables) → Typed t → Sound t → (q : Asked) → q .number ≡ p .number → made t q .answer .code ≡ 0
+    (t : Tables) → Typed t → Sound t → (q : Call) → q .number ≡ p .number → made t q .answer .code ≡ 0
     → Tells p t q (made t q .answer) (next t q)
 
 -- of an entry call q that left s, by what it promises
 abbrev pub EnteredTells : Post → Type 0
 EnteredTells p =
-    (t : Tables) → Sound t → (q : Asked) (s : Step) → Promised t q s → q .number ≡ p .number → s .answer .code ≡ 0
+    (t : Tables) → Sound t → (q : Call) (s : Step) → Promised t q s → q .number ≡ p .number → s .answer .code ≡ 0
     → Tells p t q (s .answer) (s .tables)
 
 pub record OfAllThree (Holds : Post → Type 0) : Type 0 where

@@ -2,7 +2,7 @@ use Prim.Native.Nat.{_+_, _-_}
 use mathlib.Core.Bool.{not}
 use native.Mathlib.Omega.{arith}
 use lib.ListN.{length}
-use Rattle.fold.specs.Lists.{bit}
+use Rattle.basics.specs.Lists.{bit}
 use Rattle.rules.specs.Tables.{tables}
 use Rattle.kernel.specs.Safe.{Safe}
 use Rattle.desk.proofs.Going.{Sofar, sofar-none, sofar-next, sofar-less, sofar-stops}

@@ -1,8 +1,8 @@
 -- `desk::replay_part` meets its contract: a log that begins sets the levels, the records of all bytes leave what the turn's definition says, their text fits, and the rest is in front.
 use lib.Dec.{eqb}
 use borrow.Author.Needs.{needs}
-use Rattle.lent.specs.Lent.{lent}
-use Rattle.reads.proofs.Beginning.{begun-safe}
+use Rattle.tables.specs.Lent.{lent}
+use Rattle.desk_reads.proofs.Beginning.{begun-safe}
 use Rattle.desk.proofs.Going.{turned}
 use Rattle.desk.proofs.replay_part.Statement.{statement}
 use Rattle.desk.proofs.replay_part.Tie as tie

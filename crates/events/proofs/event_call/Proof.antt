@@ -1,5 +1,5 @@
 use Rattle.events.proofs.Steps.{no-call}
-use Rattle.laws.proofs.Calls.{unknown-is}
+use Rattle.rules_laws.proofs.Calls.{unknown-is}
 use Rattle.rules.specs.Events.{eventCall}
 use Rattle.rules.specs.Waits.{served}
 use borrow.Author.Needs.{needs}

@@ -14,8 +14,8 @@ returns c =
     let at-typed = at-any-call .before .before .before .before .before .before .before .before .before .before in
     let at-words = at-typed .before .before .before .before .before .before .before .before .before .before in
     let q = at-words .before .args .asked in
-    let e = quick-is _ (q .number) (q .a) (q .b) (q .c) (q .d) (at-any-call .any-call .ensures) (at-settle .settle .ensures) (c .running .ensures) (at-named .named .ensures) in
-    (e, stepped _ (q .number) (q .a) (q .b) (q .c) (q .d) (at-typed .typed .ensures) (at-words .words .ensures) e)
+    let e = quick-is _ q (at-any-call .any-call .ensures) (at-settle .settle .ensures) (c .running .ensures) (at-named .named .ensures) in
+    (e, stepped _ q (at-typed .typed .ensures) (at-words .words .ensures) e)
 
 pub step-spec : {M : Type 1} → statement M
 step-spec =

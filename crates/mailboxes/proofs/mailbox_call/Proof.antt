@@ -1,6 +1,6 @@
 use Rattle.rules.specs.Waits.{served}
 use Rattle.rules.specs.Mailboxes.{mailboxCall}
-use Rattle.laws.proofs.Calls.{unknown-is}
+use Rattle.rules_laws.proofs.Calls.{unknown-is}
 use Rattle.mailboxes.proofs.Steps.{no-call}
 use borrow.Author.Needs.{needs}
 use Rattle.mailboxes.proofs.mailbox_call.Statement.{statement}

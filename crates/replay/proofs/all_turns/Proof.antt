@@ -5,7 +5,7 @@ use mathlib.Core.Bool.{false}
 use native.Mathlib.Omega.{arith}
 use Rattle.rules.specs.Tables.{tables}
 use Rattle.kernel.specs.Safe.{Safe}
-use Rattle.lent.specs.Lent.{lent}
+use Rattle.tables.specs.Lent.{lent}
 use Rattle.replay.proofs.Turns.{goes-on, Sofar, sofar-none, sofar-next, sofar-tables}
 use Rattle.replay.proofs.all_turns.Statement.{statement}
 use Rattle.replay.proofs.all_turns.Tie as tie

@@ -1,6 +1,6 @@
 -- `turn` meets its contract: where the read failed nothing is done; else what the turn left is handed on, or stopped.
 use borrow.Author.Needs.{needs}
-use Rattle.lent.specs.Lent.{lent}
+use Rattle.tables.specs.Lent.{lent}
 use Rattle.desk.specs.Done.{leftOf, behind}
 use Rattle.replay.proofs.Turns.{handed-none, handed-on}
 use Rattle.replay.proofs.turn.Statement.{statement}

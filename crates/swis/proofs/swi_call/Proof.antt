@@ -1,4 +1,4 @@
-use Rattle.laws.proofs.Calls.{unknown-is}
+use Rattle.rules_laws.proofs.Calls.{unknown-is}
 use Rattle.swis.proofs.Steps.{no-call}
 use Rattle.rules.specs.Swis.{swiCall}
 use borrow.Author.Needs.{needs}

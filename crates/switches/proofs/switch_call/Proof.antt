@@ -1,7 +1,7 @@
 -- `switch_call` meets its contract: each number's call by what that call promises, and no other number is known.
 use borrow.Author.Needs.{needs}
-use Rattle.laws.proofs.Calls.{unknown-is}
-use Rattle.rules.specs.Switches.{offCases, offEffect, restoreCases, restoreEffect, inCases, inEffect, interruptCases, outEffect}
+use Rattle.rules_laws.proofs.Calls.{unknown-is}
+use Rattle.rules.specs.Switches.{inCall, outCall, offCall, restoreCall}
 use Rattle.rules.specs.Tick.{tickedOf, switchCall}
 use Rattle.switches.proofs.Numbers.{on-state, no-switch}
 use Rattle.switches.proofs.switch_call.Statement.{statement}
@@ -14,7 +14,7 @@ returns c =
     let a = at-match .before .args in
     let t = tickedOf (a .tasks .now) (a .lines .now) (a .swis .now) (a .clocks .now) (a .state .now) in
     rw (at-match .match .keys1)
-    (on-state t (inCases (a .state .now) (a .a) (a .b) (a .c) (a .d)) (inEffect (a .state .now)) (c .interrupt-in .ensures))
+    (on-state t (inCall (a .state .now) (a .a) (a .b) (a .c) (a .d)) (c .interrupt-in .ensures))
 
 returns-2 : tie.Need-returns-2
 unfolding switchCall
@@ -23,7 +23,7 @@ returns-2 c =
     let a = at-match .before .args in
     let t = tickedOf (a .tasks .now) (a .lines .now) (a .swis .now) (a .clocks .now) (a .state .now) in
     rw (at-match .match .keys2)
-    (on-state t (interruptCases (a .x) (a .a) (a .b) (a .c) (a .d)) (outEffect (a .state .now)) (c .interrupt-out .ensures))
+    (on-state t (outCall (a .state .now) (a .x) (a .a) (a .b) (a .c) (a .d)) (c .interrupt-out .ensures))
 
 returns-3 : tie.Need-returns-3
 unfolding switchCall
@@ -38,7 +38,7 @@ returns-4 c =
     let a = at-match .before .args in
     let t = tickedOf (a .tasks .now) (a .lines .now) (a .swis .now) (a .clocks .now) (a .state .now) in
     rw (at-match .match .keys4)
-    (on-state t (offCases (a .x) (a .a) (a .b) (a .c) (a .d)) (offEffect (a .state .now) (a .a)) (c .off .ensures))
+    (on-state t (offCall (a .state .now) (a .x) (a .a) (a .b) (a .c) (a .d)) (c .off .ensures))
 
 returns-5 : tie.Need-returns-5
 unfolding switchCall
@@ -47,7 +47,7 @@ returns-5 c =
     let a = at-match .before .args in
     let t = tickedOf (a .tasks .now) (a .lines .now) (a .swis .now) (a .clocks .now) (a .state .now) in
     rw (at-match .match .keys5)
-    (on-state t (restoreCases (a .x) (a .a) (a .b) (a .c) (a .d)) (restoreEffect (a .state .now) (a .a) (a .b)) (c .restore .ensures))
+    (on-state t (restoreCall (a .state .now) (a .x) (a .a) (a .b) (a .c) (a .d)) (c .restore .ensures))
 
 returns-6 : tie.Need-returns-6
 returns-6 c =

@@ -7,13 +7,13 @@ use Rattle.tested.proofs.tested_call.Tie as tie
 not-sound : tie.Need-returns
 not-sound c =
     let at-test = c .before .before in
-    promised-unsound _ (at-test .is-sound .ensures) _ _ _ _ _ (c .before .if1 .taken) (c .unsound .ensures)
+    promised-unsound _ (at-test .is-sound .ensures) _ (c .before .if1 .taken) (c .unsound .ensures)
 
 made : tie.Need-returns-2
 made c =
     let past-test = c .before .before .before .before .before .before .before .before .before .before in
     let at-test = past-test .before in
-    promised-sound _ (at-test .is-sound .ensures) _ _ _ _ _ (past-test .if1 .left) (c .step .ensures .1)
+    promised-sound _ (at-test .is-sound .ensures) _ (past-test .if1 .left) (c .step .ensures .1)
 
 pub tested-call-spec : {M : Type 1} → statement M
 tested-call-spec =

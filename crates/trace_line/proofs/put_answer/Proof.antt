@@ -1,6 +1,6 @@
 -- `put_answer` meets its contract: three numbers, one after the other.
 use borrow.Author.Needs.{needs}
-use Rattle.changes.proofs.Telling.{tells-more}
+use Rattle.trace_changes.proofs.Telling.{tells-more}
 use Rattle.trace_line.proofs.put_answer.Statement.{statement}
 use Rattle.trace_line.proofs.put_answer.Tie as tie
 

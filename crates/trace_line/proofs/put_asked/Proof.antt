@@ -1,6 +1,6 @@
 -- `put_asked` meets its contract: five numbers, one after the other.
 use borrow.Author.Needs.{needs}
-use Rattle.changes.proofs.Telling.{tells-more}
+use Rattle.trace_changes.proofs.Telling.{tells-more}
 use Rattle.trace_line.proofs.put_asked.Statement.{statement}
 use Rattle.trace_line.proofs.put_asked.Tie as tie
 

@@ -1,8 +1,8 @@
 -- `put_call` meets its contract: numbers and threads, one after the other.
 use borrow.Author.Needs.{needs}
 use Rattle.text.proofs.Puts.{put-more}
-use Rattle.changes.specs.Line.{callText}
-use Rattle.changes.proofs.Telling.{tells-more}
+use Rattle.trace_changes.specs.Line.{callText}
+use Rattle.trace_changes.proofs.Telling.{tells-more}
 use Rattle.trace_line.proofs.put_call.Statement.{statement}
 use Rattle.trace_line.proofs.put_call.Tie as tie
 

@@ -1,6 +1,6 @@
 -- `put_others` meets its contract: three parts, each behind its bar.
 use borrow.Author.Needs.{needs}
-use Rattle.changes.proofs.Telling.{part-first, part-last}
+use Rattle.trace_changes.proofs.Telling.{part-first, part-last}
 use Rattle.trace_line.proofs.put_others.Statement.{statement}
 use Rattle.trace_line.proofs.put_others.Tie as tie
 

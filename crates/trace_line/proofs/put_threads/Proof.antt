@@ -1,6 +1,6 @@
 -- `put_threads` meets its contract: six parts, each behind its bar.
 use borrow.Author.Needs.{needs}
-use Rattle.changes.proofs.Telling.{part-first, part-last}
+use Rattle.trace_changes.proofs.Telling.{part-first, part-last}
 use Rattle.trace_line.proofs.put_threads.Statement.{statement}
 use Rattle.trace_line.proofs.put_threads.Tie as tie
 

@@ -1,9 +1,9 @@
 -- `put_trace` meets its contract: the call, the parts, and the end of the line.
 use borrow.Author.Needs.{needs}
 use Rattle.text.proofs.Puts.{put-more}
-use Rattle.changes.specs.Numbers.{told}
-use Rattle.changes.specs.Line.{traceLine, parts}
-use Rattle.changes.proofs.Telling.{parts-more}
+use Rattle.trace_changes.specs.Numbers.{told}
+use Rattle.trace_changes.specs.Line.{traceLine, parts}
+use Rattle.trace_changes.proofs.Telling.{parts-more}
 use Rattle.trace_line.proofs.Lengths.{trace-most}
 use Rattle.trace_line.proofs.put_trace.Statement.{statement}
 use Rattle.trace_line.proofs.put_trace.Tie as tie

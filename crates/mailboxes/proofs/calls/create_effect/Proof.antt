@@ -1,9 +1,9 @@
 use mathlib.Core.List.{_∷_}
-use Rattle.fold.specs.Lists.{zeros}
+use Rattle.basics.specs.Lists.{zeros}
 use Rattle.rules.specs.Tables.{mailboxRow}
 use Rattle.rules.specs.Waits.{served}
 use Rattle.rules.specs.Mailboxes.{freeMailbox, createEffect}
-use Rattle.waits.proofs.Served.{made-is}
+use Rattle.moves.proofs.Served.{made-is}
 use borrow.Author.Needs.{needs}
 use Rattle.mailboxes.proofs.calls.create_effect.Statement.{statement}
 use Rattle.mailboxes.proofs.calls.create_effect.Tie as tie

@@ -1,9 +1,9 @@
-use Rattle.laws.proofs.Calls.{absent-is}
+use Rattle.rules_laws.proofs.Calls.{absent-is}
 use Rattle.rules.specs.Answer.{firstGiven}
 use mathlib.Core.Path.{_∙_, sym, ap}
 use borrow.Author.Tests.{eq-eqb, ne-eqb}
 use Rattle.rules.specs.Mailboxes.{deleteCases}
-use Rattle.waits.proofs.Served.{is-same, is-other, either-test}
+use Rattle.moves.proofs.Served.{is-same, is-other, either-test}
 use Prim.Native.Nat.{ℕ}
 use mathlib.Core.Bool.{not}
 use lib.Dec.{eqb}

@@ -1,6 +1,6 @@
 use Rattle.rules.specs.Waits.{served}
 use Rattle.rules.specs.Mailboxes.{deleteEffect}
-use Rattle.waits.proofs.Served.{objects-is}
+use Rattle.moves.proofs.Served.{objects-is}
 use borrow.Author.Needs.{needs}
 use Rattle.mailboxes.proofs.calls.delete_effect.Statement.{statement}
 use Rattle.mailboxes.proofs.calls.delete_effect.Tie as tie

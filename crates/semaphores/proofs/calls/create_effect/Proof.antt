@@ -1,4 +1,4 @@
-use Rattle.waits.proofs.Served.{made-is}
+use Rattle.moves.proofs.Served.{made-is}
 use Rattle.rules.specs.Semaphores.{freeSemaphore, createEffect}
 use Rattle.rules.specs.Waits.{served}
 use Rattle.rules.specs.Tables.{semaphoreRow}

@@ -1,5 +1,5 @@
-use Rattle.laws.proofs.Calls.{absent-is}
-use Rattle.waits.proofs.Served.{is-same, is-other, is-above, is-within}
+use Rattle.rules_laws.proofs.Calls.{absent-is}
+use Rattle.moves.proofs.Served.{is-same, is-other, is-above, is-within}
 use Rattle.rules.specs.Semaphores.{resetCases}
 use Rattle.rules.specs.Answer.{firstGiven}
 use borrow.Author.Tests.{eq-eqb, ne-eqb}

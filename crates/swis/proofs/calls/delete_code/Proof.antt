@@ -1,5 +1,5 @@
-use Rattle.laws.proofs.Calls.{absent-is}
-use Rattle.posting.proofs.Steps.{zero-is, zero-not}
+use Rattle.rules_laws.proofs.Calls.{absent-is}
+use Rattle.swis.proofs.PostSteps.{zero-is, zero-not}
 use Rattle.rules.specs.Swis.{deleteCases}
 use Rattle.rules.specs.Answer.{firstGiven}
 use borrow.Author.Tests.{eq-eqb, ne-eqb}

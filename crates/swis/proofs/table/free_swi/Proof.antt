@@ -1,5 +1,5 @@
-use Rattle.posting.proofs.Steps.{zero-is, zero-not}
-use Rattle.fold.proofs.Finds.{Passed, first-starts, first-goes, first-here, first-none}
+use Rattle.swis.proofs.PostSteps.{zero-is, zero-not}
+use Rattle.basics.proofs.Finds.{Passed, first-starts, first-goes, first-here, first-none}
 use Rattle.rules.specs.Swis.{freeSwi}
 use Rattle.rules.specs.Tables.{swi, USED}
 use lib.Dec.{eqb}

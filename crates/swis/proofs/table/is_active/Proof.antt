@@ -1,6 +1,6 @@
 use Rattle.swis.proofs.Steps.{active-here, active-not, active-none}
 use Rattle.rules.specs.Lines.{line}
-use Rattle.fold.specs.Lists.{count}
+use Rattle.basics.specs.Lists.{count}
 use lib.ListN.{take}
 use mathlib.Core.Path.{_≡_, refl}
 use Prim.Native.Nat.{_≤_, _-_}

@@ -1,7 +1,7 @@
 use Rattle.swis.proofs.Steps.{notBy, named-here, named-not}
-use Rattle.fold.proofs.Finds.{all-none, all-end}
+use Rattle.basics.proofs.Finds.{all-none, all-end}
 use Rattle.rules.specs.Swis.{isNamed}
-use Rattle.fold.specs.Find.{allBelow}
+use Rattle.basics.specs.Find.{allBelow}
 use mathlib.Core.Bool.{true, not}
 use mathlib.Core.Path.{_≡_, ap, sym}
 use Prim.Native.Nat.{_≤_, _-_}

@@ -1,5 +1,5 @@
 use Rattle.rules.specs.Answer.{codeOf}
-use Rattle.laws.proofs.Calls.{refusal, effected}
+use Rattle.rules_laws.proofs.Calls.{refusal, effected}
 use Rattle.switches.proofs.Steps.{out-is}
 use Rattle.rules.specs.Switches.{interruptCases, outEffect}
 use borrow.Author.Needs.{needs}

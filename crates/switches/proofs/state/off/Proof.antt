@@ -1,6 +1,6 @@
 -- `off` meets its contract: a code refuses; else the old settings are read before the named switches turn.
 use borrow.Author.Needs.{needs}
-use Rattle.laws.proofs.Calls.{refusal, effected}
+use Rattle.rules_laws.proofs.Calls.{refusal, effected}
 use Rattle.rules.specs.Answer.{codeOf}
 use Rattle.rules.specs.Switches.{offCases, offEffect}
 use Rattle.switches.proofs.Steps.{off-is}

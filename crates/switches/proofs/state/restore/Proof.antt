@@ -1,6 +1,6 @@
 -- `restore` meets its contract: a code refuses; else the switches that are named and in the key turn.
 use borrow.Author.Needs.{needs}
-use Rattle.laws.proofs.Calls.{refusal, effected}
+use Rattle.rules_laws.proofs.Calls.{refusal, effected}
 use Rattle.rules.specs.Answer.{codeOf}
 use Rattle.rules.specs.Switches.{restoreCases, restoreEffect}
 use Rattle.switches.proofs.Steps.{restored-is}

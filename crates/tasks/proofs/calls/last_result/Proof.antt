@@ -1,4 +1,4 @@
-use Rattle.laws.proofs.Calls.{refusal, effected}
+use Rattle.rules_laws.proofs.Calls.{refusal, effected}
 use Rattle.tasks.proofs.Steps.{result-read}
 use borrow.Author.Needs.{needs}
 use Rattle.tasks.proofs.calls.last_result.Statement.{statement}

@@ -1,4 +1,4 @@
-use Rattle.laws.proofs.Calls.{absent-is}
+use Rattle.rules_laws.proofs.Calls.{absent-is}
 use borrow.Author.Tests.{eq-eqb, ne-eqb}
 use Rattle.rules.specs.Answer.{firstGiven}
 use Rattle.rules.specs.Tasks.{setPriorityCases}

@@ -1,0 +1,19 @@
+-- Two answers that `Went` allows are equal: the tables, the buffer and where the replay is.
+use Prim.Native.Nat.{ℕ}
+use mathlib.Core.Path.{_≡_, sym, _∙_}
+use mathlib.Core.List.{List}
+use Rattle.rules.specs.declared.Tables.{Tables}
+use Rattle.text.proofs.OneAnswer.{put-one-answer}
+use Rattle.desk_reads.specs.declared.Ran.{Ran}
+use Rattle.desk_reads.specs.Done.{One, Went}
+
+pub ran-same : {r q : Ran} → r .at ≡ q .at → r .count ≡ q .count → r .len ≡ q .len → r .ended ≡ q .ended → r ≡ q
+ran-same a c l e = λ z. record { at = a z; count = c z; len = l z; ended = e z }
+
+pub went-one-answer : (l : One) {t u : Tables} {xs : List ℕ} {len : ℕ} {ys zs : List ℕ} {r q : Ran} → Went l t xs len ys r → Went l u xs len zs q
+    → (t ≡ u) × ((ys ≡ zs) × (r ≡ q))
+went-one-answer l v w =
+    let text = put-one-answer (v .line) (w .line) in (
+      v .tables ∙ sym (w .tables),
+      (text .0, ran-same (v .at ∙ sym (w .at)) (v .count ∙ sym (w .count)) (text .1) (v .ended ∙ sym (w .ended))),
+    )

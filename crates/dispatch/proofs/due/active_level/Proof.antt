@@ -1,0 +1,26 @@
+-- `active_level` meets its contract: where one is active, the top one's priority is read
+use mathlib.Core.Path.{sym, _∙_}
+use native.Mathlib.Numerals.{add-one}
+use Rattle.rules.specs.Dispatch.{activeLevel}
+use borrow.Author.Needs.{needs}
+use Rattle.dispatch.proofs.due.active_level.Statement.{statement}
+use Rattle.dispatch.proofs.due.active_level.Tie as tie
+
+pub active-level-spec : {M : Type 1} → statement M
+unfolding activeLevel
+active-level-spec =
+    tie.close
+    (tie.spec
+    (λ c κs. search needs)
+    (λ c κs. search needs)
+    (λ c κs. search needs)
+    (λ c κs. search needs)
+    (λ c. search needs)
+    (λ c. search needs)
+    (λ c.
+    let at-wide = c .before in
+    let at-top = at-wide .before in
+    let at-if = at-top .before in
+    let some = sym (at-if .before .anyone .ensures) ∙ at-if .if1 .taken in
+    rw (some, add-one, c .swi .ensures, at-wide .wide .ensures .0, at-top .top .ensures))
+    (λ c. rw (sym (c .before .anyone .ensures) ∙ c .if1 .left)))

@@ -1,0 +1,27 @@
+use Prim.Native.Nat.{_-_}
+use mathlib.Core.Path.{_≡_, refl, sym, _∙_}
+use native.Mathlib.Omega.{arith}
+use borrow.Author.Needs.{needs}
+use Rattle.heap.specs.Free.{firstFree}
+use Rattle.heap.proofs.Runs.{none-low, free-on16}
+use Rattle.heap.proofs.free_units.past_full.Statement.{statement}
+use Rattle.heap.proofs.free_units.past_full.Tie as tie
+
+abbrev Inv-loop : tie.InvT-loop
+Inv-loop heap from u₀ u = firstFree heap u ≡ firstFree heap from
+
+abbrev μ-loop : tie.MeasureT-loop
+μ-loop heap from u₀ u = 256 - u
+
+pub past-full-spec : {M : Type 1} → statement M
+past-full-spec =
+    tie.close
+    (tie.spec
+    Inv-loop
+    μ-loop
+    (λ c. refl)
+    (λ c κs. search needs)
+    (λ c. omega (arith, none-low _ _ (sym (c .before .none-free .ensures) ∙ c .if1 .taken)))
+    (λ c. omega (arith, none-low _ _ (sym (c .before .none-free .ensures) ∙ c .if1 .taken)))
+    (λ c. free-on16 _ _ (sym (c .before .none-free .ensures) ∙ c .if1 .taken) ∙ c .before .before .loop .inv)
+    (λ c. c .before .before .loop .inv))

@@ -1,0 +1,86 @@
+-- A log and its version 1 twin read alike: the same faults at the same places, and records of the same call and the same argument bytes.
+use Prim.Native.Nat.{ℕ, min, _+_, _-_, _*_, _%_, _<_, _≤_}
+use mathlib.Core.Path.{_≡_, refl, ap}
+use mathlib.Core.Logic.{_≢_, ⊎-elim}
+use mathlib.Core.List.{List}
+use native.Mathlib.Omega.{arith}
+use borrow.Author.Tests.{ne-eqb}
+use lib.Dec.{eqb}
+use lib.ListN.{length, getD, take, drop, length-take, length-drop}
+use lib.Seq.{ext-getD, getD-take, getD-drop}
+use Rattle.basics.proofs.Laws.{same?}
+use Rattle.rules.specs.Log.{versionOf, readIn, readAt, argumentBytes, argument}
+use Rattle.log_twins.specs.Twin.{Bytes, Twins}
+use Rattle.rules.specs.Answer.{asked, Words}
+
+-- ---- an argument is a word
+part-byte : (s : List ℕ) → Bytes s → (start i : ℕ) → i < 16 → getD (argumentBytes s start) i 0 < 256
+unfolding argumentBytes
+part-byte s bytes start i h = rw (getD-take 16 (drop start s) i 0 h, getD-drop start s i 0) (bytes (start + i))
+
+module _ (s : List ℕ) (bytes : Bytes s) (start : ℕ) where
+  argument-word : (n : ℕ) → n < 4 → argument (argumentBytes s start) n < 4294967296
+  argument-word n h =
+      omega (
+        arith,
+        part-byte s bytes start (n * 4) (omega arith),
+        part-byte s bytes start (n * 4 + 1) (omega arith),
+        part-byte s bytes start (n * 4 + 2) (omega arith),
+        part-byte s bytes start (n * 4 + 2 + 1) (omega arith),
+      )
+
+  pub record-words : (number : ℕ)
+      → Words (asked number (argument (argumentBytes s start) 0) (argument (argumentBytes s start) 1) (argument (argumentBytes s start) 2) (argument (argumentBytes s start) 3))
+  record-words number =
+      record {
+        first = argument-word 0 (omega arith);
+        second = argument-word 1 (omega arith);
+        third = argument-word 2 (omega arith);
+        fourth = argument-word 3 (omega arith);
+      }
+
+-- ---- two logs that are twins
+module _ (s w : List ℕ) (twins : Twins s w) where
+  -- without a first record's version they are one log
+  pub short-same : length s ≤ 2 → w ≡ s
+  short-same h = ext-getD 0 w s (twins .long) (λ i low. twins .others i (λ e. omega (arith, twins .long)))
+
+  -- a version is the log's own where its twin's is
+  version-same : (i : ℕ) → i % 20 ≡ 2 → eqb (getD w i 0) 1 ≡ eqb (getD s i 0) 2
+  version-same i e =
+      ⊎-elim
+      (λ (two : getD s i 0 ≡ 2). rw (two, twins .versions i e .0 two))
+      (λ (other : getD s i 0 ≢ 2). rw (ne-eqb (getD s i 0) 2 other) (ne-eqb (getD w i 0) 1 (λ one. other (twins .versions i e .1 one))))
+      (same? (getD s i 0) 2)
+
+  module _ (some : 2 < length s) where
+    pub version-two : versionOf s ≡ 2
+    version-two = twins .begins some
+
+    pub version-one : versionOf w ≡ 1
+    version-one = twins .versions 2 refl .0 version-two
+
+    module _ (at : ℕ) (begins : at % 20 ≡ 0) where
+      pub read-alike : readAt w at ≡ readAt s at
+      unfolding readIn
+      read-alike =
+          rw (
+            version-two,
+            version-one,
+            version-same (at + 2) (omega arith),
+            twins .long,
+            twins .others at (λ e. omega arith),
+            twins .others (at + 1) (λ e. omega arith),
+            twins .others (at + 3) (λ e. omega arith),
+          )
+
+      pub arguments-same : argumentBytes w (at + 4) ≡ argumentBytes s (at + 4)
+      unfolding argumentBytes
+      arguments-same =
+          let n = ap (λ (k : ℕ). min 16 (k - (at + 4))) (twins .long) in
+          ext-getD 0 (take 16 (drop (at + 4) w)) (take 16 (drop (at + 4) s))
+          (rw (length-take 16 (drop (at + 4) w), length-take 16 (drop (at + 4) s), length-drop (at + 4) w, length-drop (at + 4) s) n)
+          (λ i h.
+          let low : i < 16 = omega (arith, length-take 16 (drop (at + 4) w)) in
+          rw (getD-take 16 (drop (at + 4) w) i 0 low, getD-take 16 (drop (at + 4) s) i 0 low, getD-drop (at + 4) w i 0, getD-drop (at + 4) s i 0)
+          (twins .others (at + 4 + i) (λ e. omega arith)))

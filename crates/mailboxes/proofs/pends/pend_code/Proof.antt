@@ -1,0 +1,27 @@
+use Rattle.rules_laws.proofs.Calls.{absent-is}
+use Rattle.rules.specs.Answer.{firstGiven}
+use mathlib.Core.Path.{_∙_, sym}
+use Rattle.rules.specs.Mailboxes.{pendCases}
+use Rattle.moves.proofs.Served.{is-same, is-other, both-tests}
+use borrow.Author.Needs.{needs}
+use Rattle.mailboxes.proofs.pends.pend_code.Statement.{statement}
+use Rattle.mailboxes.proofs.pends.pend_code.Tie as tie
+
+pub pend-code-spec : {M : Type 1} → statement M
+unfolding firstGiven pendCases
+pend-code-spec =
+    tie.close
+    (tie.spec
+    (λ c κs. search needs)
+    (λ c. rw (sym (c .before .outside .ensures) ∙ c .if1 .taken))
+    (λ c κs. search needs)
+    (λ c κs. search needs)
+    (λ c. rw (sym (c .before .before .before .before .outside .ensures) ∙ c .before .before .before .if1 .left, is-same 0 (c .before .before .mailbox .ensures) (c .before .if2 .taken)) (absent-is _ _ _ (c .absent-code .ensures)))
+    (λ c κs. search needs)
+    (λ c. rw (sym (c .before .before .before .before .before .outside .ensures) ∙ c .before .before .before .before .if1 .left, is-other 0 (c .before .before .before .mailbox .ensures) (c .before .before .if2 .left), (sym (c .before .unused .ensures) ∙ c .if3 .taken)))
+    (λ c κs. search needs)
+    (λ c κs. search needs)
+    (λ c. rw (sym (c .before .before .before .before .before .before .before .before .outside .ensures) ∙ c .before .before .before .before .before .before .before .if1 .left, is-other 0 (c .before .before .before .before .before .before .mailbox .ensures) (c .before .before .before .before .before .if2 .left), (sym (c .before .before .before .before .unused .ensures) ∙ c .before .before .before .if3 .left), both-tests (c .before .before .pend-waits .ensures) (c .before .idle .ensures) (c .if4 .taken)))
+    (λ c κs. search needs)
+    (λ c. rw (sym (c .before .before .before .before .before .before .before .before .before .before .outside .ensures) ∙ c .before .before .before .before .before .before .before .before .before .if1 .left, is-other 0 (c .before .before .before .before .before .before .before .before .mailbox .ensures) (c .before .before .before .before .before .before .before .if2 .left), (sym (c .before .before .before .before .before .before .unused .ensures) ∙ c .before .before .before .before .before .if3 .left), both-tests (c .before .before .before .before .pend-waits .ensures) (c .before .before .before .idle .ensures) (c .before .before .if4 .left), both-tests (c .before .before .before .before .pend-waits .ensures) (c .before .switch-off .ensures) (c .if5 .taken)))
+    (λ c. rw (sym (c .before .before .before .before .before .before .before .before .before .before .outside .ensures) ∙ c .before .before .before .before .before .before .before .before .before .if1 .left, is-other 0 (c .before .before .before .before .before .before .before .before .mailbox .ensures) (c .before .before .before .before .before .before .before .if2 .left), (sym (c .before .before .before .before .before .before .unused .ensures) ∙ c .before .before .before .before .before .if3 .left), both-tests (c .before .before .before .before .pend-waits .ensures) (c .before .before .before .idle .ensures) (c .before .before .if4 .left), both-tests (c .before .before .before .before .pend-waits .ensures) (c .before .switch-off .ensures) (c .if5 .left))))

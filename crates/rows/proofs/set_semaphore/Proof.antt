@@ -1,0 +1,17 @@
+use mathlib.Core.Path.{sym}
+use Rattle.rules_laws.proofs.Rows.{withField-in, withField-past, withField-out}
+use borrow.Author.Needs.{needs}
+use Rattle.rows.proofs.set_semaphore.Statement.{statement}
+use Rattle.rows.proofs.set_semaphore.Tie as tie
+
+pub set-semaphore-spec : {M : Type 1} → statement M
+set-semaphore-spec =
+    tie.close
+    (tie.spec
+    (λ c. search needs)
+    (λ c. search needs)
+    (λ c. search needs)
+    (λ c. search needs)
+    (λ c. let b = c .before .before in sym (withField-in 3 16 (b .args .semaphores .now) (b .args .i) (b .args .f) (b .args .x) (c .before .if1 .taken) (c .if2 .taken)))
+    (λ c. let b = c .before .before in sym (withField-past 3 16 (b .args .semaphores .now) (b .args .i) (b .args .f) (b .args .x) (c .if2 .left)))
+    (λ c. let b = c .before in sym (withField-out 3 16 (b .args .semaphores .now) (b .args .i) (b .args .f) (b .args .x) (c .if1 .left))))

@@ -1,0 +1,163 @@
+-- Two sets of sound tables, and words of them to be changed.
+use Prim.Native.Nat.{ℕ, _+_, _*_}
+use mathlib.Core.Path.{_≡_, refl}
+use mathlib.Core.Bool.{true}
+use mathlib.Core.List.{List, [], _∷_, _++_}
+use lib.ListN.{set}
+use Rattle.basics.specs.Lists.{zeros}
+use Rattle.rules.specs.Rows.{withField}
+use Rattle.rules.specs.Tables.{taskCount, taskWidth, mailboxCount, mailboxWidth, clockCount, clockWidth, minusOne, ready, sleeping, atSemaphore}
+use Rattle.rules.specs.Tables.{atEvent, reading, writing, terminated, inactive, withSemaphore, withEvent, withSwi, withState, tables}
+use Rattle.rules.specs.Lines.{lineWidth, withLine, semaphoreLine, mailboxLine, eventLine, postedLine, activeLine, readyLine}
+use Rattle.rules.specs.Sound.{sound}
+use Rattle.rules.specs.declared.Tables.{Tables}
+use Rattle.rules.proofs.Faster.{faster-sound, quickly}
+use Rattle.rules.proofs.Standing.{linesWith, _has_}
+
+-- ---- tables in which something of each kind is going on; two Swis are active, task 1 is the current one
+-- mode, priority, object, left, first, second, outcome, value
+abbrev busyTasks : List ℕ
+busyTasks =
+    (ready ∷ 0 ∷ 0 ∷ 0 ∷ 0 ∷ 0 ∷ 0 ∷ 0 ∷ [])
+    ++ (ready ∷ 5 ∷ 0 ∷ 0 ∷ 0 ∷ 0 ∷ 0 ∷ 0 ∷ [])
+    ++ (sleeping ∷ 4 ∷ 0 ∷ 3 ∷ 0 ∷ 0 ∷ 0 ∷ 0 ∷ [])
+    ++ (atSemaphore ∷ 4 ∷ 0 ∷ 0 ∷ 0 ∷ 0 ∷ 0 ∷ 0 ∷ [])
+    ++ (atEvent ∷ 4 ∷ 0 ∷ 2 ∷ 3 ∷ 0 ∷ 0 ∷ 0 ∷ [])
+    ++ (reading ∷ 4 ∷ 0 ∷ 0 ∷ 0 ∷ 0 ∷ 0 ∷ 0 ∷ [])
+    ++ (writing ∷ 4 ∷ 1 ∷ 0 ∷ 9 ∷ 0 ∷ 0 ∷ 0 ∷ [])
+    ++ (terminated ∷ 4 ∷ 0 ∷ 0 ∷ 0 ∷ 0 ∷ 1 ∷ 0 ∷ [])
+    ++ (inactive ∷ minusOne ∷ 0 ∷ 0 ∷ 0 ∷ 0 ∷ 0 ∷ 0 ∷ [])
+    ++ (ready ∷ 3 ∷ 0 ∷ 0 ∷ 0 ∷ 0 ∷ 0 ∷ 12 ∷ [])
+    ++ zeros 176
+
+abbrev busyLines : List ℕ
+unfolding linesWith
+busyLines =
+    linesWith
+    (readyLine 0 has (0 ∷ [])
+    ∷ readyLine 5 has (1 ∷ [])
+    ∷ readyLine 3 has (9 ∷ [])
+    ∷ semaphoreLine 0 has (3 ∷ [])
+    ∷ eventLine 0 has (4 ∷ [])
+    ∷ mailboxLine 0 has (5 ∷ [])
+    ∷ mailboxLine 1 has (6 ∷ [])
+    ∷ activeLine has (0 ∷ 1 ∷ [])
+    ∷ postedLine 6 has (2 ∷ [])
+    ∷ [])
+
+unfoldable pub busy : Tables
+unfolding linesWith
+busy =
+    tables busyTasks busyLines
+    -- used, kind, count: task 3 waits at semaphore 0, semaphore 1 is binary, semaphore 2 is counting by priority
+    (1 ∷ 0 ∷ 0 ∷ 1 ∷ 1 ∷ 1 ∷ 1 ∷ 2 ∷ 3 ∷ zeros 39)
+    -- used, bits: task 4 waits at event 0 for bits 3
+    (1 ∷ 1 ∷ 1 ∷ 5 ∷ zeros 12)
+    -- capacity, messages there, the words: task 5 reads from mailbox 0, task 6 writes to mailbox 1
+    ((2 ∷ zeros 9) ++ (1 ∷ 1 ∷ 7 ∷ zeros 7) ++ (3 ∷ 1 ∷ 4 ∷ zeros 7) ++ zeros 50)
+    -- used, priority, initial, trigger, posted, taken: 0 and 1 are active, 2 is posted
+    (1 ∷ 3 ∷ 5 ∷ 5 ∷ 0 ∷ 2 ∷ 1 ∷ 6 ∷ 0 ∷ 1 ∷ 0 ∷ 4 ∷ 1 ∷ 6 ∷ 0 ∷ 0 ∷ 1 ∷ 0 ∷ 1 ∷ 2 ∷ 0 ∷ 0 ∷ 0 ∷ 0 ∷ zeros 72)
+    -- used, swi, first, period, left: clock 0 runs, clock 1 is stopped
+    (1 ∷ 3 ∷ 2 ∷ 0 ∷ 1 ∷ 1 ∷ 3 ∷ 4 ∷ 1 ∷ 0 ∷ zeros 70)
+    -- a block of three units, a free one, a block of one
+    (1 ∷ 2 ∷ 2 ∷ 0 ∷ 1 ∷ zeros 251)
+    -- depth, Swis on, tasks on, tick, current
+    (0 ∷ 1 ∷ 1 ∷ 7 ∷ 1 ∷ 16 ∷ [])
+
+pub busy-sound : sound busy ≡ true
+unfolding quickly linesWith busy
+busy-sound = faster-sound busy refl
+
+-- ---- tables in which tasks are off: task 0 goes on, although task 1 is ready at 5
+unfoldable pub held : Tables
+unfolding linesWith
+held =
+    tables (ready ∷ 0 ∷ 0 ∷ 0 ∷ 0 ∷ 0 ∷ 0 ∷ 0 ∷ ready ∷ 5 ∷ zeros 246)
+    (linesWith (readyLine 0 has (0 ∷ []) ∷ readyLine 5 has (1 ∷ []) ∷ []))
+    (zeros 48) (zeros 16) (zeros 80) (zeros 96) (zeros 80) (zeros 256)
+    (0 ∷ 1 ∷ 0 ∷ 0 ∷ 0 ∷ 16 ∷ [])
+
+pub held-sound : sound held ≡ true
+unfolding quickly linesWith held
+held-sound = faster-sound held refl
+
+-- ---- one word changed: the row, the word, what it is now
+-- a task's words; its priority is `PRIORITY`, as a Swi's
+abbrev pub MODE : ℕ
+MODE = 0
+
+abbrev pub OBJECT : ℕ
+OBJECT = 2
+
+abbrev pub LEFT : ℕ
+LEFT = 3
+
+abbrev pub FIRST : ℕ
+FIRST = 4
+
+abbrev pub SECOND : ℕ
+SECOND = 5
+
+abbrev pub OUTCOME : ℕ
+OUTCOME = 6
+
+abbrev pub VALUE : ℕ
+VALUE = 7
+
+-- a clock's words
+abbrev pub NAMED : ℕ
+NAMED = 1
+
+abbrev pub FIRST-TICKS : ℕ
+FIRST-TICKS = 2
+
+abbrev pub PERIOD : ℕ
+PERIOD = 3
+
+abbrev pub TICKS-LEFT : ℕ
+TICKS-LEFT = 4
+
+abbrev pub taskIs : ℕ → ℕ → ℕ → Tables → Tables
+taskIs i f x t =
+    tables (withField taskWidth taskCount (t .tasks) i f x) (t .lines) (t .semaphores) (t .events) (t .mailboxes) (t .swis) (t .clocks) (t .heap)
+    (t .state)
+
+abbrev pub semaphoreIs : ℕ → ℕ → ℕ → Tables → Tables
+semaphoreIs i f x t =
+    tables (t .tasks) (t .lines) (withSemaphore (t .semaphores) i f x) (t .events) (t .mailboxes) (t .swis) (t .clocks) (t .heap) (t .state)
+
+abbrev pub eventIs : ℕ → ℕ → ℕ → Tables → Tables
+eventIs i f x t =
+    tables (t .tasks) (t .lines) (t .semaphores) (withEvent (t .events) i f x) (t .mailboxes) (t .swis) (t .clocks) (t .heap) (t .state)
+
+abbrev pub mailboxIs : ℕ → ℕ → ℕ → Tables → Tables
+mailboxIs i f x t =
+    tables (t .tasks) (t .lines) (t .semaphores) (t .events) (withField mailboxWidth mailboxCount (t .mailboxes) i f x) (t .swis) (t .clocks)
+    (t .heap) (t .state)
+
+abbrev pub swiIs : ℕ → ℕ → ℕ → Tables → Tables
+swiIs i f x t =
+    tables (t .tasks) (t .lines) (t .semaphores) (t .events) (t .mailboxes) (withSwi (t .swis) i f x) (t .clocks) (t .heap) (t .state)
+
+abbrev pub clockIs : ℕ → ℕ → ℕ → Tables → Tables
+clockIs i f x t =
+    tables (t .tasks) (t .lines) (t .semaphores) (t .events) (t .mailboxes) (t .swis) (withField clockWidth clockCount (t .clocks) i f x) (t .heap)
+    (t .state)
+
+abbrev pub unitIs : ℕ → ℕ → Tables → Tables
+unitIs u x t =
+    tables (t .tasks) (t .lines) (t .semaphores) (t .events) (t .mailboxes) (t .swis) (t .clocks) (set (t .heap) u x) (t .state)
+
+abbrev pub stateIs : ℕ → ℕ → Tables → Tables
+stateIs f x t =
+    tables (t .tasks) (t .lines) (t .semaphores) (t .events) (t .mailboxes) (t .swis) (t .clocks) (t .heap) (withState (t .state) f x)
+
+-- a byte of line j: 0 is how many stand there
+abbrev pub byteIs : ℕ → ℕ → ℕ → Tables → Tables
+byteIs j k x t =
+    tables (t .tasks) (set (t .lines) (j * lineWidth + k) x) (t .semaphores) (t .events) (t .mailboxes) (t .swis) (t .clocks) (t .heap) (t .state)
+
+-- who stands in line j
+abbrev pub lineIs : ℕ → List ℕ → Tables → Tables
+lineIs j xs t =
+    tables (t .tasks) (withLine (t .lines) j xs) (t .semaphores) (t .events) (t .mailboxes) (t .swis) (t .clocks) (t .heap) (t .state)

@@ -1,0 +1,127 @@
+// 22 pend: its code, 0 where it is accepted; its effect where it is; and the call.
+use rules::Answer;
+use rules::Lines;
+use rules::Semaphores;
+use rules::State;
+use rules::Tasks;
+use rules::numbers::AT_SEMAPHORE;
+use rules::numbers::BY_PRIORITY;
+use rules::numbers::COUNT;
+use rules::numbers::DONE;
+use rules::numbers::KIND;
+use rules::numbers::NOT_MET;
+use rules::numbers::NOW_WAITING;
+use rules::numbers::USED;
+ghost use mathlib.Core.Path.{_≡_};
+ghost use Rattle.rules.specs.Answer.{after, answered, codeOf};
+ghost use Rattle.rules.specs.Tables.{task, atSemaphore};
+ghost use Rattle.rules.specs.Lines.{moved};
+ghost use Rattle.rules.specs.Waits.{waiting};
+ghost use Rattle.rules.specs.Semaphores.{waits, placeIn, pendCases, pendEffect, pendCall};
+ghost use Rattle.tables.specs.Lent.{old, queuedOld, queuedNew, servedOld, servedNew};
+
+// ---- 22: pend, with a limit
+
+// The call would go on to wait.
+pub fn waits(semaphores: &Semaphores, a: u32, limit: u32) -> bool
+    ensures { λ r. ⌜ r ≡ waits (old semaphores) a limit ⌝ }
+{
+    (rows::semaphore(semaphores, a as usize, COUNT) == 0) & (limit != 0)
+}
+
+pub fn pend_code(
+    semaphores: &Semaphores,
+    state: &State,
+    x: u32,
+    a: u32,
+    b: u32,
+    c: u32,
+    d: u32,
+) -> u32
+    ensures { λ r. ⌜ r ≡ codeOf (pendCases (old semaphores) (old state) x a b c d) ⌝ }
+{
+    if moves::begins::outside(x, b) {
+        return 2;
+    }
+    if rows::semaphore(semaphores, a as usize, USED) == 0 {
+        return answers::absent_code(a, rules::numbers::SEMAPHORE_COUNT);
+    }
+    if answers::unused(0, 0, c, d) {
+        return 4;
+    }
+    let begins = waits(semaphores, a, b);
+    if begins & moves::begins::idle(state) {
+        return 5;
+    }
+    if begins & moves::begins::switch_off(state) {
+        return 9;
+    }
+    0
+}
+
+// Task i waits at semaphore a: in arrival order, or before the first waiter of lower priority.
+pub fn begin(tasks: &mut Tasks, lines: &mut Lines, kind: u32, i: u32, a: u32, limit: u32)
+    ensures { λ _. ⌜ queuedNew tasks lines
+        ≡ moved (placeIn kind (old tasks) (task (old tasks) i .priority)) i (waiting (task (old tasks) i) atSemaphore a limit 0 0)
+        (queuedOld tasks lines) ⌝ }
+{
+    let old = rows::task(tasks, i as usize);
+    let k = moves::waiting(old, AT_SEMAPHORE, a, limit, 0, 0);
+    if kind < BY_PRIORITY {
+        moves::move_back(tasks, lines, i, k);
+    } else {
+        moves::move_by_priority(tasks, lines, i, k, old.priority);
+    }
+}
+
+// Takes one, or is not met, or the current task waits.
+pub fn pend_effect(
+    tasks: &mut Tasks,
+    lines: &mut Lines,
+    semaphores: &mut Semaphores,
+    state: &State,
+    a: u32,
+    limit: u32,
+) -> Answer
+    ensures { λ r. ⌜ after r (servedNew tasks lines semaphores) ≡ pendEffect (servedOld tasks lines semaphores) (old state) a limit ⌝ }
+{
+    let n = rows::semaphore(semaphores, a as usize, COUNT);
+    if 0 < n {
+        rows::set_semaphore(semaphores, a as usize, COUNT, n - 1);
+        return answers::accepted(DONE, 0);
+    }
+    if limit == 0 {
+        return answers::accepted(NOT_MET, 0);
+    }
+    let kind = rows::semaphore(semaphores, a as usize, KIND);
+    begin(
+        tasks,
+        lines,
+        kind,
+        rows::readings::current(state) as u32,
+        a,
+        limit,
+    );
+    answers::accepted(NOW_WAITING, 0)
+}
+
+pub fn pend(
+    tasks: &mut Tasks,
+    lines: &mut Lines,
+    semaphores: &mut Semaphores,
+    state: &State,
+    x: u32,
+    a: u32,
+    b: u32,
+    c: u32,
+    d: u32,
+) -> Answer
+    ensures { λ r. ⌜ after r (servedNew tasks lines semaphores)
+        ≡ answered (servedOld tasks lines semaphores) (pendCall (servedOld tasks lines semaphores) (old state) x a b c d) ⌝ }
+{
+    let code = pend_code(semaphores, state, x, a, b, c, d);
+    if code != 0 {
+        return answers::refused(code);
+    }
+    pend_effect(tasks, lines, semaphores, state, a, b)
+}

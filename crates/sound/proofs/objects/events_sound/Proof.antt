@@ -1,0 +1,29 @@
+use Prim.Native.Nat.{_-_, _≤_}
+use mathlib.Core.Path.{_≡_, sym}
+use Rattle.basics.specs.Find.{allBelow}
+use Rattle.basics.specs.Rule.{holds}
+use Rattle.basics.proofs.Finds.{all-none, all-step, all-end}
+use Rattle.rules.specs.Sound.{eventRule}
+use Rattle.sound.proofs.StandingLoops.{in-range}
+use borrow.Author.Needs.{needs}
+use Rattle.sound.proofs.objects.events_sound.Statement.{statement}
+use Rattle.sound.proofs.objects.events_sound.Tie as tie
+
+abbrev Inv-loop : tie.InvT-loop
+Inv-loop tasks events lines ok₀ e₀ ok e = (e ≤ 8) × (ok ≡ allBelow e (λ k. holds (eventRule tasks events lines k)))
+
+abbrev μ-loop : tie.MeasureT-loop
+μ-loop tasks events lines ok₀ e₀ ok e = 8 - e
+
+pub events-sound-spec : {M : Type 1} → statement M
+events-sound-spec =
+    tie.close
+    (tie.spec
+    Inv-loop
+    μ-loop
+    (λ c. (search needs, sym (all-none _)))
+    (λ c κs. search needs)
+    (λ c. search needs)
+    (λ c. search needs)
+    (λ c. (search needs, all-step _ _ (c .before .before .loop .inv .1) (in-range _ _ (c .before .loop-test .taken) (c .event-sound .ensures))))
+    (λ c. all-end _ (c .before .loop .e) 8 (c .before .loop .inv .0) (c .loop-test .left) (c .before .loop .inv .1)))

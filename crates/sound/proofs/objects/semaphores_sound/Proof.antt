@@ -1,0 +1,28 @@
+use Prim.Native.Nat.{_-_, _≤_}
+use mathlib.Core.Path.{_≡_, sym}
+use Rattle.basics.specs.Find.{allBelow}
+use Rattle.basics.specs.Rule.{holds}
+use Rattle.basics.proofs.Finds.{all-none, all-step, all-end}
+use Rattle.rules.specs.Sound.{semaphoreRule}
+use borrow.Author.Needs.{needs}
+use Rattle.sound.proofs.objects.semaphores_sound.Statement.{statement}
+use Rattle.sound.proofs.objects.semaphores_sound.Tie as tie
+
+abbrev Inv-loop : tie.InvT-loop
+Inv-loop semaphores lines ok₀ s₀ ok s = (s ≤ 16) × (ok ≡ allBelow s (λ k. holds (semaphoreRule semaphores lines k)))
+
+abbrev μ-loop : tie.MeasureT-loop
+μ-loop semaphores lines ok₀ s₀ ok s = 16 - s
+
+pub semaphores-sound-spec : {M : Type 1} → statement M
+semaphores-sound-spec =
+    tie.close
+    (tie.spec
+    Inv-loop
+    μ-loop
+    (λ c. (search needs, sym (all-none _)))
+    (λ c κs. search needs)
+    (λ c. search needs)
+    (λ c. search needs)
+    (λ c. (search needs, all-step _ _ (c .before .before .loop .inv .1) (c .semaphore-sound .ensures)))
+    (λ c. all-end _ (c .before .loop .s) 16 (c .before .loop .inv .0) (c .loop-test .left) (c .before .loop .inv .1)))

@@ -1,0 +1,30 @@
+use Prim.Native.Nat.{_*_, _-_, _≤_}
+use mathlib.Core.Path.{_≡_, sym}
+use lib.ListN.{getD}
+use Rattle.basics.specs.Find.{allBelow}
+use Rattle.basics.specs.Rule.{holds, _is_, _under_, _and_, every}
+use Rattle.basics.proofs.Finds.{all-none, all-step, all-end}
+use Rattle.rules.specs.Rows.{behind}
+use Rattle.sound.proofs.StandingLoops.{in-range}
+use borrow.Author.Needs.{needs}
+use Rattle.sound.proofs.standing.lines_sound.Statement.{statement}
+use Rattle.sound.proofs.standing.lines_sound.Tie as tie
+
+abbrev Inv-loop : tie.InvT-loop
+Inv-loop lines ok₀ j₀ ok j = (j ≤ 81) × (ok ≡ allBelow j (λ i. holds ((getD lines (i * 33) 0 under 33) and every (behind 32 lines (i * 33)) (λ x. x is 0))))
+
+abbrev μ-loop : tie.MeasureT-loop
+μ-loop lines ok₀ j₀ ok j = 81 - j
+
+pub lines-sound-spec : {M : Type 1} → statement M
+lines-sound-spec =
+    tie.close
+    (tie.spec
+    Inv-loop
+    μ-loop
+    (λ c. (search needs, sym (all-none _)))
+    (λ c κs. search needs)
+    (λ c. search needs)
+    (λ c. search needs)
+    (λ c. (search needs, all-step _ _ (c .before .before .loop .inv .1) (in-range _ _ (c .before .loop-test .taken) (c .line-sound .ensures))))
+    (λ c. all-end _ (c .before .loop .j) 81 (c .before .loop .inv .0) (c .loop-test .left) (c .before .loop .inv .1)))

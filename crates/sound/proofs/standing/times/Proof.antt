@@ -1,0 +1,31 @@
+use Prim.Native.Nat.{_-_, _≤_}
+use native.Mathlib.Omega.{arith}
+use Rattle.rules.specs.Lines.{line}
+use Rattle.rules_laws.proofs.Lines.{line-le}
+use Rattle.sound.proofs.StandingLoops.{Counted, counted-none, counted-more, counted-all}
+use borrow.Author.Needs.{needs}
+use Rattle.sound.proofs.standing.times.Statement.{statement}
+use Rattle.sound.proofs.standing.times.Tie as tie
+
+abbrev Inv-loop : tie.InvT-loop
+Inv-loop lines j x n m₀ k₀ m k = (n ≤ 32) × Counted x (line lines j) n m k
+
+abbrev μ-loop : tie.MeasureT-loop
+μ-loop lines j x n m₀ k₀ m k = n - k
+
+pub times-spec : {M : Type 1} → statement M
+times-spec =
+    tie.close
+    (tie.spec
+    Inv-loop
+    μ-loop
+    (λ c κs. search needs)
+    (λ c. (omega (arith, c .len .ensures, line-le (c .before .args .lines .now) (c .before .args .j)), counted-none _ _ (c .len .ensures)))
+    (λ c κs. search needs)
+    (λ c κs. search needs)
+    (λ c κs. search needs)
+    (λ c. search needs)
+    (λ c. search needs)
+    (λ c. search needs)
+    (λ c. (c .before .before .before .before .loop .inv .0, counted-more _ _ (c .before .before .before .before .loop .k) (c .before .before .before .before .loop .inv .1) (c .before .before .before .loop-test .taken) (rw (c .before .wide .ensures .0, c .before .before .member .ensures) at (c .bit .ensures))))
+    (λ c. (counted-all _ _ (c .before .loop .k) (c .before .loop .inv .1) (c .loop-test .left), search needs)))

@@ -1,0 +1,151 @@
+// Posting a Swi, and the calls 12 to 16.
+use rules::Answer;
+use rules::Lines;
+use rules::Swis;
+use rules::numbers::DONE;
+use rules::numbers::POSTED;
+use rules::numbers::POSTED_LINES;
+use rules::numbers::PRIORITY;
+use rules::numbers::TRIGGER;
+use rules::numbers::USED;
+ghost use mathlib.Core.Path.{_≡_};
+ghost use Rattle.rules.specs.Answer.{after, answered, codeOf};
+ghost use Rattle.rules.specs.Swis.{posted, oneDown, postCases, maskCases, postEffect, changeEffect, zeroEffect, postCall, addCall, takeCall, setBitsCall};
+ghost use Rattle.rules.specs.Swis.{clearBitsCall};
+ghost use Rattle.tables.specs.Lent.{old, postsOld, postsNew};
+
+// Swi i joins its priority's queue at the back, unless it is posted already.
+pub fn post_swi(swis: &mut Swis, lines: &mut Lines, i: u32)
+    ensures { λ _. ⌜ postsNew swis lines ≡ posted i (postsOld swis lines) ⌝ }
+{
+    if i < rules::numbers::SWI_COUNT {
+        let n = i as usize;
+        if rows::swi(swis, n, POSTED) == 0 {
+            let priority = rows::swi(swis, n, PRIORITY) as usize;
+            rows::set_swi(swis, n, POSTED, 1);
+            lines::join(lines, POSTED_LINES + priority, i as u8);
+        }
+    }
+}
+
+// One less, going round.
+pub fn one_down(v: u32) -> u32
+    ensures { λ r. ⌜ r ≡ oneDown v ⌝ }
+{
+    if v == 0 {
+        return 4294967295;
+    }
+    v - 1
+}
+
+// ---- the checks
+
+// Of a call that takes a Swi alone.
+pub fn post_code(swis: &Swis, a: u32, b: u32, c: u32, d: u32) -> u32
+    ensures { λ r. ⌜ r ≡ codeOf (postCases (old swis) a b c d) ⌝ }
+{
+    if rows::swi(swis, a as usize, USED) == 0 {
+        return answers::absent_code(a, rules::numbers::SWI_COUNT);
+    }
+    if answers::unused(0, b, c, d) {
+        return 4;
+    }
+    0
+}
+
+// Of a call that takes a Swi and any mask.
+pub fn mask_code(swis: &Swis, a: u32, c: u32, d: u32) -> u32
+    ensures { λ r. ⌜ r ≡ codeOf (maskCases (old swis) a c d) ⌝ }
+{
+    post_code(swis, a, 0, c, d)
+}
+
+// ---- the effects
+
+pub fn post_effect(swis: &mut Swis, lines: &mut Lines, a: u32) -> Answer
+    ensures { λ r. ⌜ after r (postsNew swis lines) ≡ postEffect (postsOld swis lines) a ⌝ }
+{
+    post_swi(swis, lines, a);
+    answers::accepted(DONE, 0)
+}
+
+// The trigger is v now, and the Swi posted.
+pub fn change_effect(swis: &mut Swis, lines: &mut Lines, a: u32, v: u32) -> Answer
+    ensures { λ r. ⌜ after r (postsNew swis lines) ≡ changeEffect (postsOld swis lines) a v ⌝ }
+{
+    rows::set_swi(swis, a as usize, TRIGGER, v);
+    post_swi(swis, lines, a);
+    answers::accepted(DONE, 0)
+}
+
+// The trigger is v now, and the Swi posted if that is 0.
+pub fn zero_effect(swis: &mut Swis, lines: &mut Lines, a: u32, v: u32) -> Answer
+    ensures { λ r. ⌜ after r (postsNew swis lines) ≡ zeroEffect (postsOld swis lines) a v ⌝ }
+{
+    if v == 0 {
+        return change_effect(swis, lines, a, v);
+    }
+    rows::set_swi(swis, a as usize, TRIGGER, v);
+    answers::accepted(DONE, 0)
+}
+
+// ---- the calls
+
+// 12: post.
+pub fn post(swis: &mut Swis, lines: &mut Lines, a: u32, b: u32, c: u32, d: u32) -> Answer
+    ensures { λ r. ⌜ after r (postsNew swis lines) ≡ answered (postsOld swis lines) (postCall (postsOld swis lines) a b c d) ⌝ }
+{
+    let code = post_code(swis, a, b, c, d);
+    if code != 0 {
+        return answers::refused(code);
+    }
+    post_effect(swis, lines, a)
+}
+
+// 13: add one to the trigger and post.
+pub fn add(swis: &mut Swis, lines: &mut Lines, a: u32, b: u32, c: u32, d: u32) -> Answer
+    ensures { λ r. ⌜ after r (postsNew swis lines) ≡ answered (postsOld swis lines) (addCall (postsOld swis lines) a b c d) ⌝ }
+{
+    let code = post_code(swis, a, b, c, d);
+    if code != 0 {
+        return answers::refused(code);
+    }
+    let v = rows::swi(swis, a as usize, TRIGGER);
+    change_effect(swis, lines, a, std::num::wrapping_add_u32(v, 1))
+}
+
+// 14: take one from the trigger and post if it is 0 now.
+pub fn take(swis: &mut Swis, lines: &mut Lines, a: u32, b: u32, c: u32, d: u32) -> Answer
+    ensures { λ r. ⌜ after r (postsNew swis lines) ≡ answered (postsOld swis lines) (takeCall (postsOld swis lines) a b c d) ⌝ }
+{
+    let code = post_code(swis, a, b, c, d);
+    if code != 0 {
+        return answers::refused(code);
+    }
+    let v = rows::swi(swis, a as usize, TRIGGER);
+    zero_effect(swis, lines, a, one_down(v))
+}
+
+// 15: set the mask's bits in the trigger and post.
+pub fn set_bits(swis: &mut Swis, lines: &mut Lines, a: u32, b: u32, c: u32, d: u32) -> Answer
+    ensures { λ r. ⌜ after r (postsNew swis lines) ≡ answered (postsOld swis lines) (setBitsCall (postsOld swis lines) a b c d) ⌝ }
+{
+    let code = mask_code(swis, a, c, d);
+    if code != 0 {
+        return answers::refused(code);
+    }
+    let v = rows::swi(swis, a as usize, TRIGGER);
+    change_effect(swis, lines, a, v | b)
+}
+
+// 16: clear the mask's bits in the trigger and post if it is 0 now.
+pub fn clear_bits(swis: &mut Swis, lines: &mut Lines, a: u32, b: u32, c: u32, d: u32) -> Answer
+    ensures { λ r. ⌜ after r (postsNew swis lines) ≡ answered (postsOld swis lines) (clearBitsCall (postsOld swis lines) a b c d) ⌝ }
+{
+    let code = mask_code(swis, a, c, d);
+    if code != 0 {
+        return answers::refused(code);
+    }
+    let v = rows::swi(swis, a as usize, TRIGGER);
+    zero_effect(swis, lines, a, v & !b)
+}

@@ -1,0 +1,62 @@
+-- What the steps of a tick leave, one after the other.
+use Prim.Native.Nat.{ℕ, _+_, _%_, _^_}
+use mathlib.Core.Path.{_≡_, sym, ap, _∙_}
+use mathlib.Core.Logic.{_≢_}
+use mathlib.Core.List.{List}
+use native.Mathlib.Omega.{arith}
+use borrow.Author.Tests.{eq-eqb, ne-eqb}
+use lib.ListN.{getD, set}
+use Rattle.basics.proofs.Finds.{rising-more}
+use Rattle.basics.specs.Find.{rising}
+use Rattle.rules.specs.Rows.{field}
+use Rattle.rules.specs.Tables.{task, withTask, clock, withClock}
+use Rattle.rules.specs.Lines.{Queued, queued}
+use Rattle.rules.specs.Waits.{woken}
+use Rattle.rules.specs.Swis.{Posts, posts}
+use Rattle.rules.specs.Tick.{aged, Clocked, clockedOf, postedIf, clockTick, clocksTicked, oneLess, endedWith, taskTick, tasksTicked, tickedOf, ticked}
+use Rattle.rules.specs.declared.Task.{Task}
+use Rattle.rules.specs.declared.Clock.{Clock}
+use Rattle.rules.specs.declared.AgedClock.{AgedClock}
+
+-- ---- a clock: its row, aged, and its Swi
+pub clock-ticked : (cs ws ls : List ℕ) (n : ℕ) {k : Clock} {older : AgedClock} {cs′ ws′ ls′ : List ℕ}
+    → k ≡ clock cs n → older ≡ aged k → cs′ ≡ withClock cs n (older .clock) → posts ws′ ls′ ≡ postedIf (older .fired) (k .swi) (posts ws ls)
+    → clockedOf cs′ ws′ ls′ ≡ clockTick (clockedOf cs ws ls) n
+unfolding clockTick
+clock-ticked cs ws ls n {k} {older} {cs′} a b c d =
+    ap (λ (p : Posts). clockedOf cs′ (p .swis) (p .lines)) d ∙ rw (c, b, a)
+
+-- ---- a task: nothing to count, its last tick, or one tick less
+module _ (ts ls : List ℕ) (i : ℕ) {left : ℕ} (e : left ≡ field 8 32 ts i 3) where
+  pub task-still : left ≡ 0 → queued ts ls ≡ taskTick (queued ts ls) i
+  unfolding taskTick task
+  task-still z = rw (eq-eqb (field 8 32 ts i 3) 0 (sym e ∙ z))
+
+  pub task-ended : left ≡ 1 → {k : Task} {o : ℕ} {q : Queued} → k ≡ task ts i → o ≡ endedWith (k .mode) → q ≡ woken i o 0 (queued ts ls)
+      → q ≡ taskTick (queued ts ls) i
+  unfolding taskTick task
+  task-ended u a b c =
+      c ∙ rw (b, a, ne-eqb (field 8 32 ts i 3) 0 (λ z. absurd (one-not-zero (sym (e ∙ z) ∙ u))), eq-eqb (field 8 32 ts i 3) 1 (sym e ∙ u))
+    where
+      one-not-zero : _≡_ {A = ℕ} 0 1 → ⊥
+      one-not-zero p = omega arith
+
+  pub task-aged : left ≢ 0 → left ≢ 1 → {k new : Task} {ts′ : List ℕ} → k ≡ task ts i → new ≡ oneLess k → ts′ ≡ withTask ts i new
+      → queued ts′ ls ≡ taskTick (queued ts ls) i
+  unfolding taskTick task
+  task-aged z u a b c = rw (c, b, a, ne-eqb (field 8 32 ts i 3) 0 (λ p. z (e ∙ p)), ne-eqb (field 8 32 ts i 3) 1 (λ p. u (e ∙ p)))
+
+-- ---- one step more, in rising number
+pub one-more : {A : Type 0} (f : A → ℕ → A) (x : A) (n : ℕ) {y z : A} → y ≡ rising n f x → z ≡ f y n → z ≡ rising (n + 1) f x
+one-more f x n e g = g ∙ ap (λ y. f y n) e ∙ sym (rising-more f x n)
+
+-- ---- the whole tick
+pub tick-is : (ts ls ws cs st : List ℕ) {v : ℕ} {st′ cs′ ws′ ls₁ ts′ ls′ : List ℕ}
+    → v ≡ (getD st 3 0 + 1) % 2 ^ 32 → st′ ≡ set st 3 v
+    → clockedOf cs′ ws′ ls₁ ≡ clocksTicked cs ws ls → queued ts′ ls′ ≡ tasksTicked ts ls₁
+    → tickedOf ts′ ls′ ws′ cs′ st′ ≡ ticked (tickedOf ts ls ws cs st)
+unfolding ticked
+tick-is ts ls ws cs st {v} {st′} {cs′} {ws′} {ls₁} {ts′} {ls′} a b c d =
+    rw (b, a)
+    (ap (λ (q : Queued). tickedOf (q .tasks) (q .lines) ws′ cs′ (set st 3 ((getD st 3 0 + 1) % 2 ^ 32))) d
+    ∙ ap (λ (x : Clocked). tickedOf (tasksTicked ts (x .lines) .tasks) (tasksTicked ts (x .lines) .lines) (x .swis) (x .clocks) (set st 3 ((getD st 3 0 + 1) % 2 ^ 32))) c)

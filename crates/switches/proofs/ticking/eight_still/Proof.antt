@@ -1,0 +1,36 @@
+use borrow.Author.Needs.{needs}
+use Rattle.switches.proofs.Still.{still-none, still-more, still-end}
+use Prim.Native.Nat.{ℕ, _+_, _*_, _-_, _≤_}
+use mathlib.Core.Path.{_≡_}
+use mathlib.Core.List.{List}
+use native.Mathlib.Omega.{arith}
+use lib.Dec.{eqb}
+use Rattle.rules.specs.Tables.{task}
+use Rattle.switches.specs.Still.{still}
+use Rattle.switches.proofs.ticking.eight_still.Statement.{statement}
+use Rattle.switches.proofs.ticking.eight_still.Tie as tie
+
+abbrev ticks : List ℕ → ℕ → ℕ → ℕ
+ticks ts g k = task ts (g * 8 + k) .left
+
+abbrev Inv-loop : tie.InvT-loop
+Inv-loop tasks g at left₀ k₀ left k = (k ≤ 8) × (eqb left 0 ≡ still k (ticks tasks g))
+
+abbrev μ-loop : tie.MeasureT-loop
+μ-loop tasks g at left₀ k₀ left k = 8 - k
+
+pub eight-still-spec : {M : Type 1} → statement M
+unfolding task
+eight-still-spec =
+    tie.close
+    (tie.spec
+    Inv-loop
+    μ-loop
+    (λ c. search needs)
+    (λ c. (omega arith, still-none (ticks (c .args .tasks .now) (c .args .g))))
+    (λ c. search needs)
+    (λ c κs. search needs)
+    (λ c. search needs)
+    (λ c. search needs)
+    (λ c. let b = c .before .before .before in let l = c .before .before .loop in (omega arith, still-more (ticks (b .args .tasks .now) (b .args .g)) (l .k) (l .left) (l .inv .1) (c .task-word .ensures)))
+    (λ c. let b = c .before .before in let l = c .before .loop in still-end (ticks (b .args .tasks .now) (b .args .g)) (l .k) 8 (l .left) (l .inv .0) (omega arith) (l .inv .1)))

@@ -1,0 +1,35 @@
+-- `put_heap` meets its contract: a heap that changed is told by its blocks and its units.
+use borrow.Author.Needs.{needs}
+use Rattle.trace_changes.specs.Changes.{changedHeap}
+use Rattle.trace_changes.proofs.Telling.{tells-more}
+use Rattle.trace_changes.proofs.Steps.{told-changed, told-same}
+use Rattle.trace_objects.proofs.put_heap.Statement.{statement}
+use Rattle.trace_objects.proofs.put_heap.Tie as tie
+
+returns : tie.Need-returns
+unfolding changedHeap
+returns c = told-same (c .before .same-heap .ensures) _ (c .if1 .taken)
+
+returns-2 : tie.Need-returns-2
+unfolding changedHeap
+returns-2 c =
+    let at-put-long = c .before .before in
+    let at-count-units2 = at-put-long .before .before in
+    let at-count-units = at-count-units2 .before in
+    let at-if1 = at-count-units .before in
+    let at-same-heap = at-if1 .before in
+    told-changed (at-same-heap .same-heap .ensures) _ (at-if1 .if1 .left)
+    (tells-more _ _ (rw (at-count-units .count-units .ensures .0) at (at-put-long .put-long .ensures)) (rw (at-count-units .count-units .ensures .0, at-count-units2 .count-units2 .ensures .0) at (c .put-long2 .ensures)))
+
+pub put-heap-spec : {M : Type 1} → statement M
+put-heap-spec =
+    tie.close
+    (tie.spec
+    (λ c κs. search needs)
+    returns
+    (λ c κs. search needs)
+    (λ c κs. search needs)
+    (λ c. search needs)
+    (λ c κs. search needs)
+    (λ c κs. search needs)
+    returns-2)

@@ -1,0 +1,42 @@
+-- `same_heap` meets its contract: the invariant is what the test says of the units looked at so far.
+use Prim.Native.Nat.{_-_, _≤_}
+use mathlib.Core.Path.{_≡_, sym}
+use lib.Dec.{eqb}
+use borrow.Author.Needs.{needs}
+use Rattle.basics.specs.Find.{allBelow}
+use Rattle.basics.proofs.Finds.{all-none, all-step, all-end}
+use Rattle.trace_changes.specs.Changes.{sameHeap}
+use Rattle.trace_changes.proofs.Steps.{same-words}
+use Rattle.rules.specs.Heap.{unit}
+use Rattle.trace_objects.proofs.same_heap.Statement.{statement}
+use Rattle.trace_objects.proofs.same_heap.Tie as tie
+
+abbrev Inv-loop : tie.InvT-loop
+Inv-loop before heap same₀ u₀ same u = (u ≤ 256) × (same ≡ allBelow u (λ k. eqb (unit before k) (unit heap k)))
+
+abbrev μ-loop : tie.MeasureT-loop
+μ-loop before heap same₀ u₀ same u = 256 - u
+
+loop-holds : tie.Need-loop-holds Inv-loop μ-loop
+loop-holds c = (search needs, sym (all-none _))
+
+loop-again : tie.Need-loop-again Inv-loop μ-loop
+loop-again c = let l = c .before .before .before .loop in (search needs, all-step _ (l .u) (l .inv .1) (same-words (c .before .unit .ensures) (c .unit2 .ensures)))
+
+returns : tie.Need-returns Inv-loop μ-loop
+unfolding sameHeap
+returns c = let l = c .before .loop in all-end _ (l .u) 256 (l .inv .0) (c .loop-test .left) (l .inv .1)
+
+pub same-heap-spec : {M : Type 1} → statement M
+same-heap-spec =
+    tie.close
+    (tie.spec
+    Inv-loop
+    μ-loop
+    loop-holds
+    (λ c κs. search needs)
+    (λ c κs. search needs)
+    (λ c. search needs)
+    (λ c. search needs)
+    loop-again
+    returns)

@@ -1,0 +1,36 @@
+-- `is_started` meets its contract: the lengths that it compares are those of the definition.
+use mathlib.Core.Path.{_∙_}
+use native.Mathlib.Omega.{arith}
+use lib.Dec.{eqb}
+use borrow.Author.Needs.{needs}
+use Rattle.trace_changes.specs.Changes.{isStarted}
+use Rattle.rules_laws.proofs.Lines.{line-le}
+use Rattle.trace_changes.proofs.Steps.{bit-most}
+use Rattle.trace_threads.proofs.is_started.Statement.{statement}
+use Rattle.trace_threads.proofs.is_started.Tie as tie
+
+add-result : tie.Need-add-result
+add-result c =
+    let at-index = c .before .before .before in
+    let at-bit = at-index .before in
+    let start = at-bit .before .before .before in
+    omega (arith, c .len2 .ensures, line-le (start .args .lines .now) 48, at-index .index .ensures ∙ at-bit .bit .ensures, bit-most (eqb (start .args .made .number) 0x17))
+
+returns : tie.Need-returns
+unfolding isStarted
+returns c =
+    let at-len = c .before in
+    let at-index = at-len .before .before in
+    let at-bit = at-index .before in
+    rw (at-len .len .ensures, c .len2 .ensures, at-index .index .ensures, at-bit .bit .ensures)
+
+pub is-started-spec : {M : Type 1} → statement M
+is-started-spec =
+    tie.close
+    (tie.spec
+    (λ c κs. search needs)
+    (λ c κs. search needs)
+    (λ c κs. search needs)
+    (λ c κs. search needs)
+    add-result
+    returns)

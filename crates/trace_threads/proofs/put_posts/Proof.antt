@@ -1,0 +1,37 @@
+-- `put_posts` meets its contract: nothing of a refused call, the clocks of a tick, else the call itself.
+use borrow.Author.Needs.{needs}
+use borrow.Author.Tests.{eq-eqb, ne-eqb}
+use Rattle.trace_changes.specs.Changes.{postsMade}
+use Rattle.trace_changes.proofs.Telling.{tells-none}
+use Rattle.trace_threads.proofs.put_posts.Statement.{statement}
+use Rattle.trace_threads.proofs.put_posts.Tie as tie
+
+returns : tie.Need-returns
+unfolding postsMade
+returns c = let start = c .before .before .before in rw (ne-eqb _ 0 (c .if1 .taken)) (tells-none _ _)
+
+returns-2 : tie.Need-returns-2
+unfolding postsMade
+returns-2 c =
+    let at-if2 = c .before .before in
+    let at-if1 = at-if2 .before .before in
+    let start = at-if1 .before .before .before in
+    rw (eq-eqb _ 0 (at-if1 .if1 .left), eq-eqb _ 0x76 (at-if2 .if2 .taken)) (c .put-clock-posts .ensures)
+
+returns-3 : tie.Need-returns-3
+unfolding postsMade
+returns-3 c =
+    let at-if2 = c .before .before in
+    let at-if1 = at-if2 .before .before in
+    let start = at-if1 .before .before .before in
+    rw (eq-eqb _ 0 (at-if1 .if1 .left), ne-eqb _ 0x76 (at-if2 .if2 .left)) (c .put-call-post .ensures)
+
+pub put-posts-spec : {M : Type 1} → statement M
+put-posts-spec =
+    tie.close
+    (tie.spec
+    returns
+    (λ c κs. search needs)
+    returns-2
+    (λ c κs. search needs)
+    returns-3)

@@ -1,0 +1,30 @@
+-- `put_task` meets its contract: seven numbers, one after the other.
+use borrow.Author.Needs.{needs}
+use Rattle.trace_changes.specs.Changes.{taskNumbers}
+use Rattle.trace_changes.proofs.Telling.{tells-more}
+use Rattle.trace_threads.proofs.put_task.Statement.{statement}
+use Rattle.trace_threads.proofs.put_task.Tie as tie
+
+returns : tie.Need-returns
+unfolding taskNumbers
+returns c =
+    let at-put5 = c .before .before in
+    let at-put4 = at-put5 .before .before in
+    let at-put3 = at-put4 .before .before in
+    let at-put2 = at-put3 .before .before in
+    let at-put = at-put2 .before .before in
+    let at-put-long = at-put .before .before in
+    tells-more _ _ (at-put-long .put-long .ensures) (tells-more _ _ (at-put .put .ensures) (tells-more _ _ (at-put2 .put2 .ensures) (tells-more _ _ (at-put3 .put3 .ensures) (tells-more _ _ (at-put4 .put4 .ensures) (tells-more _ _ (at-put5 .put5 .ensures) (c .put6 .ensures))))))
+
+pub put-task-spec : {M : Type 1} → statement M
+put-task-spec =
+    tie.close
+    (tie.spec
+    (λ c κs. search needs)
+    (λ c κs. search needs)
+    (λ c κs. search needs)
+    (λ c κs. search needs)
+    (λ c κs. search needs)
+    (λ c κs. search needs)
+    (λ c κs. search needs)
+    returns)
