@@ -2,12 +2,12 @@
 use Prim.Native.Nat.{ℕ}
 use mathlib.Core.Path.{_≡_, ap, _∙_}
 use mathlib.Core.List.{List}
-use Rattle.rules.specs.Answer.{after}
+use Rattle.rules.specs.Answer.{withAnswer}
 use Rattle.rules.specs.Tables.{withClock}
 use Rattle.rules.specs.declared.Answer.{Answer}
 use Rattle.rules.specs.declared.Clock.{Clock}
 
 -- an answer, and clock i's row
 pub stored : (cs : List ℕ) (i : ℕ) {k l : Clock} {cs₁ : List ℕ} {r s : Answer} → cs₁ ≡ withClock cs i k → r ≡ s → k ≡ l
-    → after r cs₁ ≡ after s (withClock cs i l)
-stored cs i {cs₁ = cs₁} {s = s} e f g = ap (λ (r : Answer). after r cs₁) f ∙ ap (after s) (e ∙ ap (withClock cs i) g)
+    → withAnswer r cs₁ ≡ withAnswer s (withClock cs i l)
+stored cs i {cs₁ = cs₁} {s = s} e f g = ap (λ (r : Answer). withAnswer r cs₁) f ∙ ap (withAnswer s) (e ∙ ap (withClock cs i) g)

@@ -16,7 +16,7 @@ use rules::numbers::DONE;
 use rules::numbers::T;
 use rules::numbers::USED;
 ghost use mathlib.Core.Path.{_≡_};
-ghost use Rattle.rules.specs.Answer.{after, answered, codeOf};
+ghost use Rattle.rules.specs.Answer.{withAnswer, answered, codeOf};
 ghost use Rattle.rules.specs.Clocks.{createCases, createEffect, deleteCases, deleteEffect, startStopCases, startEffect, stopEffect, createCall, deleteCall};
 ghost use Rattle.rules.specs.Clocks.{startCall, stopCall};
 ghost use Rattle.tables.specs.Lent.{old, new};
@@ -43,7 +43,7 @@ pub fn create_code(clocks: &Clocks, swis: &Swis, x: u32, a: u32, b: u32, d: u32)
 
 // A new clock is stopped.
 pub fn create_effect(clocks: &mut Clocks, a: u32, b: u32, c: u32) -> Answer
-    ensures { λ r. ⌜ after r (new clocks) ≡ createEffect (old clocks) a b c ⌝ }
+    ensures { λ r. ⌜ withAnswer r (new clocks) ≡ createEffect (old clocks) a b c ⌝ }
 {
     let n = free_clock(clocks);
     let k = Clock {
@@ -58,7 +58,7 @@ pub fn create_effect(clocks: &mut Clocks, a: u32, b: u32, c: u32) -> Answer
 }
 
 pub fn create(clocks: &mut Clocks, swis: &Swis, x: u32, a: u32, b: u32, c: u32, d: u32) -> Answer
-    ensures { λ r. ⌜ after r (new clocks) ≡ answered (old clocks) (createCall (old clocks) (old swis) x a b c d) ⌝ }
+    ensures { λ r. ⌜ withAnswer r (new clocks) ≡ answered (old clocks) (createCall (old clocks) (old swis) x a b c d) ⌝ }
 {
     let code = create_code(clocks, swis, x, a, b, d);
     if code != 0 {
@@ -86,7 +86,7 @@ pub fn delete_code(clocks: &Clocks, x: u32, a: u32, b: u32, c: u32, d: u32) -> u
 }
 
 pub fn delete_effect(clocks: &mut Clocks, a: u32) -> Answer
-    ensures { λ r. ⌜ after r (new clocks) ≡ deleteEffect (old clocks) a ⌝ }
+    ensures { λ r. ⌜ withAnswer r (new clocks) ≡ deleteEffect (old clocks) a ⌝ }
 {
     let none = Clock {
         used: 0,
@@ -100,7 +100,7 @@ pub fn delete_effect(clocks: &mut Clocks, a: u32) -> Answer
 }
 
 pub fn delete(clocks: &mut Clocks, x: u32, a: u32, b: u32, c: u32, d: u32) -> Answer
-    ensures { λ r. ⌜ after r (new clocks) ≡ answered (old clocks) (deleteCall (old clocks) x a b c d) ⌝ }
+    ensures { λ r. ⌜ withAnswer r (new clocks) ≡ answered (old clocks) (deleteCall (old clocks) x a b c d) ⌝ }
 {
     let code = delete_code(clocks, x, a, b, c, d);
     if code != 0 {
@@ -126,7 +126,7 @@ pub fn start_stop_code(clocks: &Clocks, a: u32, b: u32, c: u32, d: u32) -> u32
 
 // Start sets the first ticks again.
 pub fn start_effect(clocks: &mut Clocks, a: u32) -> Answer
-    ensures { λ r. ⌜ after r (new clocks) ≡ startEffect (old clocks) a ⌝ }
+    ensures { λ r. ⌜ withAnswer r (new clocks) ≡ startEffect (old clocks) a ⌝ }
 {
     let k = clock(clocks, a as usize);
     let started = with_left(k, k.first);
@@ -135,7 +135,7 @@ pub fn start_effect(clocks: &mut Clocks, a: u32) -> Answer
 }
 
 pub fn start(clocks: &mut Clocks, a: u32, b: u32, c: u32, d: u32) -> Answer
-    ensures { λ r. ⌜ after r (new clocks) ≡ answered (old clocks) (startCall (old clocks) a b c d) ⌝ }
+    ensures { λ r. ⌜ withAnswer r (new clocks) ≡ answered (old clocks) (startCall (old clocks) a b c d) ⌝ }
 {
     let code = start_stop_code(clocks, a, b, c, d);
     if code != 0 {
@@ -146,7 +146,7 @@ pub fn start(clocks: &mut Clocks, a: u32, b: u32, c: u32, d: u32) -> Answer
 
 // A stopped clock has no ticks left.
 pub fn stop_effect(clocks: &mut Clocks, a: u32) -> Answer
-    ensures { λ r. ⌜ after r (new clocks) ≡ stopEffect (old clocks) a ⌝ }
+    ensures { λ r. ⌜ withAnswer r (new clocks) ≡ stopEffect (old clocks) a ⌝ }
 {
     let k = clock(clocks, a as usize);
     let stopped = with_left(k, 0);
@@ -155,7 +155,7 @@ pub fn stop_effect(clocks: &mut Clocks, a: u32) -> Answer
 }
 
 pub fn stop(clocks: &mut Clocks, a: u32, b: u32, c: u32, d: u32) -> Answer
-    ensures { λ r. ⌜ after r (new clocks) ≡ answered (old clocks) (stopCall (old clocks) a b c d) ⌝ }
+    ensures { λ r. ⌜ withAnswer r (new clocks) ≡ answered (old clocks) (stopCall (old clocks) a b c d) ⌝ }
 {
     let code = start_stop_code(clocks, a, b, c, d);
     if code != 0 {

@@ -12,7 +12,7 @@ use rules::Answer;
 use rules::Clocks;
 use rules::Swis;
 ghost use mathlib.Core.Path.{_≡_};
-ghost use Rattle.rules.specs.Answer.{after, answered};
+ghost use Rattle.rules.specs.Answer.{withAnswer, answered};
 ghost use Rattle.rules.specs.Clocks.{clockCall};
 ghost use Rattle.tables.specs.Lent.{old, new};
 
@@ -28,7 +28,7 @@ pub fn clock_call(
     c: u32,
     d: u32,
 ) -> Answer
-    ensures { λ r. ⌜ after r (new clocks) ≡ answered (old clocks) (clockCall (old clocks) (old swis) x number a b c d) ⌝ }
+    ensures { λ r. ⌜ withAnswer r (new clocks) ≡ answered (old clocks) (clockCall (old clocks) (old swis) x number a b c d) ⌝ }
 {
     match number {
         0x50 => create(clocks, swis, x, a, b, c, d),

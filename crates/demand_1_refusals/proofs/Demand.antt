@@ -10,7 +10,7 @@ use native.Mathlib.Omega.{arith}
 use borrow.Author.Tests.{eq-eqb, ne-eqb}
 use Rattle.basics.specs.Lists.{count, ahead}
 use Rattle.basics.proofs.Laws.{same?, lt-or-le}
-use Rattle.rules.specs.Answer.{answer, order, firstGiven, codeOf, answered, guarded, refused, named, After, asked}
+use Rattle.rules.specs.Answer.{answer, order, firstGiven, codeOf, answered, guarded, refused, named, Effect, asked}
 use Rattle.rules.specs.Dispatch.{running, context}
 use Rattle.rules.specs.Sound.{sound}
 use Rattle.rules.specs.Step.{call, step, stepOf, finished}
@@ -44,14 +44,14 @@ module _ (t : Tables) (q : Call) (e : sound t ≡ true) where
 
 -- ---- what is answered
 module _ (t : Tables) (k : ℕ) where
-  guarded-code : (e : After Tables) → e .answer .code ≡ 0 → guarded k t e .answer .code ≡ k
+  guarded-code : (e : Effect Tables) → e .answer .code ≡ 0 → guarded k t e .answer .code ≡ k
   guarded-code e h = ⊎-elim (λ (z : k ≡ 0). rw (eq-eqb k 0 z) (h ∙ sym z)) (λ (n : k ≢ 0). rw (ne-eqb k 0 n)) (same? k 0)
 
   refused-step : (m : ℕ) → k ≢ 0 → finished m (refused k t) ≡ stepOf t (named m (answer k 0 0)) (running (t .lines) (t .state))
   unfolding finished
   refused-step m n = rw (ne-eqb k 0 n)
 
-pub finished-answer : (n : ℕ) (r : After Tables) → finished n r .answer ≡ named n (r .answer)
+pub finished-answer : (n : ℕ) (r : Effect Tables) → finished n r .answer ≡ named n (r .answer)
 unfolding finished
 finished-answer n r = refl
 

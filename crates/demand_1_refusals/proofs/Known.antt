@@ -75,7 +75,7 @@ rows = (refl, refl, refl, refl, refl, refl, refl, refl, refl)
 
 -- in the order of `known`, a line for each range
 pub agrees : (t : Tables) (a b c d : ℕ) → All (λ n. Agrees t (asked n a b c d)) known
-unfolding callOf among count unknownNumber wrongContext limitOf badValue unusedNotZero badArgument firstIs beginsWait stateForbids noFreeNumber atItsEnd noHeapRoom switchedOff Waits.outside Tasks.taskCall Tasks.createCases Tasks.deleteCases Tasks.setPriorityCases Tasks.yieldCases Tasks.endCases Tasks.sleepCases Tasks.lastResultCases Swis.swiCall Swis.createCases Swis.deleteCases Swis.postCases Swis.maskCases Swis.endCases Swis.takenCases Semaphores.semaphoreCall Semaphores.createCases Semaphores.deleteCases Semaphores.resetCases Semaphores.waits Semaphores.pendCases Semaphores.postCases Events.eventCall Events.createCases Events.deleteCases Events.waits Events.pendCases Events.postCases Mailboxes.mailboxCall Mailboxes.waitsFirst Mailboxes.createCases Mailboxes.deleteCases Mailboxes.postWaits Mailboxes.pendWaits Mailboxes.postCases Mailboxes.pendCases Clocks.clockCall Clocks.createCases Clocks.deleteCases Clocks.startStopCases Heap.heapCall Heap.takeCases Heap.giveCases Tick.switchCall Switches.offCases Switches.restoreCases Switches.inCases Switches.interruptCases
+unfolding callOf among count unknownNumber wrongContext limitOf badValue unusedNotZero badArgument firstIs beginsWait stateForbids noFreeNumber atItsEnd noHeapRoom switchedOff Waits.outside Tasks.taskCall Tasks.createCases Tasks.deleteCases Tasks.setPriorityCases Tasks.yieldCases Tasks.endCases Tasks.sleepCases Tasks.lastResultCases Swis.swiCall Swis.createCases Swis.deleteCases Swis.postCases Swis.maskCases Swis.endCases Swis.takenCases Semaphores.semaphoreCall Semaphores.createCases Semaphores.deleteCases Semaphores.resetCases Semaphores.pendWaits Semaphores.pendCases Semaphores.postCases Events.eventCall Events.createCases Events.deleteCases Events.pendWaits Events.pendCases Events.postCases Mailboxes.mailboxCall Mailboxes.waitsFirst Mailboxes.createCases Mailboxes.deleteCases Mailboxes.postWaits Mailboxes.pendWaits Mailboxes.postCases Mailboxes.pendCases Clocks.clockCall Clocks.createCases Clocks.deleteCases Clocks.startStopCases Heap.heapCall Heap.takeCases Heap.giveCases Tick.switchCall Switches.offCases Switches.restoreCases Switches.inCases Switches.interruptCases
 agrees t a b c d =
     rows & rows & rows & rows & rows & rows & rows
     & rows & rows & rows & rows & rows & rows & rows & rows & rows

@@ -8,16 +8,16 @@ use borrow.Author.Tests.{ne-eqb, ltb-true}
 use lib.Dec.{eqb, ltb}
 use Rattle.basics.specs.Lists.{count}
 use Rattle.rules.specs.Answer.{Cases, CallRule, given, never}
-use Rattle.rules.specs.Lines.{Queued}
-use Rattle.rules.specs.Waits.{Served}
+use Rattle.rules.specs.Lines.{TaskQueues}
+use Rattle.rules.specs.Waits.{WaitTables}
 use Rattle.rules.specs.Tasks.{taskCall}
-use Rattle.rules.specs.Swis.{Posts, swiCall}
+use Rattle.rules.specs.Swis.{SwiQueues, swiCall}
 use Rattle.rules.specs.Semaphores.{semaphoreCall}
 use Rattle.rules.specs.Events.{eventCall}
 use Rattle.rules.specs.Mailboxes.{mailboxCall}
 use Rattle.rules.specs.Clocks.{clockCall}
 use Rattle.rules.specs.Heap.{heapCall}
-use Rattle.rules.specs.Tick.{Ticked, switchCall}
+use Rattle.rules.specs.Tick.{TickTables, switchCall}
 use Rattle.rules.specs.Step.{inRange, callOf}
 use Rattle.rules.specs.declared.Tables.{Tables}
 use Rattle.rules_laws.proofs.Calls.{chosen}
@@ -33,23 +33,23 @@ module _ (n : ℕ) (out : count n known ≡ 0) where
   isnt : (m : ℕ) → ltb 0 (count m known) ≡ true → eqb n m ≡ false
   isnt m h = ne-eqb n m (λ (e : n ≡ m). omega (arith, out, ltb-true 0 (count m known) h, ap (λ (k : ℕ). count k known) e))
 
-  no-task : (q : Queued) (st : List ℕ) (x a b c d : ℕ) → taskCall q st x n a b c d .cases ≡ onlyOne
+  no-task : (q : TaskQueues) (st : List ℕ) (x a b c d : ℕ) → taskCall q st x n a b c d .cases ≡ onlyOne
   unfolding count taskCall
   no-task q st x a b c d = rw (isnt 0x00 refl, isnt 0x01 refl, isnt 0x02 refl, isnt 0x03 refl, isnt 0x04 refl, isnt 0x05 refl, isnt 0x06 refl)
 
-  no-swi : (p : Posts) (cs st : List ℕ) (x a b c d : ℕ) → swiCall p cs st x n a b c d .cases ≡ onlyOne
+  no-swi : (p : SwiQueues) (cs st : List ℕ) (x a b c d : ℕ) → swiCall p cs st x n a b c d .cases ≡ onlyOne
   unfolding count swiCall
   no-swi p cs st x a b c d = rw (isnt 0x10 refl, isnt 0x11 refl, isnt 0x12 refl, isnt 0x13 refl, isnt 0x14 refl, isnt 0x15 refl, isnt 0x16 refl, isnt 0x17 refl, isnt 0x18 refl)
 
-  no-semaphore : (q : Served) (st : List ℕ) (x a b c d : ℕ) → semaphoreCall q st x n a b c d .cases ≡ onlyOne
+  no-semaphore : (q : WaitTables) (st : List ℕ) (x a b c d : ℕ) → semaphoreCall q st x n a b c d .cases ≡ onlyOne
   unfolding count semaphoreCall
   no-semaphore q st x a b c d = rw (isnt 0x20 refl, isnt 0x21 refl, isnt 0x22 refl, isnt 0x23 refl, isnt 0x24 refl)
 
-  no-event : (q : Served) (st : List ℕ) (x a b c d : ℕ) → eventCall q st x n a b c d .cases ≡ onlyOne
+  no-event : (q : WaitTables) (st : List ℕ) (x a b c d : ℕ) → eventCall q st x n a b c d .cases ≡ onlyOne
   unfolding count eventCall
   no-event q st x a b c d = rw (isnt 0x30 refl, isnt 0x31 refl, isnt 0x32 refl, isnt 0x33 refl)
 
-  no-mailbox : (q : Served) (st : List ℕ) (x a b c d : ℕ) → mailboxCall q st x n a b c d .cases ≡ onlyOne
+  no-mailbox : (q : WaitTables) (st : List ℕ) (x a b c d : ℕ) → mailboxCall q st x n a b c d .cases ≡ onlyOne
   unfolding count mailboxCall
   no-mailbox q st x a b c d = rw (isnt 0x40 refl, isnt 0x41 refl, isnt 0x42 refl, isnt 0x43 refl)
 
@@ -61,7 +61,7 @@ module _ (n : ℕ) (out : count n known ≡ 0) where
   unfolding count heapCall
   no-heap h x a b c d = rw (isnt 0x60 refl, isnt 0x61 refl)
 
-  no-switch : (t : Ticked) (x a b c d : ℕ) → switchCall t x n a b c d .cases ≡ onlyOne
+  no-switch : (t : TickTables) (x a b c d : ℕ) → switchCall t x n a b c d .cases ≡ onlyOne
   unfolding count switchCall
   no-switch t x a b c d = rw (isnt 0x74 refl, isnt 0x75 refl, isnt 0x76 refl, isnt 0x77 refl, isnt 0x78 refl)
 

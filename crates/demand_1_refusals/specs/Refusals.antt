@@ -11,7 +11,7 @@ use Rattle.rules.specs.Answer.{Cases, T, S, I, unused}
 use Rattle.rules.specs.Tables.{taskCount, swiCount, semaphoreCount, eventCount, mailboxCount, clockCount, heapUnits, swiLevels, levels, minusOne, forever}
 use Rattle.rules.specs.Tables.{mailboxMost, terminated, inactive, task, swi, semaphore, event, mailbox, clock, state, current, USED, KIND, COUNT, BITS}
 use Rattle.rules.specs.Tables.{CAPACITY, MESSAGES, POSTED, DEPTH, SWIS, reading}
-use Rattle.rules.specs.Lines.{semaphoreLine, eventLine, mailboxLine, anyone, first}
+use Rattle.rules.specs.Lines.{semaphoreLine, eventLine, mailboxLine, anyone, frontOf}
 use Rattle.rules.specs.Waits.{switchOff, idle}
 use Rattle.rules.specs.Tasks.{isPriority, freeTask, blocked}
 use Rattle.rules.specs.Swis.{freeSwi, isActive, isNamed}
@@ -39,7 +39,7 @@ pub record ThreadOrder : Type 0 where
 
 -- the order in these tables
 abbrev pub threadOrder : Tables → ThreadOrder
-threadOrder t = record { caller = context (t .lines) (t .state); anyone = anyone (t .lines); first = first (t .lines); isActive = isActive (t .lines) }
+threadOrder t = record { caller = context (t .lines) (t .state); anyone = anyone (t .lines); first = frontOf (t .lines); isActive = isActive (t .lines) }
 
 -- the call's number is one of these
 unfoldable pub among : List ℕ → Call → Bool

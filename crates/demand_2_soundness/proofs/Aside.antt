@@ -8,7 +8,7 @@ use native.Mathlib.Omega.{arith}
 use lib.Dec.{eqb, ltb}
 use Rattle.basics.specs.Rule.{Means}
 use Rattle.rules.specs.Tables.{taskCount, minusOne, ready, inactive, task, levels}
-use Rattle.rules.specs.Lines.{postedLine, activeLine, line, homeBy, homeOf, taskHome, Queued, moved, atBack}
+use Rattle.rules.specs.Lines.{postedLine, activeLine, line, homeBy, homeOf, taskHome, TaskQueues, moved, atBack}
 use Rattle.rules.specs.Waits.{readied, woken}
 use Rattle.rules.specs.Tasks.{blocked, placedAt, reprioritized}
 use Rattle.rules.specs.Sound.{tasksRule}
@@ -30,14 +30,14 @@ Aside h = (j : ℕ) → postedLine 0 ≤ j → j ≤ activeLine → j ≢ h
 pub stands-aside : (k : Task) → Stands k → Aside (homeOf k)
 stands-aside k s j low high e = ⊎-elim (λ o. not-of-swis (homeOf k) j o low high (sym e)) (λ n. omega arith) (stands-in k s)
 
-module _ (q : Queued) (sx : List ℕ) (rows : Means (tasksRule (levels sx) (q .tasks))) where
+module _ (q : TaskQueues) (sx : List ℕ) (rows : Means (tasksRule (levels sx) (q .tasks))) where
   pub home-aside : (i : ℕ) → Aside (taskHome (q .tasks) i)
   home-aside i = stands-aside (task (q .tasks) i) (task-stands _ (q .tasks) rows i)
 
   pub moved-aside : (place : List ℕ → ℕ) (i : ℕ) (k : Task) → Aside (homeOf k) → SwisStay (q .lines) (moved place i k q .lines)
   unfolding moved
   moved-aside place i k to j low high =
-      chosen (λ (x : Queued). line (x .lines) j ≡ line (q .lines) j) (ltb i taskCount) _ _
+      chosen (λ (x : TaskQueues). line (x .lines) j ≡ line (q .lines) j) (ltb i taskCount) _ _
       (λ _.
       entered-other _ (homeOf k) i place j (to j low high)
       ∙ left-other (q .lines) (taskHome (q .tasks) i) i j (home-aside i j low high))
@@ -63,7 +63,7 @@ module _ (q : Queued) (sx : List ℕ) (rows : Means (tasksRule (levels sx) (q .t
   pub priority-aside : (a p : ℕ) → SwisStay (q .lines) (reprioritized q a p .lines)
   unfolding reprioritized
   priority-aside a p j low high =
-      chosen (λ (x : Queued). line (x .lines) j ≡ line (q .lines) j) (eqb p (task (q .tasks) a .priority)) _ _ (λ _. refl)
+      chosen (λ (x : TaskQueues). line (x .lines) j ≡ line (q .lines) j) (eqb p (task (q .tasks) a .priority)) _ _ (λ _. refl)
       (λ _.
-      chosen (λ (x : Queued). line (x .lines) j ≡ line (q .lines) j) (blocked (task (q .tasks) a .mode)) _ _ (λ _. refl)
+      chosen (λ (x : TaskQueues). line (x .lines) j ≡ line (q .lines) j) (blocked (task (q .tasks) a .mode)) _ _ (λ _. refl)
       (λ _. placed-aside a (task (q .tasks) a) p j low high))

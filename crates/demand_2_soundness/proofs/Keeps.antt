@@ -4,7 +4,7 @@ use mathlib.Core.Path.{_≡_}
 use mathlib.Core.Logic.{_≢_}
 use borrow.Author.Tests.{eqb-true, eqb-false, ne-eqb}
 use lib.Dec.{eqb}
-use Rattle.rules.specs.Answer.{After, CallRule, codeOf, answered, refused, asked, Words}
+use Rattle.rules.specs.Answer.{Effect, CallRule, codeOf, answered, refused, asked, Words}
 use Rattle.rules.specs.Tables.{Typed}
 use Rattle.rules.specs.Dispatch.{context, dispatched}
 use Rattle.rules.specs.Sound.{Sound}
@@ -35,7 +35,7 @@ over-kept put c h = record { keeps = h }
 abbrev pub settledBy : Tables → Tables
 settledBy u = withDispatched u (dispatched (u .swis) (u .lines) (u .state))
 
-pub effect-leaves : (n : ℕ) (e : After Tables) → e .answer .code ≡ 0 → finished n e .tables ≡ settledBy (e .next)
+pub effect-leaves : (n : ℕ) (e : Effect Tables) → e .answer .code ≡ 0 → finished n e .tables ≡ settledBy (e .next)
 unfolding finished
 effect-leaves n e z = rw z
 
@@ -47,7 +47,7 @@ refusal-leaves m k t n = rw (ne-eqb k 0 n)
 leaves : (n : ℕ) (P : Tables → Type 0) (t : Tables) (c : CallRule Tables) → c .effect .answer .code ≡ 0 → Keeps whole c → P t
     → ((u : Tables) → Settling u → P (settledBy u)) → P (finished n (answered t c) .tables)
 leaves n P t c code keeps before after =
-    chosen (λ (r : After Tables). P (finished n r .tables)) (eqb (codeOf (c .cases)) 0) (c .effect) (refused (codeOf (c .cases)) t)
+    chosen (λ (r : Effect Tables). P (finished n r .tables)) (eqb (codeOf (c .cases)) 0) (c .effect) (refused (codeOf (c .cases)) t)
     (λ e. rw (effect-leaves n (c .effect) code) (after (c .effect .next) (keeps (eqb-true (codeOf (c .cases)) 0 e))))
     (λ e. rw (refusal-leaves n (codeOf (c .cases)) t (eqb-false (codeOf (c .cases)) 0 e)) before)
 

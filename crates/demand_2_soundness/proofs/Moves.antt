@@ -12,7 +12,7 @@ use Rattle.basics.specs.Lists.{bit, count, without, putAt}
 use Rattle.basics.specs.Rule.{Means}
 use Rattle.basics.proofs.Laws.{same?, count-putAt, count-without, count-without-other, length-without, without-absent, room}
 use Rattle.rules.specs.Tables.{Typed, taskCount, atSemaphore, atEvent, reading, writing, task, withTask, semaphore, event, mailbox, USED, COUNT, BITS, CAPACITY, MESSAGES, levels}
-use Rattle.rules.specs.Lines.{lineCount, lineMost, semaphoreLine, eventLine, mailboxLine, postedLine, activeLine, line, homeOf, taskHome, left, entered, Queued, queued, moved}
+use Rattle.rules.specs.Lines.{lineCount, lineMost, semaphoreLine, eventLine, mailboxLine, postedLine, activeLine, line, homeOf, taskHome, outOf, entered, TaskQueues, taskQueues, moved}
 use Rattle.rules.specs.Events.{matched}
 use Rattle.rules.specs.Sound.{taskRule, tasksRule, linesRule, semaphoresRule, eventsRule, mailboxesRule}
 use Rattle.rules.specs.Step.{withQueued}
@@ -35,14 +35,14 @@ pub record Welcome (t : Tables) (i : ℕ) (k : Task) : Type 0 where
   pub event : k .mode ≡ atEvent
       → (event (t .events) (k .object) USED ≢ 0)
       × (line (t .lines) (eventLine (k .object)) ≡ [])
-      × (matched (event (t .events) (k .object) BITS) (k .first) (k .second) ≡ 0)
+      × (matched (event (t .events) (k .object) BITS) (k .held) (k .mask) ≡ 0)
   pub reader : k .mode ≡ reading
       → (mailbox (t .mailboxes) (k .object) CAPACITY ≢ 0) × (mailbox (t .mailboxes) (k .object) MESSAGES ≡ 0)
   pub writer : k .mode ≡ writing
       → (mailbox (t .mailboxes) (k .object) CAPACITY ≢ 0)
       × (mailbox (t .mailboxes) (k .object) MESSAGES ≡ mailbox (t .mailboxes) (k .object) CAPACITY)
 
-pub queued-typed : (t : Tables) (q : Queued) → Typed t → length (q .tasks) ≡ 256 → length (q .lines) ≡ 2673 → Typed (withQueued t q)
+pub queued-typed : (t : Tables) (q : TaskQueues) → Typed t → length (q .tasks) ≡ 256 → length (q .lines) ≡ 2673 → Typed (withQueued t q)
 queued-typed t q typed tasks lines =
     record {
       tasks = tasks;
@@ -57,12 +57,12 @@ queued-typed t q typed tasks lines =
     }
 
 module _ (t : Tables) (a : Almost t) (place : List ℕ → ℕ) (i : ℕ) (k : Task) (lt : i < taskCount) (row : Means (taskRule (levels (t .state)) i k)) where
-  abbrev new : Queued
-  new = moved place i k (queued (t .tasks) (t .lines))
+  abbrev new : TaskQueues
+  new = moved place i k (taskQueues (t .tasks) (t .lines))
 
   -- the lines once the task has left its own, and who is left in line j
   abbrev mid : List ℕ
-  mid = left (taskHome (t .tasks) i) i (t .lines)
+  mid = outOf (taskHome (t .tasks) i) i (t .lines)
 
   abbrev rest : ℕ → List ℕ
   rest j = without i (line (t .lines) j)
@@ -71,16 +71,16 @@ module _ (t : Tables) (a : Almost t) (place : List ℕ → ℕ) (i : ℕ) (k : T
   mid-full = length-left (t .lines) (taskHome (t .tasks) i) i ∙ a .typed .lines
 
   -- what the move is, for a task that there is
-  pub moved-is : moved place i k (queued (t .tasks) (t .lines))
-      ≡ queued (withTask (t .tasks) i k) (entered place (homeOf k) i (left (taskHome (t .tasks) i) i (t .lines)))
+  pub moved-is : moved place i k (taskQueues (t .tasks) (t .lines))
+      ≡ taskQueues (withTask (t .tasks) i k) (entered place (homeOf k) i (outOf (taskHome (t .tasks) i) i (t .lines)))
   unfolding moved
   moved-is = rw (lt-ltb i taskCount lt)
 
   -- the rows
-  pub moved-row : task (moved place i k (queued (t .tasks) (t .lines)) .tasks) i ≡ k
+  pub moved-row : task (moved place i k (taskQueues (t .tasks) (t .lines)) .tasks) i ≡ k
   moved-row = rw moved-is (task-same (t .tasks) i k (a .typed .tasks) lt)
 
-  pub moved-rows : (x : ℕ) → x ≢ i → task (moved place i k (queued (t .tasks) (t .lines)) .tasks) x ≡ task (t .tasks) x
+  pub moved-rows : (x : ℕ) → x ≢ i → task (moved place i k (taskQueues (t .tasks) (t .lines)) .tasks) x ≡ task (t .tasks) x
   moved-rows x n = rw moved-is (task-other (t .tasks) i k x n)
 
   -- the lines: a line of tasks loses the one that moves, and the next line has it at its place; lines of Swis stay
@@ -112,7 +112,7 @@ module _ (t : Tables) (a : Almost t) (place : List ℕ → ℕ) (i : ℕ) (k : T
           ∙ bit-other (taskHome (t .tasks) y) j (λ e. omega (arith, home-out (t .tasks) y h, of-tasks j o .0))
 
   pub moved-line : (j : ℕ) → OfTasks j
-      → line (moved place i k (queued (t .tasks) (t .lines)) .lines) j
+      → line (moved place i k (taskQueues (t .tasks) (t .lines)) .lines) j
       ≡ if (eqb j (homeOf k)) (putAt (place (without i (line (t .lines) j))) i (without i (line (t .lines) j))) (without i (line (t .lines) j))
   moved-line j o =
       rw moved-is
@@ -124,8 +124,8 @@ module _ (t : Tables) (a : Almost t) (place : List ℕ → ℕ) (i : ℕ) (k : T
       (λ (n : j ≢ homeOf k). rw (ne-eqb j (homeOf k) n) (entered-other mid (homeOf k) i place j n ∙ mid-line j o))
       (same? j (homeOf k)))
 
-  pub moved-swi-line : SwisStay (t .lines) (moved place i k (queued (t .tasks) (t .lines)) .lines)
-  moved-swi-line = moved-aside (queued (t .tasks) (t .lines)) _ (a .tasks) place i k (stands-aside k (row-stands _ i k row))
+  pub moved-swi-line : SwisStay (t .lines) (moved place i k (taskQueues (t .tasks) (t .lines)) .lines)
+  moved-swi-line = moved-aside (taskQueues (t .tasks) (t .lines)) _ (a .tasks) place i k (stands-aside k (row-stands _ i k row))
 
   -- the two kinds of lines of tasks
   pub moved-into : (j : ℕ) → OfTasks j → j ≡ homeOf k → line (new .lines) j ≡ putAt (place (rest j)) i (rest j)
@@ -246,7 +246,7 @@ module _ (t : Tables) (a : Almost t) (place : List ℕ → ℕ) (i : ℕ) (k : T
               ((λ r. rw q at (welcome .reader r .1)), (λ r. rw q at (welcome .writer r .1))),
             )
 
-    pub moved-keeps : Almost (withQueued t (moved place i k (queued (t .tasks) (t .lines))))
+    pub moved-keeps : Almost (withQueued t (moved place i k (taskQueues (t .tasks) (t .lines))))
     moved-keeps =
         let active = moved-swi-line activeLine (omega arith) (omega arith) in
         record {
@@ -266,13 +266,13 @@ module _ (t : Tables) (a : Almost t) (place : List ℕ → ℕ) (i : ℕ) (k : T
 -- ---- a task's row changes, and its line does not: of a task in a line the mode and what it holds stay
 module _ (t : Tables) (a : Almost t) (i : ℕ) (k : Task) (lt : i < taskCount) (row : Means (taskRule (levels (t .state)) i k)) (home : homeOf k ≡ taskHome (t .tasks) i)
     (holds : homeOf k < lineCount
-    → (k .mode ≡ task (t .tasks) i .mode) × (k .first ≡ task (t .tasks) i .first) × (k .second ≡ task (t .tasks) i .second)) where
+    → (k .mode ≡ task (t .tasks) i .mode) × (k .held ≡ task (t .tasks) i .held) × (k .mask ≡ task (t .tasks) i .mask)) where
   abbrev us : List ℕ
   us = withTask (t .tasks) i k
 
   -- what a task that stands in a line had, it has
   row-held : (x j : ℕ) → OfTasks j → 0 < count x (line (t .lines) j)
-      → (task us x .mode ≡ task (t .tasks) x .mode) × (task us x .first ≡ task (t .tasks) x .first) × (task us x .second ≡ task (t .tasks) x .second)
+      → (task us x .mode ≡ task (t .tasks) x .mode) × (task us x .held ≡ task (t .tasks) x .held) × (task us x .mask ≡ task (t .tasks) x .mask)
   row-held x j o c =
       ⊎-elim
       (λ (e : x ≡ i).
@@ -300,10 +300,10 @@ module _ (t : Tables) (a : Almost t) (i : ℕ) (k : Task) (lt : i < taskCount) (
       rw (row-held x (mailboxLine m) (inl (omega arith)) c .0)
       (mailbox-waits (t .tasks) (t .mailboxes) (t .lines) m (a .mailboxes m h) x c))
 
-  pub row-keeps : Almost (withQueued t (queued (withTask (t .tasks) i k) (t .lines)))
+  pub row-keeps : Almost (withQueued t (taskQueues (withTask (t .tasks) i k) (t .lines)))
   row-keeps =
       record {
-        typed = queued-typed t (queued us (t .lines)) (a .typed) (length-withTask (t .tasks) i k ∙ a .typed .tasks) (a .typed .lines);
+        typed = queued-typed t (taskQueues us (t .lines)) (a .typed) (length-withTask (t .tasks) i k ∙ a .typed .tasks) (a .typed .lines);
         heap = a .heap;
         clocks = a .clocks;
         tasks = tasks-withTask _ (t .tasks) i k (a .typed .tasks) lt (a .tasks) row;

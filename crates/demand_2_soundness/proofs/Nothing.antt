@@ -5,7 +5,7 @@ use mathlib.Core.Path.{_≡_, refl, sym, ap, _∙_}
 use mathlib.Core.List.{List}
 use lib.ListN.{set}
 use lib.Seq.{set-getD}
-use Rattle.rules.specs.Dispatch.{swiDispatched, taskDue, taskDispatched, dispatched, dispatchedOf}
+use Rattle.rules.specs.Dispatch.{swiDispatched, taskDue, taskDispatched, dispatched, dispatchTables}
 use Rattle.rules.specs.Sound.{Sound}
 use Rattle.rules.specs.declared.Tables.{Tables}
 use Rattle.rules_laws.proofs.Calls.{chosen}
@@ -21,9 +21,9 @@ module _ (t : Tables) (s : Sound t) where
       (λ _. refl)
 
   pub tasks-left : (ls : List ℕ) → SwisStay (t .lines) ls
-      → dispatched (t .swis) ls (t .state) ≡ dispatchedOf (t .swis) ls (taskDispatched ls (t .state))
+      → dispatched (t .swis) ls (t .state) ≡ dispatchTables (t .swis) ls (taskDispatched ls (t .state))
   unfolding dispatched swiDispatched
   tasks-left ls same = rw (swi-due-same (t .swis) (t .lines) ls (t .state) same ∙ swi-not-due t s)
 
-  pub nothing-left : dispatched (t .swis) (t .lines) (t .state) ≡ dispatchedOf (t .swis) (t .lines) (t .state)
+  pub nothing-left : dispatched (t .swis) (t .lines) (t .state) ≡ dispatchTables (t .swis) (t .lines) (t .state)
   nothing-left = tasks-left (t .lines) (λ j low high. refl) ∙ rw no-task

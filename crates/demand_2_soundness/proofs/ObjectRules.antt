@@ -10,7 +10,7 @@ use Rattle.basics.specs.Lists.{count}
 use Rattle.basics.specs.Rule.{Rule, Means, _is_, _and_, _gives_}
 use Rattle.basics.proofs.Laws.{count-first}
 use Rattle.rules.specs.Tables.{reading, writing, task, semaphore, event, mailbox, swi, USED, COUNT, BITS, CAPACITY, MESSAGES, PRIORITY, INITIAL, TRIGGER, POSTED, TAKEN}
-use Rattle.rules.specs.Lines.{semaphoreLine, eventLine, mailboxLine, activeLine, line, first}
+use Rattle.rules.specs.Lines.{semaphoreLine, eventLine, mailboxLine, activeLine, line, frontOf}
 use Rattle.rules.specs.Events.{matched}
 use Rattle.rules.specs.Sound.{semaphoreRule, eventRule, mailboxRule, swiRule, activeRule}
 use Rattle.demand_2_soundness.proofs.Members.{count-at, every-at, every-make}
@@ -36,7 +36,7 @@ event-one ts es ls e (_, (_, (one, _))) = one
 
 module _ (ts us es old new : List ℕ) (e : ℕ) (rule : Means (eventRule ts es old e)) where
   pub event-fewer : (line new (eventLine e) ≡ line old (eventLine e)) ⊎ (length (line new (eventLine e)) ≡ 0)
-      → ((x : ℕ) → 0 < count x (line new (eventLine e)) → (task us x .first ≡ task ts x .first) × (task us x .second ≡ task ts x .second))
+      → ((x : ℕ) → 0 < count x (line new (eventLine e)) → (task us x .held ≡ task ts x .held) × (task us x .mask ≡ task ts x .mask))
       → Means (eventRule us es new e)
   unfolding eventRule
   event-fewer (inl same) masks =
@@ -47,7 +47,7 @@ module _ (ts us es old new : List ℕ) (e : ℕ) (rule : Means (eventRule ts es 
           (
             rw same one,
             λ n.
-                let masked = masks (first new (eventLine e)) (count-first (line new (eventLine e)) (omega arith)) in
+                let masked = masks (frontOf new (eventLine e)) (count-first (line new (eventLine e)) (omega arith)) in
                 rw (masked .0, masked .1, same) (unmet (rw same at n)),
           ),
         ),
@@ -56,7 +56,7 @@ module _ (ts us es old new : List ℕ) (e : ℕ) (rule : Means (eventRule ts es 
       let (used, (free, _)) = rule in
       (used, ((λ z. (free z .0, none)), (omega arith, λ n. absurd (n none))))
 
-  pub event-more : (x : ℕ) → event es e USED ≢ 0 → line new (eventLine e) ≡ x ∷ [] → matched (event es e BITS) (task us x .first) (task us x .second) ≡ 0
+  pub event-more : (x : ℕ) → event es e USED ≢ 0 → line new (eventLine e) ≡ x ∷ [] → matched (event es e BITS) (task us x .held) (task us x .mask) ≡ 0
       → Means (eventRule us es new e)
   unfolding eventRule
   event-more x n alone unmet =

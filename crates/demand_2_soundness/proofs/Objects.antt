@@ -16,7 +16,7 @@ use Rattle.basics.proofs.Laws.{same?}
 use Rattle.basics.proofs.Finds.{IsFirst, first-below-is}
 use Rattle.rules.specs.Answer.{T}
 use Rattle.rules.specs.Tables.{Typed, tables, taskCount, ready, terminated, task, current, levels}
-use Rattle.rules.specs.Lines.{postedLine, eventLine, mailboxLine, line, anyone, readyLine, first, homeBy, homeOf, taskHome, queued, moved, atBack}
+use Rattle.rules.specs.Lines.{postedLine, eventLine, mailboxLine, line, anyone, readyLine, frontOf, homeBy, homeOf, taskHome, taskQueues, moved, atBack}
 use Rattle.rules.specs.Waits.{outside, idle, switchOff, readied, woken}
 use Rattle.rules.specs.Events.{waiterMatch}
 use Rattle.rules.specs.Mailboxes.{waitsFirst}
@@ -84,22 +84,22 @@ waiter-mode k (isNowhere e) h = absurd (omega arith)
 
 -- the first of an object's line is a task that waits
 module _ (t : Tables) (a : Almost t) (j : ℕ) (low : j < postedLine 0) (some : 0 < length (line (t .lines) j)) where
-  pub first-task : first (t .lines) j < taskCount
+  pub first-task : frontOf (t .lines) j < taskCount
   first-task =
-      by-range (first (t .lines) j) taskCount (λ p. p)
-      (λ p. absurd (omega (arith, member-home t a j (inl low) 0 some, home-out (t .tasks) (first (t .lines) j) p)))
+      by-range (frontOf (t .lines) j) taskCount (λ p. p)
+      (λ p. absurd (omega (arith, member-home t a j (inl low) 0 some, home-out (t .tasks) (frontOf (t .lines) j) p)))
 
-  pub first-blocked : (ready < task (t .tasks) (first (t .lines) j) .mode) × (task (t .tasks) (first (t .lines) j) .mode < terminated)
+  pub first-blocked : (ready < task (t .tasks) (frontOf (t .lines) j) .mode) × (task (t .tasks) (frontOf (t .lines) j) .mode < terminated)
   first-blocked =
-      waiter-mode (task (t .tasks) (first (t .lines) j)) (task-stands _ (t .tasks) (a .tasks) (first (t .lines) j))
+      waiter-mode (task (t .tasks) (frontOf (t .lines) j)) (task-stands _ (t .tasks) (a .tasks) (frontOf (t .lines) j))
       (omega (arith, member-home t a j (inl low) 0 some))
 
   -- once it is served the line has lost it
   pub first-leaves : (v : ℕ)
-      → line (woken (first (t .lines) j) 0 v (queued (t .tasks) (t .lines)) .lines) j ≡ without (first (t .lines) j) (line (t .lines) j)
+      → line (woken (frontOf (t .lines) j) 0 v (taskQueues (t .tasks) (t .lines)) .lines) j ≡ without (frontOf (t .lines) j) (line (t .lines) j)
   unfolding homeBy
   first-leaves v =
-      let i : ℕ = first (t .lines) j in
+      let i : ℕ = frontOf (t .lines) j in
       let k : Task = readied (task (t .tasks) i) 0 v in
       let row : Means (taskRule (levels (t .state)) i k) =
       woken-row t a i first-task (first-blocked .0) (first-blocked .1) 0 v (omega arith) (λ e. absurd (omega arith)) in
@@ -109,11 +109,11 @@ module _ (t : Tables) (a : Almost t) (j : ℕ) (low : j < postedLine 0) (some : 
 -- ---- from sound tables: the first of a line is served, or a wait begins
 module _ (t : Tables) (typed : Typed t) (s : Sound t) where
   pub first-wakes : (j : ℕ) → j < postedLine 0 → 0 < length (line (t .lines) j) → (v : ℕ)
-      → Settling (withQueued t (woken (first (t .lines) j) 0 v (queued (t .tasks) (t .lines))))
+      → Settling (withQueued t (woken (frontOf (t .lines) j) 0 v (taskQueues (t .tasks) (t .lines))))
   first-wakes j low some v =
       let a : Almost t = sound-almost t typed s in
       let (from, to) = first-blocked t a j low some in
-      wakes-settle t a (first (t .lines) j) (first-task t a j low some) from to 0 v (omega arith) (λ e. absurd (omega arith)) (sound-ranges t s)
+      wakes-settle t a (frontOf (t .lines) j) (first-task t a j low some) from to 0 v (omega arith) (λ e. absurd (omega arith)) (sound-ranges t s)
       (still-ready t s)
 
   -- a wait begins, and none of its cases holds
@@ -121,7 +121,7 @@ module _ (t : Tables) (typed : Typed t) (s : Sound t) where
       → (w : Bool) → w ≡ true → (w && idle (t .state)) ≡ false → (w && switchOff (t .state)) ≡ false
       → (k : Task) → (current (t .state) ≢ 0 → Means (taskRule (levels (t .state)) (current (t .state)) k)) → Welcome t (current (t .state)) k
       → (place : List ℕ → ℕ)
-      → Settling (withQueued t (moved place (current (t .state)) k (queued (t .tasks) (t .lines))))
+      → Settling (withQueued t (moved place (current (t .state)) k (taskQueues (t .tasks) (t .lines))))
   begins limit n out w now busy off k row welcome place =
       waits-settle t typed s (in-task (context (t .lines) (t .state)) limit out n) (other-fails w (switchOff (t .state)) off now) k
       (row (not-idle t s (other-fails w (idle (t .state)) busy now))) welcome place

@@ -11,15 +11,15 @@ use lib.Bits.{bitOr}
 use lib.ListN.{length, getD}
 use Rattle.basics.specs.Rule.{Rule, _is_, _isnt_, _under_, _and_, _gives_, Means}
 use Rattle.basics.proofs.Laws.{same?, no-length, length-without, count-first}
-use Rattle.rules.specs.Answer.{After, called, asked, Words}
+use Rattle.rules.specs.Answer.{Effect, called, asked, Words}
 use Rattle.rules.specs.Tables.{Typed, wordEnd, task, current, atEvent, eventCount, eventWidth, event, withEvent, eventRow, USED, BITS}
-use Rattle.rules.specs.Lines.{queued, line, eventLine, anyone, first}
+use Rattle.rules.specs.Lines.{taskQueues, line, eventLine, anyone, frontOf}
 use Rattle.rules.specs.Dispatch.{context}
 use Rattle.rules.specs.Sound.{Sound, eventRule}
 use Rattle.rules.specs.Step.{withEvents, withQueued}
-use Rattle.rules.specs.Waits.{Served, served, idle, waiting, woken}
+use Rattle.rules.specs.Waits.{WaitTables, waitTables, idle, waiting, woken}
 use Rattle.rules.specs.Swis.{cleared}
-use Rattle.rules.specs.Events.{freeEvent, matched, waits, waiterMatch, postedBits, eventCall, createCases, createEffect, deleteCases, deleteEffect, pendCases, pendEffect, postCases, postEffect}
+use Rattle.rules.specs.Events.{freeEvent, matched, pendWaits, waiterMatch, postedBits, eventCall, createCases, createEffect, deleteCases, deleteEffect, pendCases, pendEffect, postCases, postEffect}
 use Rattle.rules.specs.declared.Tables.{Tables}
 use Rattle.rules_laws.proofs.Rows.{length-withRow, row-same, row-other, length-withField, field-same, field-other, field-row, row-used}
 use Rattle.rules_laws.proofs.Calls.{chosen}
@@ -40,7 +40,7 @@ eventBy used bits waiters match =
     and (waiters isnt 0 gives match is 0)
 
 abbrev matchedAt : List ℕ → List ℕ → ℕ → ℕ → ℕ
-matchedAt ts ls i bits = matched bits (task ts (first ls (eventLine i)) .first) (task ts (first ls (eventLine i)) .second)
+matchedAt ts ls i bits = matched bits (task ts (frontOf ls (eventLine i)) .held) (task ts (frontOf ls (eventLine i)) .mask)
 
 row-rule : (ts es ls : List ℕ) (i : ℕ) {u b : ℕ} → event es i USED ≡ u → event es i BITS ≡ b
     → Means (eventBy u b (length (line ls (eventLine i))) (matchedAt ts ls i b)) → Means (eventRule ts es ls i)
@@ -63,14 +63,14 @@ abbrev waitersOf : Tables → ℕ → ℕ
 waitersOf t a = length (line (t .lines) (eventLine a))
 
 abbrev waiterOf : Tables → ℕ → ℕ
-waiterOf t a = first (t .lines) (eventLine a)
+waiterOf t a = frontOf (t .lines) (eventLine a)
 
 -- ---- one event changes
 module _ (t : Tables) (s : Settling t) (i : ℕ) (lt : i < eventCount) where
   changes : (es : List ℕ) → length es ≡ length (t .events)
       → ((k f : ℕ) → k ≢ i → event es k f ≡ event (t .events) k f)
       → Means (eventRule (t .tasks) es (t .lines) i)
-      → Settling (withEvents t (served (t .tasks) (t .lines) es))
+      → Settling (withEvents t (waitTables (t .tasks) (t .lines) es))
   changes es whole others row =
       objects-change t s (t .semaphores) es (t .mailboxes) refl whole refl (s .almost .semaphores)
       (each-but eventCount i (eventRule (t .tasks) (t .events) (t .lines)) (eventRule (t .tasks) es (t .lines))
@@ -82,7 +82,7 @@ module _ (t : Tables) (s : Settling t) (i : ℕ) (lt : i < eventCount) where
   all = omega (arith, s .almost .typed .events)
 
   row-changes : (u b : ℕ) → Means (eventBy u b (waitersOf t i) (matchedAt (t .tasks) (t .lines) i b))
-      → Settling (withEvents t (served (t .tasks) (t .lines) (eventRow (t .events) i (u ∷ b ∷ []))))
+      → Settling (withEvents t (waitTables (t .tasks) (t .lines) (eventRow (t .events) i (u ∷ b ∷ []))))
   row-changes u b h =
       let ws : List ℕ = u ∷ b ∷ [] in
       changes (eventRow (t .events) i ws) (length-withRow 2 8 (t .events) i ws)
@@ -94,7 +94,7 @@ module _ (t : Tables) (s : Settling t) (i : ℕ) (lt : i < eventCount) where
 
   bits-change : (b : ℕ)
       → Means (eventBy (inUse t i) b (waitersOf t i) (matchedAt (t .tasks) (t .lines) i b))
-      → Settling (withEvents t (served (t .tasks) (t .lines) (withEvent (t .events) i BITS b)))
+      → Settling (withEvents t (waitTables (t .tasks) (t .lines) (withEvent (t .events) i BITS b)))
   bits-change b h =
       let es : List ℕ = t .events in
       changes (withEvent es i BITS b) (length-withField 2 8 es i 1 b)
@@ -104,11 +104,11 @@ module _ (t : Tables) (s : Settling t) (i : ℕ) (lt : i < eventCount) where
       (field-same 2 8 es i 1 b all lt (omega arith)) h)
 
 -- ---- the calls
-abbrev here : Tables → Served
-here t = served (t .tasks) (t .lines) (t .events)
+abbrev here : Tables → WaitTables
+here t = waitTables (t .tasks) (t .lines) (t .events)
 
 -- what is left is what dispatch starts from
-abbrev Leaves : Tables → After Served → Type 0
+abbrev Leaves : Tables → Effect WaitTables → Type 0
 Leaves t r = Settling (withEvents t (r .next))
 
 module _ (t : Tables) (typed : Typed t) (s : Sound t) where
@@ -152,19 +152,19 @@ module _ (t : Tables) (typed : Typed t) (s : Sound t) where
   pend : (a b c d : ℕ) → d < wordEnd
       → Keeps (withEvents t)
       (called (pendCases (t .lines) (t .events) (t .state) (context (t .lines) (t .state)) a b c d) (pendEffect (here t) (t .state) a b c d))
-  unfolding pendCases pendEffect waits
+  unfolding pendCases pendEffect pendWaits
   pend a b c d word z =
       let ok = accepted-is (pendCases (t .lines) (t .events) (t .state) (context (t .lines) (t .state)) a b c d) z in
       let used : inUse t a ≢ 0 = eqb-false (inUse t a) 0 (object-used _ _ (ok .at3) (ok .at11)) in
       let lt : a < 8 = row-used 2 8 (t .events) a 0 used in
-      let (nobody, busy) = neither (anyone (t .lines) (eventLine a)) (waits (t .events) a b c d && idle (t .state)) (ok .at5) in
+      let (nobody, busy) = neither (anyone (t .lines) (eventLine a)) (pendWaits (t .events) a b c d && idle (t .state)) (ok .at5) in
       let none : waitersOf t a ≡ 0 = omega (arith, ltb-false 0 (waitersOf t a) nobody) in
       let (u, more) = row-of a lt in
       chosen (Leaves t) (eqb (matched (bitsOf t a) b c) 0) _ _
       (λ e.
       chosen (Leaves t) (eqb d 0) _ _ (λ f. sound-settles t typed s)
       (λ f.
-      begins t typed s d (eqb-false d 0 f) (ok .at2) (waits (t .events) a b c d) (rw (e, f)) busy (ok .at9) _
+      begins t typed s d (eqb-false d 0 f) (ok .at2) (pendWaits (t .events) a b c d) (rw (e, f)) busy (ok .at9) _
       (λ i.
       at-event-row _ (current (t .state)) (task (t .tasks) (current (t .state))) i (current-row t s) (current-used t s) a d word lt b c
       (some-mask b c (ok .at4)))
@@ -181,7 +181,7 @@ module _ (t : Tables) (typed : Typed t) (s : Sound t) where
 
   -- once the one waiter is served nobody waits there
   served-none : (a v : ℕ) → a < eventCount → 0 < waitersOf t a
-      → length (line (woken (waiterOf t a) 0 v (queued (t .tasks) (t .lines)) .lines) (eventLine a)) ≡ 0
+      → length (line (woken (waiterOf t a) 0 v (taskQueues (t .tasks) (t .lines)) .lines) (eventLine a)) ≡ 0
   served-none a v lt some =
       let xs : List ℕ = line (t .lines) (eventLine a) in
       let one : length xs < 2 = row-of a lt .1 .1 .0 in
@@ -203,16 +203,16 @@ module _ (t : Tables) (typed : Typed t) (s : Sound t) where
       let some : 0 < waitersOf t a = ltb-true 0 (waitersOf t a) (match-waits (t .tasks) (t .lines) a bits e) in
       let low : eventLine a < 32 = omega arith in
       let none = served-none a match lt some in
-      bits-change (withQueued t (woken (waiterOf t a) 0 match (queued (t .tasks) (t .lines))))
+      bits-change (withQueued t (woken (waiterOf t a) 0 match (taskQueues (t .tasks) (t .lines))))
       (first-wakes t typed s (eventLine a) low some match) a lt (cleared bits match)
       (u, (λ o. absurd (used o), (omega (arith, none), λ w. absurd (w none)))))
 
   pub events-keeps : (number a b c d : ℕ) → Words (asked number a b c d)
-      → Keeps (withEvents t) (eventCall (served (t .tasks) (t .lines) (t .events)) (t .state) (context (t .lines) (t .state)) number a b c d)
+      → Keeps (withEvents t) (eventCall (waitTables (t .tasks) (t .lines) (t .events)) (t .state) (context (t .lines) (t .state)) number a b c d)
   unfolding eventCall
   events-keeps number a b c d w =
       chosen-keeps (withEvents t) (eqb number 0x30) _ _ (create (context (t .lines) (t .state)) a b c d)
       (chosen-keeps (withEvents t) (eqb number 0x31) _ _ (delete (context (t .lines) (t .state)) a b c d)
-      (chosen-keeps (withEvents t) (eqb number 0x32) _ _ (pend a b c d (w .fourth))
+      (chosen-keeps (withEvents t) (eqb number 0x32) _ _ (pend a b c d (w .d))
       (chosen-keeps (withEvents t) (eqb number 0x33) _ _ (post a b c d)
       (unknown-keeps (withEvents t) (here t)))))

@@ -10,13 +10,13 @@ use lib.Dec.{eqb, leb}
 use lib.ListN.{length, drop, getD, length-append, length-drop}
 use Rattle.basics.specs.Lists.{zeros}
 use Rattle.basics.specs.Rule.{Means}
-use Rattle.rules.specs.Answer.{After, called, unused, asked, Words}
+use Rattle.rules.specs.Answer.{Effect, called, unused, asked, Words}
 use Rattle.rules.specs.Tables.{Typed, wordEnd, task, current, reading, writing, mailboxCount, mailboxMost, mailbox, mailboxRow, messages, withMessages, CAPACITY, MESSAGES}
-use Rattle.rules.specs.Lines.{Queued, queued, line, mailboxLine, anyone, first}
+use Rattle.rules.specs.Lines.{TaskQueues, taskQueues, line, mailboxLine, anyone, frontOf}
 use Rattle.rules.specs.Dispatch.{context}
 use Rattle.rules.specs.Sound.{Sound, mailboxRule}
 use Rattle.rules.specs.Step.{withMailboxes, withQueued}
-use Rattle.rules.specs.Waits.{Served, served, waiting, woken}
+use Rattle.rules.specs.Waits.{WaitTables, waitTables, waiting, woken}
 use Rattle.rules.specs.Mailboxes.{freeMailbox, waitsFirst, isFull, postWaits, pendWaits, oldestTaken, mailboxCall, createCases, createEffect, deleteCases, deleteEffect, pendCases, pendEffect, postCases, postEffect}
 use Rattle.rules.specs.declared.Tables.{Tables}
 use Rattle.rules_laws.proofs.Rows.{by-range, length-withRow, row-same, row-other, row-used}
@@ -43,14 +43,14 @@ abbrev waiters : Tables → ℕ → List ℕ
 waiters t a = line (t .lines) (mailboxLine a)
 
 abbrev front : Tables → ℕ → ℕ
-front t a = first (t .lines) (mailboxLine a)
+front t a = frontOf (t .lines) (mailboxLine a)
 
 -- ---- one mailbox changes
 module _ (t : Tables) (s : Settling t) (i : ℕ) (lt : i < mailboxCount) where
   changes : (ms : List ℕ) → length ms ≡ length (t .mailboxes)
       → ((k f : ℕ) → k ≢ i → mailbox ms k f ≡ mailbox (t .mailboxes) k f)
       → Row (t .tasks) (t .lines) ms i
-      → Settling (withMailboxes t (served (t .tasks) (t .lines) ms))
+      → Settling (withMailboxes t (waitTables (t .tasks) (t .lines) ms))
   changes ms whole others row =
       objects-change t s (t .semaphores) (t .events) ms refl refl whole (s .almost .semaphores) (s .almost .events)
       (each-but mailboxCount i (mailboxRule (t .tasks) (t .mailboxes) (t .lines)) (mailboxRule (t .tasks) ms (t .lines))
@@ -61,7 +61,7 @@ module _ (t : Tables) (s : Settling t) (i : ℕ) (lt : i < mailboxCount) where
 
   -- made anew where nobody waits, with no messages
   row-changes : (c : ℕ) → c < suc mailboxMost → length (waiters t i) ≡ 0
-      → Settling (withMailboxes t (served (t .tasks) (t .lines) (mailboxRow (t .mailboxes) i (c ∷ zeros 9))))
+      → Settling (withMailboxes t (waitTables (t .tasks) (t .lines) (mailboxRow (t .mailboxes) i (c ∷ zeros 9))))
   row-changes c small none =
       let ms : List ℕ = mailboxRow (t .mailboxes) i (c ∷ zeros 9) in
       changes ms (length-withRow 10 8 (t .mailboxes) i (c ∷ zeros 9))
@@ -80,7 +80,7 @@ module _ (t : Tables) (s : Settling t) (i : ℕ) (lt : i < mailboxCount) where
   -- its messages become xs
   messages-change : (xs : List ℕ) → length xs ≤ capacity t i
       → Means (waitersRule (t .tasks) (waiters t i) (length xs) (capacity t i))
-      → Settling (withMailboxes t (served (t .tasks) (t .lines) (withMessages (t .mailboxes) i xs)))
+      → Settling (withMailboxes t (waitTables (t .tasks) (t .lines) (withMessages (t .mailboxes) i xs)))
   messages-change xs room waits =
       let r : Row (t .tasks) (t .lines) (t .mailboxes) i = row-parts (t .mailboxes) i lt (t .tasks) (t .lines) (s .almost .mailboxes i lt) in
       let short : length xs ≤ mailboxMost = omega (arith, r .range) in
@@ -89,11 +89,11 @@ module _ (t : Tables) (s : Settling t) (i : ℕ) (lt : i < mailboxCount) where
       (stored-row (t .mailboxes) i lt xs short (s .almost .typed .mailboxes) (t .tasks) (t .lines) r room waits)
 
 -- ---- the calls
-abbrev here : Tables → Served
-here t = served (t .tasks) (t .lines) (t .mailboxes)
+abbrev here : Tables → WaitTables
+here t = waitTables (t .tasks) (t .lines) (t .mailboxes)
 
 -- what is left is what dispatch starts from
-abbrev Leaves : Tables → After Served → Type 0
+abbrev Leaves : Tables → Effect WaitTables → Type 0
 Leaves t r = Settling (withMailboxes t (r .next))
 
 module _ (t : Tables) (typed : Typed t) (s : Sound t) where
@@ -166,18 +166,18 @@ module _ (t : Tables) (typed : Typed t) (s : Sound t) where
 
     -- where nobody waits any messages that fit may stand
     none-waits : length (waiters t a) ≡ 0 → (xs : List ℕ) → length xs ≤ capacity t a
-        → Settling (withMailboxes t (served (t .tasks) (t .lines) (withMessages (t .mailboxes) a xs)))
+        → Settling (withMailboxes t (waitTables (t .tasks) (t .lines) (withMessages (t .mailboxes) a xs)))
     none-waits none xs room = messages-change t (sound-settles t typed s) a lt xs room (λ k h. absurd (omega arith))
 
     -- the first writer is served: one message out, one in, so those who still wait there do so at a full mailbox
     writer-served : waitsFirst (t .tasks) (t .lines) a writing ≡ true → number t a ≢ 0 → (x : ℕ)
         → Settling
-        (withMailboxes (withQueued t (woken (front t a) 0 0 (queued (t .tasks) (t .lines))))
-        (served (woken (front t a) 0 0 (queued (t .tasks) (t .lines)) .tasks)
-        (woken (front t a) 0 0 (queued (t .tasks) (t .lines)) .lines)
+        (withMailboxes (withQueued t (woken (front t a) 0 0 (taskQueues (t .tasks) (t .lines))))
+        (waitTables (woken (front t a) 0 0 (taskQueues (t .tasks) (t .lines)) .tasks)
+        (woken (front t a) 0 0 (taskQueues (t .tasks) (t .lines)) .lines)
         (withMessages (t .mailboxes) a (drop 1 (messages (t .mailboxes) a) ++ (x ∷ [])))))
     writer-served writer some x =
-        let q : Queued = woken (front t a) 0 0 (queued (t .tasks) (t .lines)) in
+        let q : TaskQueues = woken (front t a) 0 0 (taskQueues (t .tasks) (t .lines)) in
         let xs : List ℕ = drop 1 (messages (t .mailboxes) a) ++ (x ∷ []) in
         let e : length xs ≡ number t a = omega (arith, length-append (drop 1 (messages (t .mailboxes) a)) (x ∷ []), later) in
         let after : Settling (withQueued t q) = first-wakes t typed s (mailboxLine a) (omega arith) (some-first a writing writer) 0 in
@@ -242,16 +242,16 @@ module _ (t : Tables) (typed : Typed t) (s : Sound t) where
       (welcome a lt reading b 0 (λ q. eqb-true (number t a) 0 e) (λ q. absurd (omega arith)) (omega arith) used) _))
       (λ e.
       let some : number t a ≢ 0 = eqb-false (number t a) 0 e in
-      chosen (λ (q : Served). Settling (withMailboxes t q)) (waitsFirst (t .tasks) (t .lines) a writing) _ _
+      chosen (λ (q : WaitTables). Settling (withMailboxes t q)) (waitsFirst (t .tasks) (t .lines) a writing) _ _
       (λ f. writer-served a lt f some _)
       (λ f. none-waits a lt (nobody a lt (inr some) (inl f)) (drop 1 (messages (t .mailboxes) a)) (omega (arith, later a lt))))
 
   pub mailboxes-keeps : (number a b c d : ℕ) → Words (asked number a b c d)
-      → Keeps (withMailboxes t) (mailboxCall (served (t .tasks) (t .lines) (t .mailboxes)) (t .state) (context (t .lines) (t .state)) number a b c d)
+      → Keeps (withMailboxes t) (mailboxCall (waitTables (t .tasks) (t .lines) (t .mailboxes)) (t .state) (context (t .lines) (t .state)) number a b c d)
   unfolding mailboxCall
   mailboxes-keeps number a b c d w =
       chosen-keeps (withMailboxes t) (eqb number 0x40) _ _ (create (context (t .lines) (t .state)) a b c d)
       (chosen-keeps (withMailboxes t) (eqb number 0x41) _ _ (delete (context (t .lines) (t .state)) a b c d)
-      (chosen-keeps (withMailboxes t) (eqb number 0x42) _ _ (post a b c d (w .third))
-      (chosen-keeps (withMailboxes t) (eqb number 0x43) _ _ (pend a b c d (w .second))
+      (chosen-keeps (withMailboxes t) (eqb number 0x42) _ _ (post a b c d (w .c))
+      (chosen-keeps (withMailboxes t) (eqb number 0x43) _ _ (pend a b c d (w .b))
       (unknown-keeps (withMailboxes t) (here t)))))

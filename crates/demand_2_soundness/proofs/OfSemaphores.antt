@@ -9,14 +9,14 @@ use borrow.Author.Tests.{eq-eqb, eqb-true, eqb-false, ltb-true, ltb-false, leb-t
 use lib.Dec.{eqb, ltb, leb}
 use lib.ListN.{length, getD}
 use Rattle.basics.specs.Rule.{Rule, _is_, _isnt_, _under_, _and_, _gives_, Means}
-use Rattle.rules.specs.Answer.{After, called, unused, asked, Words}
+use Rattle.rules.specs.Answer.{Effect, called, unused, asked, Words}
 use Rattle.rules.specs.Tables.{Typed, wordEnd, task, current, atSemaphore, semaphoreCount, semaphoreWidth, semaphore, withSemaphore, semaphoreRow, USED, KIND, COUNT}
 use Rattle.rules.specs.Lines.{line, semaphoreLine}
 use Rattle.rules.specs.Dispatch.{context}
 use Rattle.rules.specs.Sound.{Sound, semaphoreRule}
 use Rattle.rules.specs.Step.{withSemaphores}
-use Rattle.rules.specs.Waits.{Served, served, waiting}
-use Rattle.rules.specs.Semaphores.{freeSemaphore, most, waits, countUp, semaphoreCall, createCases, createEffect, deleteCases, deleteEffect, resetCases, resetEffect, pendCases, pendEffect, postCases, postEffect}
+use Rattle.rules.specs.Waits.{WaitTables, waitTables, waiting}
+use Rattle.rules.specs.Semaphores.{freeSemaphore, most, pendWaits, countUp, semaphoreCall, createCases, createEffect, deleteCases, deleteEffect, resetCases, resetEffect, pendCases, pendEffect, postCases, postEffect}
 use Rattle.rules.specs.declared.Tables.{Tables}
 use Rattle.rules_laws.proofs.Rows.{length-withRow, row-same, row-other, length-withField, field-same, field-other, field-row, row-used}
 use Rattle.rules_laws.proofs.Calls.{chosen}
@@ -64,7 +64,7 @@ module _ (t : Tables) (s : Settling t) (i : ℕ) (lt : i < semaphoreCount) where
   changes : (ss : List ℕ) → length ss ≡ length (t .semaphores)
       → ((k f : ℕ) → k ≢ i → semaphore ss k f ≡ semaphore (t .semaphores) k f)
       → Means (semaphoreRule ss (t .lines) i)
-      → Settling (withSemaphores t (served (t .tasks) (t .lines) ss))
+      → Settling (withSemaphores t (waitTables (t .tasks) (t .lines) ss))
   changes ss whole others row =
       objects-change t s ss (t .events) (t .mailboxes) whole refl refl
       (each-but semaphoreCount i (semaphoreRule (t .semaphores) (t .lines)) (semaphoreRule ss (t .lines))
@@ -77,7 +77,7 @@ module _ (t : Tables) (s : Settling t) (i : ℕ) (lt : i < semaphoreCount) where
   all = omega (arith, s .almost .typed .semaphores)
 
   row-changes : (u k n : ℕ) → Means (semaphoreBy u k n (waitersOf t i))
-      → Settling (withSemaphores t (served (t .tasks) (t .lines) (semaphoreRow (t .semaphores) i (u ∷ k ∷ n ∷ []))))
+      → Settling (withSemaphores t (waitTables (t .tasks) (t .lines) (semaphoreRow (t .semaphores) i (u ∷ k ∷ n ∷ []))))
   row-changes u k n h =
       let ws : List ℕ = u ∷ k ∷ n ∷ [] in
       changes (semaphoreRow (t .semaphores) i ws) (length-withRow 3 16 (t .semaphores) i ws)
@@ -89,7 +89,7 @@ module _ (t : Tables) (s : Settling t) (i : ℕ) (lt : i < semaphoreCount) where
 
   count-changes : (n : ℕ)
       → Means (semaphoreBy (inUse t i) (kindOf t i) n (waitersOf t i))
-      → Settling (withSemaphores t (served (t .tasks) (t .lines) (withSemaphore (t .semaphores) i COUNT n)))
+      → Settling (withSemaphores t (waitTables (t .tasks) (t .lines) (withSemaphore (t .semaphores) i COUNT n)))
   count-changes n h =
       let ss : List ℕ = t .semaphores in
       changes (withSemaphore ss i COUNT n) (length-withField 3 16 ss i 2 n)
@@ -100,11 +100,11 @@ module _ (t : Tables) (s : Settling t) (i : ℕ) (lt : i < semaphoreCount) where
       (field-same 3 16 ss i 2 n all lt (omega arith)) h)
 
 -- ---- the calls
-abbrev here : Tables → Served
-here t = served (t .tasks) (t .lines) (t .semaphores)
+abbrev here : Tables → WaitTables
+here t = waitTables (t .tasks) (t .lines) (t .semaphores)
 
 -- what is left is what dispatch starts from
-abbrev Leaves : Tables → After Served → Type 0
+abbrev Leaves : Tables → Effect WaitTables → Type 0
 Leaves t r = Settling (withSemaphores t (r .next))
 
 count-up-le : (kind n : ℕ) → n ≤ most kind → countUp kind n ≤ most kind
@@ -180,7 +180,7 @@ module _ (t : Tables) (typed : Typed t) (s : Sound t) where
   pend : (a b c d : ℕ) → b < wordEnd
       → Keeps (withSemaphores t)
       (called (pendCases (t .semaphores) (t .state) (context (t .lines) (t .state)) a b c d) (pendEffect (here t) (t .state) a b))
-  unfolding pendCases pendEffect waits
+  unfolding pendCases pendEffect pendWaits
   pend a b c d word z =
       let ok = accepted-is (pendCases (t .semaphores) (t .state) (context (t .lines) (t .state)) a b c d) z in
       let used : inUse t a ≢ 0 = eqb-false (inUse t a) 0 (object-used _ _ (ok .at3) (ok .at11)) in
@@ -194,18 +194,18 @@ module _ (t : Tables) (typed : Typed t) (s : Sound t) where
       let none : countOf t a ≡ 0 = omega (arith, ltb-false 0 (countOf t a) e) in
       chosen (Leaves t) (eqb b 0) _ _ (λ f. sound-settles t typed s)
       (λ f.
-      begins t typed s b (eqb-false b 0 f) (ok .at2) (waits (t .semaphores) a b) (rw (eq-eqb (countOf t a) 0 none, f)) (ok .at5) (ok .at9) _
+      begins t typed s b (eqb-false b 0 f) (ok .at2) (pendWaits (t .semaphores) a b) (rw (eq-eqb (countOf t a) 0 none, f)) (ok .at5) (ok .at9) _
       (λ i. at-semaphore-row _ (current (t .state)) (task (t .tasks) (current (t .state))) i (current-row t s) (current-used t s) a b word lt)
       (welcome a b used none) _))
 
   pub semaphores-keeps : (number a b c d : ℕ) → Words (asked number a b c d)
       → Keeps (withSemaphores t)
-      (semaphoreCall (served (t .tasks) (t .lines) (t .semaphores)) (t .state) (context (t .lines) (t .state)) number a b c d)
+      (semaphoreCall (waitTables (t .tasks) (t .lines) (t .semaphores)) (t .state) (context (t .lines) (t .state)) number a b c d)
   unfolding semaphoreCall
   semaphores-keeps number a b c d w =
       chosen-keeps (withSemaphores t) (eqb number 0x20) _ _ (create (context (t .lines) (t .state)) a b c d)
       (chosen-keeps (withSemaphores t) (eqb number 0x21) _ _ (delete (context (t .lines) (t .state)) a b c d)
-      (chosen-keeps (withSemaphores t) (eqb number 0x22) _ _ (pend a b c d (w .second))
+      (chosen-keeps (withSemaphores t) (eqb number 0x22) _ _ (pend a b c d (w .b))
       (chosen-keeps (withSemaphores t) (eqb number 0x23) _ _ (post a b c d)
       (chosen-keeps (withSemaphores t) (eqb number 0x24) _ _ (reset (context (t .lines) (t .state)) a b c d)
       (unknown-keeps (withSemaphores t) (here t))))))

@@ -14,12 +14,12 @@ use Rattle.basics.specs.Rule.{Means}
 use Rattle.basics.proofs.Laws.{count-without-other}
 use Rattle.basics.proofs.Finds.{all-at}
 use Rattle.rules.specs.Tables.{Typed, swiCount, swiWidth, clockCount, swi, withSwi, swiRow, clock, state, USED, PRIORITY, INITIAL, TRIGGER, POSTED, TAKEN, DEPTH}
-use Rattle.rules.specs.Lines.{anyone, line, left, postedLine, activeLine, swiHome}
+use Rattle.rules.specs.Lines.{anyone, line, outOf, postedLine, activeLine, swiHome}
 use Rattle.rules.specs.Answer.{T, S, I, CallRule, called, codeOf, asked, Words}
 use Rattle.rules.specs.Dispatch.{context}
 use Rattle.rules.specs.Sound.{Sound, swiRule, activeRule, clockRule}
 use Rattle.rules.specs.Step.{withPosts}
-use Rattle.rules.specs.Swis.{Posts, posts, top, isActive, isNamed, freeSwi, posted, triggered, oneUp, oneDown, cleared, createCases, createEffect, deleteCases, deleteEffect, postCases, maskCases, postEffect, changeEffect, zeroEffect, endCases, endEffect, takenCases, takenEffect, swiCall}
+use Rattle.rules.specs.Swis.{SwiQueues, swiQueues, top, isActive, isNamed, freeSwi, posted, triggered, oneUp, oneDown, cleared, createCases, createEffect, deleteCases, deleteEffect, postCases, maskCases, postEffect, changeEffect, zeroEffect, endCases, endEffect, takenCases, takenEffect, swiCall}
 use Rattle.rules.specs.declared.Tables.{Tables}
 use Rattle.rules_laws.proofs.Rows.{length-withRow, row-same, row-other}
 use Rattle.rules_laws.proofs.Lines.{length-left, left-same, left-other}
@@ -63,10 +63,10 @@ module _ (t : Tables) (a : Almost t) (i : ℕ) (r : List ℕ) (here : i < swiCou
   active-other : (x : ℕ) → 0 < count x (line (t .lines) activeLine) → x ≢ i
   active-other x h e = omega (arith, ap (λ (y : ℕ). count y (line (t .lines) activeLine)) e)
 
-  idle-row-keeps : Almost (withPosts t (posts (swiRow (t .swis) i r) (t .lines)))
+  idle-row-keeps : Almost (withPosts t (swiQueues (swiRow (t .swis) i r) (t .lines)))
   unfolding clockRule
   idle-row-keeps =
-      swi-almost t a i (posts (swiRow (t .swis) i r) (t .lines))
+      swi-almost t a i (swiQueues (swiRow (t .swis) i r) (t .lines))
       record {
         swisLength = length-withRow swiWidth swiCount (t .swis) i r ∙ a .typed .swis;
         linesLength = a .typed .lines;
@@ -93,7 +93,7 @@ module _ (t : Tables) (a : Almost t) (some : 0 < length (line (t .lines) activeL
   ws = withSwi (t .swis) i TAKEN 0
 
   ls : List ℕ
-  ls = left activeLine i (t .lines)
+  ls = outOf activeLine i (t .lines)
 
   same : (x f : ℕ) → f < TAKEN → swi ws x f ≡ swi (t .swis) x f
   unfolding ws
@@ -138,10 +138,10 @@ module _ (t : Tables) (a : Almost t) (some : 0 < length (line (t .lines) activeL
         λ k h. rw (same (getD ys k 0) PRIORITY (omega arith), same (getD ys (suc k) 0) PRIORITY (omega arith)) (r k h),
       )
 
-  ended : Almost (withPosts t (posts (withSwi (t .swis) (top (t .lines)) TAKEN 0) (left activeLine (top (t .lines)) (t .lines))))
+  ended : Almost (withPosts t (swiQueues (withSwi (t .swis) (top (t .lines)) TAKEN 0) (outOf activeLine (top (t .lines)) (t .lines))))
   unfolding i ws ls
   ended =
-      swi-almost t a i (posts ws ls)
+      swi-almost t a i (swiQueues ws ls)
       record {
         swisLength = length-swi (t .swis) i TAKEN 0 ∙ a .typed .swis;
         linesLength = length-left (t .lines) activeLine i ∙ a .typed .lines;
@@ -163,11 +163,11 @@ module _ (t : Tables) (typed : Typed t) (s : Sound t) where
   a0 : Almost t
   a0 = sound-almost t typed s
 
-  settles : (p : Posts) → Almost (withPosts t p) → Settling (withPosts t p)
+  settles : (p : SwiQueues) → Almost (withPosts t p) → Settling (withPosts t p)
   settles p a = record { almost = a; ranges = sound-ranges t s; current = inl (still-ready t s) }
 
   -- "10 create"
-  create-keeps : (x a b c d : ℕ) → Keeps (withPosts t) (called (createCases (t .swis) x a b c d) (createEffect (posts (t .swis) (t .lines)) a b))
+  create-keeps : (x a b c d : ℕ) → Keeps (withPosts t) (called (createCases (t .swis) x a b c d) (createEffect (swiQueues (t .swis) (t .lines)) a b))
   unfolding createCases createEffect freeSwi swiRule clockRule
   create-keeps x a b c d z =
       let ok = accepted-is (createCases (t .swis) x a b c d) z in
@@ -180,7 +180,7 @@ module _ (t : Tables) (typed : Typed t) (s : Sound t) where
       row-same swiWidth swiCount (t .swis) i r (omega (arith, typed .swis)) refl here in
       let none : 0 < count i (line (t .lines) activeLine) → ⊥ =
       λ h. omega (arith, free, active-used (t .swis) (t .lines) (s .swis) (s .active) i h) in
-      settles (posts (swiRow (t .swis) i r) (t .lines))
+      settles (swiQueues (swiRow (t .swis) i r) (t .lines))
       (idle-row-keeps t a0 i r here refl (s .swis i here .1 .0 free .1 .1 .1) refl (omega arith)
       (λ n h e d. omega (arith, free, rw d at (s .clocks n h .1 .1 e .0)))
       (rule-used (swiRow (t .swis) i r) (t .lines) i (at USED (omega arith)) (rw (at PRIORITY (omega arith)) low)
@@ -196,7 +196,7 @@ module _ (t : Tables) (typed : Typed t) (s : Sound t) where
       eqb-false _ _ (other-fails (eqb (clock (t .clocks) n .used) 1) _ (not-true _ g) (eq-eqb _ _ e))
 
   delete-keeps : (x a b c d : ℕ)
-      → Keeps (withPosts t) (called (deleteCases (t .swis) (t .lines) (t .clocks) x a b c d) (deleteEffect (posts (t .swis) (t .lines)) a))
+      → Keeps (withPosts t) (called (deleteCases (t .swis) (t .lines) (t .clocks) x a b c d) (deleteEffect (swiQueues (t .swis) (t .lines)) a))
   unfolding deleteCases deleteEffect isActive swiRule
   delete-keeps x a b c d z =
       let ok = accepted-is (deleteCases (t .swis) (t .lines) (t .clocks) x a b c d) z in
@@ -210,27 +210,27 @@ module _ (t : Tables) (typed : Typed t) (s : Sound t) where
       let u = at USED (omega arith) in
       let p = at PRIORITY (omega arith) in
       let o = at POSTED (omega arith) in
-      settles (posts (swiRow (t .swis) a r) (t .lines))
+      settles (swiQueues (swiRow (t .swis) a r) (t .lines))
       (idle-row-keeps t a0 a r here refl (eqb-true _ _ (not-false _ un)) refl (omega arith)
       (λ n h e. not-named a n h unnamed e)
       (omega arith, (λ e. (p, (at INITIAL (omega arith), (at TRIGGER (omega arith), o))), (omega arith, (omega arith, λ e. at TAKEN (omega arith))))))
 
   -- "12 post" to "16": a Swi in use
-  changed : (a : ℕ) → swi (t .swis) a USED ≢ 0 → (v : ℕ) → Almost (withPosts t (posted a (triggered a v (posts (t .swis) (t .lines)))))
+  changed : (a : ℕ) → swi (t .swis) a USED ≢ 0 → (v : ℕ) → Almost (withPosts t (posted a (triggered a v (swiQueues (t .swis) (t .lines)))))
   changed a used v =
-      posted-keeps (withPosts t (triggered a v (posts (t .swis) (t .lines)))) (triggered-keeps t a0 a used v) a
+      posted-keeps (withPosts t (triggered a v (swiQueues (t .swis) (t .lines)))) (triggered-keeps t a0 a used v) a
       (λ z. used (sym (swi-other (t .swis) a TRIGGER v a USED (λ e. omega arith)) ∙ z))
 
-  change-settles : (a : ℕ) → swi (t .swis) a USED ≢ 0 → (v : ℕ) → Settling (withPosts t (changeEffect (posts (t .swis) (t .lines)) a v .next))
+  change-settles : (a : ℕ) → swi (t .swis) a USED ≢ 0 → (v : ℕ) → Settling (withPosts t (changeEffect (swiQueues (t .swis) (t .lines)) a v .next))
   unfolding changeEffect
-  change-settles a used v = settles (posted a (triggered a v (posts (t .swis) (t .lines)))) (changed a used v)
+  change-settles a used v = settles (posted a (triggered a v (swiQueues (t .swis) (t .lines)))) (changed a used v)
 
-  zero-settles : (a : ℕ) → swi (t .swis) a USED ≢ 0 → (v : ℕ) → Settling (withPosts t (zeroEffect (posts (t .swis) (t .lines)) a v .next))
+  zero-settles : (a : ℕ) → swi (t .swis) a USED ≢ 0 → (v : ℕ) → Settling (withPosts t (zeroEffect (swiQueues (t .swis) (t .lines)) a v .next))
   unfolding zeroEffect
   zero-settles a used v =
-      chosen (λ (p : Posts). Settling (withPosts t p)) (eqb v 0) _ _
-      (λ e. settles (posted a (triggered a v (posts (t .swis) (t .lines)))) (changed a used v))
-      (λ e. settles (triggered a v (posts (t .swis) (t .lines))) (triggered-keeps t a0 a used v))
+      chosen (λ (p : SwiQueues). Settling (withPosts t p)) (eqb v 0) _ _
+      (λ e. settles (posted a (triggered a v (swiQueues (t .swis) (t .lines)))) (changed a used v))
+      (λ e. settles (triggered a v (swiQueues (t .swis) (t .lines))) (triggered-keeps t a0 a used v))
 
   post-used : (a b c d : ℕ) → codeOf (postCases (t .swis) a b c d) ≡ 0 → swi (t .swis) a USED ≢ 0
   unfolding postCases
@@ -240,31 +240,31 @@ module _ (t : Tables) (typed : Typed t) (s : Sound t) where
   unfolding maskCases
   mask-used a c d z = eqb-false _ _ (object-used _ _ (accepted-is (maskCases (t .swis) a c d) z .at3) (accepted-is (maskCases (t .swis) a c d) z .at11))
 
-  post-keeps : (a b c d : ℕ) → Keeps (withPosts t) (called (postCases (t .swis) a b c d) (postEffect (posts (t .swis) (t .lines)) a))
+  post-keeps : (a b c d : ℕ) → Keeps (withPosts t) (called (postCases (t .swis) a b c d) (postEffect (swiQueues (t .swis) (t .lines)) a))
   unfolding postEffect
   post-keeps a b c d z =
-      settles (posted a (posts (t .swis) (t .lines))) (posted-keeps t a0 a (post-used a b c d z))
+      settles (posted a (swiQueues (t .swis) (t .lines))) (posted-keeps t a0 a (post-used a b c d z))
 
   -- "17 end (S)", "18 taken trigger (S)"
   end-keeps : (a b c d : ℕ)
-      → Keeps (withPosts t) (called (endCases (t .state) (context (t .lines) (t .state)) a b c d) (endEffect (posts (t .swis) (t .lines))))
+      → Keeps (withPosts t) (called (endCases (t .state) (context (t .lines) (t .state)) a b c d) (endEffect (swiQueues (t .swis) (t .lines))))
   unfolding endCases endEffect
   end-keeps a b c d z =
       let ok = accepted-is (endCases (t .state) (context (t .lines) (t .state)) a b c d) z in
-      settles (posts (withSwi (t .swis) (top (t .lines)) TAKEN 0) (left activeLine (top (t .lines)) (t .lines)))
+      settles (swiQueues (withSwi (t .swis) (top (t .lines)) TAKEN 0) (outOf activeLine (top (t .lines)) (t .lines)))
       (ended t a0 (context-S (t .lines) (t .state) (eqb-true _ _ (not-false _ (ok .at2)))))
 
-  taken-keeps : (x a b c d : ℕ) → Keeps (withPosts t) (called (takenCases x a b c d) (takenEffect (posts (t .swis) (t .lines))))
+  taken-keeps : (x a b c d : ℕ) → Keeps (withPosts t) (called (takenCases x a b c d) (takenEffect (swiQueues (t .swis) (t .lines))))
   unfolding takenEffect
   taken-keeps x a b c d z = sound-settles t typed s
 
 pub swis-keeps : (t : Tables) → Typed t → Sound t → (number a b c d : ℕ) → Words (asked number a b c d)
-    → Keeps (withPosts t) (swiCall (posts (t .swis) (t .lines)) (t .clocks) (t .state) (context (t .lines) (t .state)) number a b c d)
+    → Keeps (withPosts t) (swiCall (swiQueues (t .swis) (t .lines)) (t .clocks) (t .state) (context (t .lines) (t .state)) number a b c d)
 unfolding swiCall
 swis-keeps t typed s number a b c d w =
     let x : ℕ = context (t .lines) (t .state) in
     let v : ℕ = swi (t .swis) a TRIGGER in
-    let choose : (b : Bool) (k l : CallRule Posts) → _ = chosen-keeps (withPosts t) in
+    let choose : (b : Bool) (k l : CallRule SwiQueues) → _ = chosen-keeps (withPosts t) in
     let post = post-used t typed s a b c d in
     let mask = mask-used t typed s a c d in
     choose (eqb number 0x10) _ _ (create-keeps t typed s x a b c d)
@@ -275,4 +275,4 @@ swis-keeps t typed s number a b c d w =
     (choose (eqb number 0x15) _ _ (λ z. change-settles t typed s a (mask z) (bitOr v b))
     (choose (eqb number 0x16) _ _ (λ z. zero-settles t typed s a (mask z) (cleared v b))
     (choose (eqb number 0x17) _ _ (end-keeps t typed s a b c d)
-    (choose (eqb number 0x18) _ _ (taken-keeps t typed s x a b c d) (unknown-keeps (withPosts t) (posts (t .swis) (t .lines)))))))))))
+    (choose (eqb number 0x18) _ _ (taken-keeps t typed s x a b c d) (unknown-keeps (withPosts t) (swiQueues (t .swis) (t .lines)))))))))))

@@ -16,7 +16,7 @@ use Rattle.rules.specs.Dispatch.{context}
 use Rattle.rules.specs.Sound.{Sound}
 use Rattle.rules.specs.Step.{withTicked}
 use Rattle.rules.specs.Switches.{swisBit, tasksBit, has, on, off, turned, offEffect, restoreEffect, inEffect, interruptCases, outEffect, offCall, restoreCall, inCall, outCall}
-use Rattle.rules.specs.Tick.{Ticked, tickedOf, clocksTicked, ticked, onState, switchCall}
+use Rattle.rules.specs.Tick.{TickTables, tickTables, clocksTicked, ticked, onState, switchCall}
 use Rattle.rules.specs.declared.Tables.{Tables}
 use Rattle.rules_laws.proofs.Calls.{chosen}
 use Rattle.rules_laws.proofs.Levels.{word-stays, levels-same}
@@ -126,7 +126,7 @@ module _ (t : Tables) (typed : Typed t) (s : Sound t) where
       fits-settles (word-fits _ _ unchanged DEPTH _ (omega arith) (λ _. omega arith) (λ q. absurd (omega arith)) (λ q. absurd (omega arith)))
 
   -- the tick: the count, the clocks, then the tasks
-  tick-settles : Settling (withTicked t (ticked (tickedOf (t .tasks) (t .lines) (t .swis) (t .clocks) (t .state))))
+  tick-settles : Settling (withTicked t (ticked (tickTables (t .tasks) (t .lines) (t .swis) (t .clocks) (t .state))))
   unfolding ticked
   tick-settles =
       let u = withClocked t (clocksTicked (t .clocks) (t .swis) (t .lines)) in
@@ -139,8 +139,8 @@ module _ (t : Tables) (typed : Typed t) (s : Sound t) where
         current = inl (rw (h .same) r);
       }
 
-  abbrev all : Ticked
-  all = tickedOf (t .tasks) (t .lines) (t .swis) (t .clocks) (t .state)
+  abbrev all : TickTables
+  all = tickTables (t .tasks) (t .lines) (t .swis) (t .clocks) (t .state)
 
   -- calls whose effect leaves such tables
   state-kept : (k : CallRule StateRow) → Settling (withStated t (k .effect .next)) → Kept (withTicked t) (onState all k)
@@ -150,7 +150,7 @@ module _ (t : Tables) (typed : Typed t) (s : Sound t) where
   tick-kept c = kept (withTicked t) (called c (accepted done 0 (ticked all))) (λ _. tick-settles)
 
 pub switches-keeps : (t : Tables) → Typed t → Sound t → (number a b c d : ℕ) → Words (asked number a b c d)
-    → Keeps (withTicked t) (switchCall (tickedOf (t .tasks) (t .lines) (t .swis) (t .clocks) (t .state)) (context (t .lines) (t .state)) number a b c d)
+    → Keeps (withTicked t) (switchCall (tickTables (t .tasks) (t .lines) (t .swis) (t .clocks) (t .state)) (context (t .lines) (t .state)) number a b c d)
 unfolding switchCall
 switches-keeps t typed s number a b c d w =
     let x = context (t .lines) (t .state) in

@@ -9,9 +9,9 @@ use borrow.Author.Tests.{eqb-true, eqb-false, eq-eqb, ne-eqb, lt-ltb, ltb-true, 
 use lib.Dec.{eqb, ltb, leb}
 use Rattle.basics.specs.Rule.{Means}
 use Rattle.basics.proofs.Laws.{same?, lt-or-le}
-use Rattle.rules.specs.Answer.{After, called, asked, Words}
+use Rattle.rules.specs.Answer.{Effect, called, asked, Words}
 use Rattle.rules.specs.Tables.{Typed, taskCount, levels, minusOne, forever, wordEnd, notInUse, ready, sleeping, writing, terminated, inactive, task, withTask, noTask, state, current, CURRENT}
-use Rattle.rules.specs.Lines.{lineCount, Queued, homeBy, queued, moved, atBack}
+use Rattle.rules.specs.Lines.{lineCount, TaskQueues, homeBy, taskQueues, moved, atBack}
 use Rattle.rules.specs.Waits.{waiting}
 use Rattle.rules.specs.Dispatch.{context}
 use Rattle.rules.specs.Sound.{Sound, noWait, taskRule}
@@ -106,7 +106,7 @@ module _ (t : Tables) (typed : Typed t) (s : Sound t) where
   not-current : (i : ℕ) → task (t .tasks) i .mode ≢ ready → state (t .state) CURRENT ≢ i
   not-current i n e = n (ap (λ (x : ℕ). task (t .tasks) x .mode) (sym e) ∙ still-ready t s)
 
-  create-keeps : (x a b c d : ℕ) → Keeps (withQueued t) (called (createCases (t .tasks) (t .state) x a b c d) (createEffect (queued (t .tasks) (t .lines)) a))
+  create-keeps : (x a b c d : ℕ) → Keeps (withQueued t) (called (createCases (t .tasks) (t .state) x a b c d) (createEffect (taskQueues (t .tasks) (t .lines)) a))
   unfolding createCases createEffect freeTask
   create-keeps x a b c d z =
       let ok = accepted-is (createCases (t .tasks) (t .state) x a b c d) z in
@@ -124,7 +124,7 @@ module _ (t : Tables) (typed : Typed t) (s : Sound t) where
             inl (ap (λ (k : Task). k .mode) (moved-rows t almost atBack i (placedAt noTask a) lt row _ (not-current i rest)) ∙ still-ready t s);
       }
 
-  delete-keeps : (x a b c d : ℕ) → Keeps (withQueued t) (called (deleteCases (t .tasks) x a b c d) (deleteEffect (queued (t .tasks) (t .lines)) a))
+  delete-keeps : (x a b c d : ℕ) → Keeps (withQueued t) (called (deleteCases (t .tasks) x a b c d) (deleteEffect (taskQueues (t .tasks) (t .lines)) a))
   unfolding deleteCases deleteEffect homeBy
   delete-keeps x a b c d z =
       let ok = accepted-is (deleteCases (t .tasks) x a b c d) z in
@@ -145,7 +145,7 @@ module _ (t : Tables) (typed : Typed t) (s : Sound t) where
 
   -- a blocked task keeps its place in line
   blocked-settles : (a p : ℕ) → a < taskCount → a ≢ 0 → blocked (task (t .tasks) a .mode) ≡ true → (0 < p) × (p < levels (t .state))
-      → Settling (withQueued t (queued (withTask (t .tasks) a (withPriority (task (t .tasks) a) p)) (t .lines)))
+      → Settling (withQueued t (taskQueues (withTask (t .tasks) a (withPriority (task (t .tasks) a) p)) (t .lines)))
   blocked-settles a p lt n e level =
       let k = task (t .tasks) a in
       let (low, high) = is-blocked (k .mode) e in
@@ -163,7 +163,7 @@ module _ (t : Tables) (typed : Typed t) (s : Sound t) where
   -- a ready or inactive task joins the new queue at the back; the current one stays ready
   placed-settles : (a p : ℕ) → a < taskCount → a ≢ 0 → (task (t .tasks) a .mode ≡ ready) ⊎ (task (t .tasks) a .mode ≡ inactive) → Priority (t .state) p
       → (state (t .state) CURRENT ≡ a → p ≢ minusOne)
-      → Settling (withQueued t (moved atBack a (placedAt (task (t .tasks) a) p) (queued (t .tasks) (t .lines))))
+      → Settling (withQueued t (moved atBack a (placedAt (task (t .tasks) a) p) (taskQueues (t .tasks) (t .lines))))
   placed-settles a p lt n which level stays =
       let k = task (t .tasks) a in
       let r = row-other _ a k n (s .tasks a lt) in
@@ -184,7 +184,7 @@ module _ (t : Tables) (typed : Typed t) (s : Sound t) where
       }
 
   set-priority-keeps : (x a b c d : ℕ)
-      → Keeps (withQueued t) (called (setPriorityCases (t .tasks) (t .state) x a b c d) (setPriorityEffect (queued (t .tasks) (t .lines)) a b))
+      → Keeps (withQueued t) (called (setPriorityCases (t .tasks) (t .state) x a b c d) (setPriorityEffect (taskQueues (t .tasks) (t .lines)) a b))
   unfolding setPriorityCases setPriorityEffect reprioritized
   set-priority-keeps x a b c d z =
       let ok = accepted-is (setPriorityCases (t .tasks) (t .state) x a b c d) z in
@@ -196,10 +196,10 @@ module _ (t : Tables) (typed : Typed t) (s : Sound t) where
       let n : a ≢ 0 = eqb-false a 0 (neither (eqb a 0) (eqb m terminated) other .0) in
       let runs : m ≢ terminated = eqb-false m terminated (neither (eqb a 0) (eqb m terminated) other .1) in
       let lowest : b ≡ minusOne → (eqb a (current (t .state)) || blocked m) ≡ false = λ e. other-fails _ _ last (eq-eqb b minusOne e) in
-      chosen (λ (q : Queued). Settling (withQueued t q)) (eqb b (task (t .tasks) a .priority)) _ _
+      chosen (λ (q : TaskQueues). Settling (withQueued t q)) (eqb b (task (t .tasks) a .priority)) _ _
       (λ _. sound-settles t typed s)
       (λ _.
-      chosen (λ (q : Queued). Settling (withQueued t q)) (blocked m) _ _
+      chosen (λ (q : TaskQueues). Settling (withQueued t q)) (blocked m) _ _
       (λ e.
       blocked-settles a b lt n e
       (⊎-elim (λ (q : b ≡ minusOne). absurd (true≢false (sym e ∙ neither (eqb a (current (t .state))) (blocked m) (lowest q) .1))) (λ (r : (0 < b) × (b < levels (t .state))). r) level))
@@ -207,7 +207,7 @@ module _ (t : Tables) (typed : Typed t) (s : Sound t) where
       placed-settles a b lt n (ready-or-inactive m e used runs (row-other _ a _ n (s .tasks a lt) .range)) level
       (λ q l. eqb-false a (current (t .state)) (neither (eqb a (current (t .state))) (blocked m) (lowest l) .0) (sym (current-is t s ∙ q)))))
 
-  yield-keeps : (x a b c d : ℕ) → Keeps (withQueued t) (called (yieldCases (t .state) x a b c d) (yieldEffect (queued (t .tasks) (t .lines)) (t .state)))
+  yield-keeps : (x a b c d : ℕ) → Keeps (withQueued t) (called (yieldCases (t .state) x a b c d) (yieldEffect (taskQueues (t .tasks) (t .lines)) (t .state)))
   unfolding yieldEffect
   yield-keeps x a b c d z =
       let almost = sound-almost t typed s in
@@ -221,7 +221,7 @@ module _ (t : Tables) (typed : Typed t) (s : Sound t) where
 
   end-keeps : (a b c d : ℕ)
       → Keeps (withQueued t)
-      (called (endCases (t .state) (context (t .lines) (t .state)) a b c d) (endEffect (queued (t .tasks) (t .lines)) (t .state)))
+      (called (endCases (t .state) (context (t .lines) (t .state)) a b c d) (endEffect (taskQueues (t .tasks) (t .lines)) (t .state)))
   unfolding endCases endEffect
   end-keeps a b c d z =
       let ok = accepted-is (endCases (t .state) (context (t .lines) (t .state)) a b c d) z in
@@ -233,13 +233,13 @@ module _ (t : Tables) (typed : Typed t) (s : Sound t) where
 
   sleep-keeps : (a b c d : ℕ) → a < wordEnd
       → Keeps (withQueued t)
-      (called (sleepCases (t .state) (context (t .lines) (t .state)) a b c d) (sleepEffect (queued (t .tasks) (t .lines)) (t .state) a))
+      (called (sleepCases (t .state) (context (t .lines) (t .state)) a b c d) (sleepEffect (taskQueues (t .tasks) (t .lines)) (t .state) a))
   unfolding sleepCases sleepEffect
   sleep-keeps a b c d word z =
       let ok = accepted-is (sleepCases (t .state) (context (t .lines) (t .state)) a b c d) z in
       let i = current (t .state) in
       let k = task (t .tasks) i in
-      chosen (λ (e : After Queued). Settling (withQueued t (e .next))) (eqb a 0) _ _
+      chosen (λ (e : Effect TaskQueues). Settling (withQueued t (e .next))) (eqb a 0) _ _
       (λ _. sound-settles t typed s)
       (λ e.
       let some : ltb 0 a ≡ true = lt-ltb 0 a (omega (arith, eqb-false a 0 e)) in
@@ -248,12 +248,12 @@ module _ (t : Tables) (typed : Typed t) (s : Sound t) where
       waits-settle t typed s (eqb-true _ _ (not-false _ (ok .at2))) (rw some at (ok .at9)) (waiting k sleeping 0 a 0 0)
       (sleeping-row _ i k n (current-row t s) (current-used t s) a (eqb-false a 0 e) (omega arith)) (welcome-none t i (waiting k sleeping 0 a 0 0) (inl (omega arith))) atBack)
 
-  last-result-keeps : (a b c d : ℕ) → Keeps (withQueued t) (called (lastResultCases (t .tasks) a b c d) (lastResultEffect (queued (t .tasks) (t .lines)) a))
+  last-result-keeps : (a b c d : ℕ) → Keeps (withQueued t) (called (lastResultCases (t .tasks) a b c d) (lastResultEffect (taskQueues (t .tasks) (t .lines)) a))
   unfolding lastResultEffect
   last-result-keeps a b c d z = sound-settles t typed s
 
 pub tasks-keeps : (t : Tables) → Typed t → Sound t → (number a b c d : ℕ) → Words (asked number a b c d)
-    → Keeps (withQueued t) (taskCall (queued (t .tasks) (t .lines)) (t .state) (context (t .lines) (t .state)) number a b c d)
+    → Keeps (withQueued t) (taskCall (taskQueues (t .tasks) (t .lines)) (t .state) (context (t .lines) (t .state)) number a b c d)
 unfolding taskCall
 tasks-keeps t typed s number a b c d w =
     chosen-keeps (withQueued t) (eqb number 0x00) _ _ (create-keeps t typed s _ a b c d)
@@ -261,5 +261,5 @@ tasks-keeps t typed s number a b c d w =
     (chosen-keeps (withQueued t) (eqb number 0x02) _ _ (set-priority-keeps t typed s _ a b c d)
     (chosen-keeps (withQueued t) (eqb number 0x03) _ _ (yield-keeps t typed s _ a b c d)
     (chosen-keeps (withQueued t) (eqb number 0x04) _ _ (end-keeps t typed s a b c d)
-    (chosen-keeps (withQueued t) (eqb number 0x05) _ _ (sleep-keeps t typed s a b c d (w .first))
+    (chosen-keeps (withQueued t) (eqb number 0x05) _ _ (sleep-keeps t typed s a b c d (w .a))
     (chosen-keeps (withQueued t) (eqb number 0x06) _ _ (last-result-keeps t typed s a b c d) (unknown-keeps (withQueued t) _)))))))

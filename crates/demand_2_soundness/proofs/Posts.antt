@@ -12,7 +12,7 @@ use Rattle.basics.specs.Rule.{Means}
 use Rattle.basics.proofs.Laws.{same?, count-putAt}
 use Rattle.rules.specs.Tables.{swiCount, swi, withSwi, PRIORITY, TRIGGER, POSTED, TAKEN, USED}
 use Rattle.rules.specs.Lines.{line, joined, atBack, postedLine, activeLine, swiHome}
-use Rattle.rules.specs.Swis.{posts, posted, triggered}
+use Rattle.rules.specs.Swis.{swiQueues, posted, triggered}
 use Rattle.rules.specs.Sound.{swiRule}
 use Rattle.rules.specs.Step.{withPosts}
 use Rattle.rules.specs.declared.Tables.{Tables}
@@ -33,12 +33,12 @@ module _ (t : Tables) (a : Almost t) (i : ℕ) (used : swi (t .swis) i USED ≢ 
   used-is = used-one (t .swis) (t .lines) (a .swis) i used
 
   -- ---- not yet posted: it joins its priority's queue
-  posted-new : swi (t .swis) i POSTED ≡ 0 → posted i (posts (t .swis) (t .lines))
-      ≡ posts (withSwi (t .swis) i POSTED 1) (joined (postedLine (swi (t .swis) i PRIORITY)) i (t .lines))
+  posted-new : swi (t .swis) i POSTED ≡ 0 → posted i (swiQueues (t .swis) (t .lines))
+      ≡ swiQueues (withSwi (t .swis) i POSTED 1) (joined (postedLine (swi (t .swis) i PRIORITY)) i (t .lines))
   unfolding posted
   posted-new un = rw (lt-ltb i swiCount here, eq-eqb (swi (t .swis) i POSTED) 0 un)
 
-  posted-old : swi (t .swis) i POSTED ≢ 0 → posted i (posts (t .swis) (t .lines)) ≡ posts (t .swis) (t .lines)
+  posted-old : swi (t .swis) i POSTED ≢ 0 → posted i (swiQueues (t .swis) (t .lines)) ≡ swiQueues (t .swis) (t .lines)
   unfolding posted
   posted-old n = rw (lt-ltb i swiCount here, ne-eqb (swi (t .swis) i POSTED) 0 n)
 
@@ -105,7 +105,7 @@ module _ (t : Tables) (a : Almost t) (i : ℕ) (used : swi (t .swis) i USED ≢ 
       rule-used ws ls i (same i USED (λ e. omega arith) ∙ used-is) (rw (same i PRIORITY (λ e. omega arith)) low) (omega (arith, now))
       (λ z. same i TAKEN (λ e. omega arith) ∙ a .swis i here .1 .1 .1 .1 (ap (count i) (sym active-stays) ∙ z))
 
-  changed : swi (t .swis) i POSTED ≡ 0 → SwiChanged t i (posts ws ls)
+  changed : swi (t .swis) i POSTED ≡ 0 → SwiChanged t i (swiQueues ws ls)
   unfolding ws ls
   changed un =
       let h = low in
@@ -126,10 +126,10 @@ module _ (t : Tables) (a : Almost t) (i : ℕ) (used : swi (t .swis) i USED ≢ 
             (a .active);
       }
 
-  pub posted-keeps : Almost (withPosts t (posted i (posts (t .swis) (t .lines))))
+  pub posted-keeps : Almost (withPosts t (posted i (swiQueues (t .swis) (t .lines))))
   unfolding p ws ls
   posted-keeps =
-      ⊎-elim (λ un. rw (posted-new un) (swi-almost t a i (posts ws ls) (changed un))) (λ n. rw (posted-old n) a) (same? (swi (t .swis) i POSTED) 0)
+      ⊎-elim (λ un. rw (posted-new un) (swi-almost t a i (swiQueues ws ls) (changed un))) (λ n. rw (posted-old n) a) (same? (swi (t .swis) i POSTED) 0)
 
   -- ---- its trigger alone
   module _ (v : ℕ) where
@@ -148,10 +148,10 @@ module _ (t : Tables) (a : Almost t) (i : ℕ) (used : swi (t .swis) i USED ≢ 
         (rw (stays i POSTED (λ e. omega arith)) o)
         (λ z. stays i TAKEN (λ e. omega arith) ∙ c z)
 
-    pub triggered-keeps : Almost (withPosts t (triggered i v (posts (t .swis) (t .lines))))
+    pub triggered-keeps : Almost (withPosts t (triggered i v (swiQueues (t .swis) (t .lines))))
     unfolding vs
     triggered-keeps =
-        swi-almost t a i (posts vs (t .lines))
+        swi-almost t a i (swiQueues vs (t .lines))
         record {
           swisLength = length-swi (t .swis) i TRIGGER v ∙ a .typed .swis;
           linesLength = a .typed .lines;

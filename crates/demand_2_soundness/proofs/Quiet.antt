@@ -7,10 +7,10 @@ use native.Mathlib.Omega.{arith}
 use borrow.Author.Tests.{eqb-true, eqb-false, ne-eqb}
 use lib.Dec.{eqb, ltb}
 use Rattle.basics.specs.Rule.{Means}
-use Rattle.rules.specs.Answer.{Cases, After, accepted, CallRule, called, codeOf, done, notMet, nowWaiting}
+use Rattle.rules.specs.Answer.{Cases, Effect, accepted, CallRule, called, codeOf, done, notMet, nowWaiting}
 use Rattle.rules.specs.Tables.{noTask, reading, writing, semaphore, event, mailbox, current, USED, COUNT, BITS, CAPACITY, MESSAGES, levels}
-use Rattle.rules.specs.Lines.{semaphoreLine, mailboxLine, eventLine, postedLine, line, anyone, first, homeBy, Queued, atBack}
-use Rattle.rules.specs.Waits.{Served, served, queue, wakesFirst}
+use Rattle.rules.specs.Lines.{semaphoreLine, mailboxLine, eventLine, postedLine, line, anyone, frontOf, homeBy, TaskQueues, atBack}
+use Rattle.rules.specs.Waits.{WaitTables, waitTables, queuesOf, wakesFirst}
 use Rattle.rules.specs.Sound.{tasksRule}
 use Rattle.rules.specs.Tasks as Tasks
 use Rattle.rules.specs.Semaphores as Semaphores
@@ -26,7 +26,7 @@ use Rattle.demand_2_soundness.proofs.Aside.{home-aside, moved-aside, wa
 
 -- ---- what an accepted call leaves: the lines of Swis as they were, and all lines as they were where `moves` says of its outcome and value that
 -- nobody has moved
-pub record Leaves {A : Type 0} (linesOf : A → List ℕ) (ls : List ℕ) (moves : ℕ → ℕ → Bool) (e : After A) : Type 0 where
+pub record Leaves {A : Type 0} (linesOf : A → List ℕ) (ls : List ℕ) (moves : ℕ → ℕ → Bool) (e : Effect A) : Type 0 where
   pub swis : SwisStay ls (linesOf (e .next))
   pub none : moves (e .answer .outcome) (e .answer .value) ≡ false → linesOf (e .next) ≡ ls
 
@@ -41,11 +41,11 @@ module _ {A : Type 0} {linesOf : A → List ℕ} {ls : List ℕ} {moves : ℕ �
   goes : {o v : ℕ} {x : A} → moves o v ≡ true → SwisStay ls (linesOf x) → Leaves linesOf ls moves (accepted o v x)
   goes m aside = record { swis = aside; none = λ n. absurd (true≢false (sym m ∙ n)) }
 
-  tested : (b : Bool) {x y : After A} → Leaves linesOf ls moves x → Leaves linesOf ls moves y → Leaves linesOf ls moves (if b x y)
-  tested b {x} {y} p q = chosen (λ (e : After A). Leaves linesOf ls moves e) b x y (λ _. p) (λ _. q)
+  tested : (b : Bool) {x y : Effect A} → Leaves linesOf ls moves x → Leaves linesOf ls moves y → Leaves linesOf ls moves (if b x y)
+  tested b {x} {y} p q = chosen (λ (e : Effect A). Leaves linesOf ls moves e) b x y (λ _. p) (λ _. q)
 
   -- a call, one that leaves all lines as they are, and a choice of calls
-  does : {c : Cases} {e : After A} → (codeOf c ≡ 0 → Leaves linesOf ls moves e) → Quiet linesOf ls moves (called c e)
+  does : {c : Cases} {e : Effect A} → (codeOf c ≡ 0 → Leaves linesOf ls moves e) → Quiet linesOf ls moves (called c e)
   does p = record { leaves = p }
 
   same : {c : Cases} {o v : ℕ} {x : A} → linesOf x ≡ ls → Quiet linesOf ls moves (called c (accepted o v x))
@@ -58,8 +58,8 @@ module _ {A : Type 0} {linesOf : A → List ℕ} {ls : List ℕ} {moves : ℕ �
 abbrev pub taskMoves : ℕ → ℕ → ℕ → Bool
 taskMoves number o v = not (eqb number 0x01) && not (eqb number 0x06)
 
-module _ (q : Queued) (sx : List ℕ) (rows : Means (tasksRule (levels sx) (q .tasks))) (st : List ℕ) (x number a b c d : ℕ) where
-  pub tasks-quiet : Quiet (λ (y : Queued). y .lines) (q .lines) (taskMoves number) (Tasks.taskCall q st x number a b c d)
+module _ (q : TaskQueues) (sx : List ℕ) (rows : Means (tasksRule (levels sx) (q .tasks))) (st : List ℕ) (x number a b c d : ℕ) where
+  pub tasks-quiet : Quiet (λ (y : TaskQueues). y .lines) (q .lines) (taskMoves number) (Tasks.taskCall q st x number a b c d)
   unfolding Tasks.taskCall Tasks.createEffect Tasks.deleteEffect Tasks.setPriorityEffect Tasks.yieldEffect Tasks.endEffect Tasks.sleepEffect Tasks.lastResultEffect homeBy
   tasks-quiet =
       numbered (eqb number 0x00) (λ e. does (λ _. goes (rw (eqb-true number 0x00 e)) (placed-aside q sx rows _ noTask a)))
@@ -77,20 +77,20 @@ module _ (q : Queued) (sx : List ℕ) (rows : Means (tasksRule (levels sx) (q .t
       (numbered (eqb number 0x06) (λ _. same refl) (same refl)))))))
 
 -- ---- a post at any of the three kinds: it wakes the first in line, who is not task 0, so its value says that a task has moved
-module _ (q : Served) (sx : List ℕ) (rows : Means (tasksRule (levels sx) (q .tasks))) (never : NeverWaits 0 (q .lines)) where
+module _ (q : WaitTables) (sx : List ℕ) (rows : Means (tasksRule (levels sx) (q .tasks))) (never : NeverWaits 0 (q .lines)) where
   wakes-one : {moves : ℕ → ℕ → Bool} (j v : ℕ) (os : List ℕ) → ((i : ℕ) → eqb i 0 ≡ false → moves done i ≡ true)
       → j < postedLine 0 → anyone (q .lines) j ≡ true
-      → Leaves (λ (y : Served). y .lines) (q .lines) moves (wakesFirst j v (served (q .tasks) (q .lines) os))
+      → Leaves (λ (y : WaitTables). y .lines) (q .lines) moves (wakesFirst j v (waitTables (q .tasks) (q .lines) os))
   wakes-one j v os says waiters some =
-      goes (says _ (ne-eqb (first (q .lines) j) 0 (first-not 0 (q .lines) never j waiters some))) (woken-aside (queue q) sx rows _ done v)
+      goes (says _ (ne-eqb (frontOf (q .lines) j) 0 (first-not 0 (q .lines) never j waiters some))) (woken-aside (queuesOf q) sx rows _ done v)
 
 -- ---- semaphores and events: only a wait that begins, and a post with a wake, move a task (`dispatch_after/specs/Settle` says it of the code's answer)
 abbrev pub waitsOrWakes : ℕ → ℕ → ℕ → ℕ → Bool
 waitsOrWakes post number o v = eqb o nowWaiting || (eqb number post && not (eqb v 0))
 
-module _ (q : Served) (sx : List ℕ) (rows : Means (tasksRule (levels sx) (q .tasks))) (never : NeverWaits 0 (q .lines)) (st : List ℕ) (x number a b c d : ℕ) where
-  abbrev LeavesBy : ℕ → After Served → Type 0
-  LeavesBy post e = Leaves (λ (y : Served). y .lines) (q .lines) (waitsOrWakes post number) e
+module _ (q : WaitTables) (sx : List ℕ) (rows : Means (tasksRule (levels sx) (q .tasks))) (never : NeverWaits 0 (q .lines)) (st : List ℕ) (x number a b c d : ℕ) where
+  abbrev LeavesBy : ℕ → Effect WaitTables → Type 0
+  LeavesBy post e = Leaves (λ (y : WaitTables). y .lines) (q .lines) (waitsOrWakes post number) e
 
   pend-leaves : codeOf (Semaphores.pendCases (q .objects) st x a b c d) ≡ 0 → LeavesBy 0x23 (Semaphores.pendEffect q st a b)
   unfolding Semaphores.pendCases Semaphores.pendEffect homeBy
@@ -98,7 +98,7 @@ module _ (q : Served) (sx : List ℕ) (rows : Means (tasksRule (levels sx) (q .t
       let ok = accepted-is (Semaphores.pendCases (q .objects) st x a b c d) z in
       let lt : a < 16 = row-used 3 16 (q .objects) a 0 (eqb-false (semaphore (q .objects) a USED) 0 (object-used _ _ (ok .at3) (ok .at11))) in
       tested (ltb 0 (semaphore (q .objects) a COUNT)) (stays refl)
-      (tested (eqb b 0) (stays refl) (goes refl (waits-aside (queue q) sx rows _ (current st) _ (omega arith))))
+      (tested (eqb b 0) (stays refl) (goes refl (waits-aside (queuesOf q) sx rows _ (current st) _ (omega arith))))
 
   post-leaves : eqb number 0x23 ≡ true → codeOf (Semaphores.postCases (q .objects) a b c d) ≡ 0 → LeavesBy 0x23 (Semaphores.postEffect q a)
   unfolding Semaphores.postCases Semaphores.postEffect
@@ -109,7 +109,7 @@ module _ (q : Served) (sx : List ℕ) (rows : Means (tasksRule (levels sx) (q .t
       (wakes-one q sx rows never (semaphoreLine a) 0 (q .objects) (λ i n. rw (e, n)) (omega arith))
       (λ _. stays refl)
 
-  pub semaphores-quiet : Quiet (λ (y : Served). y .lines) (q .lines) (waitsOrWakes 0x23 number) (Semaphores.semaphoreCall q st x number a b c d)
+  pub semaphores-quiet : Quiet (λ (y : WaitTables). y .lines) (q .lines) (waitsOrWakes 0x23 number) (Semaphores.semaphoreCall q st x number a b c d)
   unfolding Semaphores.semaphoreCall Semaphores.createEffect Semaphores.deleteEffect Semaphores.resetEffect
   semaphores-quiet =
       numbered (eqb number 0x20) (λ _. same refl)
@@ -124,7 +124,7 @@ module _ (q : Served) (sx : List ℕ) (rows : Means (tasksRule (levels sx) (q .t
       let ok = accepted-is (Events.pendCases (q .lines) (q .objects) st x a b c d) z in
       let lt : a < 8 = row-used 2 8 (q .objects) a 0 (eqb-false (event (q .objects) a USED) 0 (object-used _ _ (ok .at3) (ok .at11))) in
       tested (eqb (Events.matched (event (q .objects) a BITS) b c) 0)
-      (tested (eqb d 0) (stays refl) (goes refl (waits-aside (queue q) sx rows _ (current st) _ (omega arith))))
+      (tested (eqb d 0) (stays refl) (goes refl (waits-aside (queuesOf q) sx rows _ (current st) _ (omega arith))))
       (stays refl)
 
   event-post-leaves : (bits : ℕ) → eqb number 0x33 ≡ true → codeOf (Events.postCases (q .objects) a c d) ≡ 0 → LeavesBy 0x33 (Events.postedBits q a bits)
@@ -136,7 +136,7 @@ module _ (q : Served) (sx : List ℕ) (rows : Means (tasksRule (levels sx) (q .t
       (λ _. stays refl)
       (λ m. wakes-one q sx rows never (eventLine a) _ _ (λ i n. rw (e, n)) (omega arith) (match-waits (q .tasks) (q .lines) a bits m))
 
-  pub events-quiet : Quiet (λ (y : Served). y .lines) (q .lines) (waitsOrWakes 0x33 number) (Events.eventCall q st x number a b c d)
+  pub events-quiet : Quiet (λ (y : WaitTables). y .lines) (q .lines) (waitsOrWakes 0x33 number) (Events.eventCall q st x number a b c d)
   unfolding Events.eventCall Events.createEffect Events.deleteEffect
   events-quiet =
       numbered (eqb number 0x30) (λ _. same refl)
@@ -148,9 +148,9 @@ module _ (q : Served) (sx : List ℕ) (rows : Means (tasksRule (levels sx) (q .t
 abbrev pub mailboxMoves : ℕ → ℕ → ℕ → Bool
 mailboxMoves number o v = if (eqb number 0x42) (eqb o nowWaiting || not (eqb v 0)) (eqb number 0x43 && not (eqb o notMet))
 
-module _ (q : Served) (sx : List ℕ) (rows : Means (tasksRule (levels sx) (q .tasks))) (never : NeverWaits 0 (q .lines)) (st : List ℕ) (x number a b c d : ℕ) where
-  abbrev LeavesMailbox : After Served → Type 0
-  LeavesMailbox e = Leaves (λ (y : Served). y .lines) (q .lines) (mailboxMoves number) e
+module _ (q : WaitTables) (sx : List ℕ) (rows : Means (tasksRule (levels sx) (q .tasks))) (never : NeverWaits 0 (q .lines)) (st : List ℕ) (x number a b c d : ℕ) where
+  abbrev LeavesMailbox : Effect WaitTables → Type 0
+  LeavesMailbox e = Leaves (λ (y : WaitTables). y .lines) (q .lines) (mailboxMoves number) e
 
   mailbox-post-leaves : eqb number 0x42 ≡ true → codeOf (Mailboxes.postCases (q .tasks) (q .lines) (q .objects) st x a c d) ≡ 0
       → LeavesMailbox (Mailboxes.postEffect q st a b c)
@@ -162,14 +162,14 @@ module _ (q : Served) (sx : List ℕ) (rows : Means (tasksRule (levels sx) (q .t
       (λ w. wakes-one q sx rows never (mailboxLine a) b (q .objects) (λ i n. rw (e, n)) (omega arith) (first-waits (q .tasks) (q .lines) a reading w))
       (λ _.
       tested (Mailboxes.isFull (q .objects) a)
-      (tested (eqb c 0) (stays refl) (goes (rw e) (waits-aside (queue q) sx rows _ (current st) _ (omega arith))))
+      (tested (eqb c 0) (stays refl) (goes (rw e) (waits-aside (queuesOf q) sx rows _ (current st) _ (omega arith))))
       (stays refl))
 
   taken-aside : SwisStay (q .lines) (Mailboxes.oldestTaken q a .lines)
   unfolding Mailboxes.oldestTaken
   taken-aside j low high =
-      chosen (λ (y : Served). line (y .lines) j ≡ line (q .lines) j) (Mailboxes.waitsFirst (q .tasks) (q .lines) a writing) _ _
-      (λ _. woken-aside (queue q) sx rows _ 0 0 j low high) (λ _. refl)
+      chosen (λ (y : WaitTables). line (y .lines) j ≡ line (q .lines) j) (Mailboxes.waitsFirst (q .tasks) (q .lines) a writing) _ _
+      (λ _. woken-aside (queuesOf q) sx rows _ 0 0 j low high) (λ _. refl)
 
   mailbox-pend-leaves : eqb number 0x43 ≡ true → codeOf (Mailboxes.pendCases (q .objects) st x a b c d) ≡ 0
       → LeavesMailbox (Mailboxes.pendEffect q st a b)
@@ -178,10 +178,10 @@ module _ (q : Served) (sx : List ℕ) (rows : Means (tasksRule (levels sx) (q .t
       let ok = accepted-is (Mailboxes.pendCases (q .objects) st x a b c d) z in
       let lt : a < 8 = row-used 10 8 (q .objects) a 0 (eqb-false (mailbox (q .objects) a CAPACITY) 0 (object-used _ _ (ok .at3) (ok .at11))) in
       tested (eqb (mailbox (q .objects) a MESSAGES) 0)
-      (tested (eqb b 0) (stays refl) (goes (rw (eqb-true number 0x43 e)) (waits-aside (queue q) sx rows _ (current st) _ (omega arith))))
+      (tested (eqb b 0) (stays refl) (goes (rw (eqb-true number 0x43 e)) (waits-aside (queuesOf q) sx rows _ (current st) _ (omega arith))))
       (goes (rw (eqb-true number 0x43 e)) taken-aside)
 
-  pub mailboxes-quiet : Quiet (λ (y : Served). y .lines) (q .lines) (mailboxMoves number) (Mailboxes.mailboxCall q st x number a b c d)
+  pub mailboxes-quiet : Quiet (λ (y : WaitTables). y .lines) (q .lines) (mailboxMoves number) (Mailboxes.mailboxCall q st x number a b c d)
   unfolding Mailboxes.mailboxCall Mailboxes.createEffect Mailboxes.deleteEffect
   mailboxes-quiet =
       numbered (eqb number 0x40) (λ _. same refl)

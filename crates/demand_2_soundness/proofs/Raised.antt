@@ -14,7 +14,7 @@ use Rattle.basics.specs.Rule.{Means}
 use Rattle.basics.proofs.Laws.{same?, lt-or-le, count-first}
 use Rattle.basics.proofs.Finds.{IsHighest, high-is, high-one}
 use Rattle.rules.specs.Tables.{Typed, raised, taskCount, mostLevels, levels, task, state, raisedState, DEPTH, SWIS, TASKS, CURRENT, LEVELS}
-use Rattle.rules.specs.Lines.{anyone, line, first, readyLine, taskHome}
+use Rattle.rules.specs.Lines.{anyone, line, frontOf, readyLine, taskHome}
 use Rattle.rules.specs.Dispatch.{highestReady, front, swiDue, taskDue}
 use Rattle.rules.specs.Sound.{Sound, tasksRule, taskRule, dispatchRule}
 use Rattle.rules.specs.declared.Tables.{Tables}

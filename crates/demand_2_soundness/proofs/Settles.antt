@@ -13,8 +13,8 @@ use Rattle.basics.specs.Rule.{Means}
 use Rattle.basics.proofs.Laws.{lt-or-le, count-first, length-without}
 use Rattle.basics.proofs.Finds.{IsHighest, high-is}
 use Rattle.rules.specs.Tables.{Typed, taskCount, mostLevels, levels, ready, task, swi, state, withState, PRIORITY, DEPTH, SWIS, TASKS, CURRENT, LEVELS}
-use Rattle.rules.specs.Lines.{anyone, first, line, postedLine, activeLine, readyLine, swiHome, taskHome, homeBy}
-use Rattle.rules.specs.Swis.{Posts, posts, top}
+use Rattle.rules.specs.Lines.{anyone, frontOf, line, postedLine, activeLine, readyLine, swiHome, taskHome, homeBy}
+use Rattle.rules.specs.Swis.{SwiQueues, swiQueues, top}
 use Rattle.rules.specs.Dispatch.{dispatched, swiDispatched, swiDue, taskDispatched, taskDue, highestPosted, activeLevel, started, highestReady, front}
 use Rattle.rules.specs.Sound.{Sound, stateRule, dispatchRule}
 use Rattle.rules.specs.Step.{withPosts, withDispatched}
@@ -33,7 +33,7 @@ abbrev level : List ℕ → ℕ
 level ls = highestPosted ls - 1
 
 abbrev next : List ℕ → ℕ
-next ls = first ls (postedLine (level ls))
+next ls = frontOf ls (postedLine (level ls))
 
 level-some : (ws ls : List ℕ) → 0 < length (line ls activeLine) → activeLevel ws ls ≡ suc (swi ws (top ls) PRIORITY)
 unfolding activeLevel
@@ -44,7 +44,7 @@ unfolding highestPosted
 posted-high ls = high-is 16 (λ p. anyone ls (postedLine p))
 
 -- what a start, or none, leaves
-record SwisSettled (t : Tables) (x : Posts) : Type 0 where
+record SwisSettled (t : Tables) (x : SwiQueues) : Type 0 where
   almost : Almost (withPosts t x)
   quiet : swiDue (x .swis) (x .lines) (t .state) ≡ false
 
@@ -74,8 +74,8 @@ module _ (t : Tables) (a : Almost t) where
     unfolding p
     above h = omega (arith, due-above, level-some (t .swis) (t .lines) h)
 
-    after : Posts
-    after = started i (postedLine p) (posts (t .swis) (t .lines))
+    after : SwiQueues
+    after = started i (postedLine p) (swiQueues (t .swis) (t .lines))
 
     -- no queue above its priority has a member
     level-after : activeLevel (after .swis) (after .lines) ≡ suc p
@@ -110,18 +110,18 @@ module _ (t : Tables) (a : Almost t) where
         rw (le-ltb (activeLevel (after .swis) (after .lines)) (highestPosted (after .lines)) (omega (arith, level-after, highest-after)))
         (and-false (eqb (state (t .state) DEPTH) 0 && not (eqb (state (t .state) SWIS) 0)))
 
-    started-settled : SwisSettled t (started (next (t .lines)) (postedLine (level (t .lines))) (posts (t .swis) (t .lines)))
+    started-settled : SwisSettled t (started (next (t .lines)) (postedLine (level (t .lines))) (swiQueues (t .swis) (t .lines)))
     unfolding after i p
     started-settled = record { almost = started-almost t a i p low home above; quiet = quiet-after }
 
-  swis-settled : SwisSettled t (swiDispatched (t .state) (posts (t .swis) (t .lines)))
+  swis-settled : SwisSettled t (swiDispatched (t .state) (swiQueues (t .swis) (t .lines)))
   unfolding swiDispatched
   swis-settled =
-      chosen (λ (x : Posts). SwisSettled t x) (swiDue (t .swis) (t .lines) (t .state)) _ _
+      chosen (λ (x : SwiQueues). SwisSettled t x) (swiDue (t .swis) (t .lines) (t .state)) _ _
       started-settled
       (λ e. record { almost = a; quiet = e })
 
-  swis-stay : swiDue (t .swis) (t .lines) (t .state) ≡ false → swiDispatched (t .state) (posts (t .swis) (t .lines)) ≡ posts (t .swis) (t .lines)
+  swis-stay : swiDue (t .swis) (t .lines) (t .state) ≡ false → swiDispatched (t .state) (swiQueues (t .swis) (t .lines)) ≡ swiQueues (t .swis) (t .lines)
   unfolding swiDispatched
   swis-stay e = rw e
 
@@ -209,8 +209,8 @@ dispatched-levels ls st =
     chosen (λ (su : List ℕ). levels su ≡ levels st) (taskDue ls st) _ _ (λ _. levels-same st CURRENT _ (λ e. omega arith)) (λ _. refl)
 
 module _ (t : Tables) (s : Settling t) where
-  x : Posts
-  x = swiDispatched (t .state) (posts (t .swis) (t .lines))
+  x : SwiQueues
+  x = swiDispatched (t .state) (swiQueues (t .swis) (t .lines))
 
   now-almost : Almost (withPosts t x)
   unfolding x
@@ -221,7 +221,7 @@ module _ (t : Tables) (s : Settling t) where
   current-stays no-task =
       ⊎-elim (λ e. e)
       (λ d.
-      let e : x .lines ≡ t .lines = ap (λ (y : Posts). y .lines) (swis-stay t (s .almost) (d .0)) in
+      let e : x .lines ≡ t .lines = ap (λ (y : SwiQueues). y .lines) (swis-stay t (s .almost) (d .0)) in
       absurd (true≢false (sym (d .1) ∙ rw e at no-task)))
       (s .current)
 
@@ -247,7 +247,7 @@ module _ (t : Tables) (s : Settling t) where
         state = settled .state;
         heap = a .heap;
         clocks = a .clocks;
-        tasks = rw (dispatched-levels (swiDispatched (t .state) (posts (t .swis) (t .lines)) .lines) (t .state)) (a .tasks);
+        tasks = rw (dispatched-levels (swiDispatched (t .state) (swiQueues (t .swis) (t .lines)) .lines) (t .state)) (a .tasks);
         lines = a .lines;
         members = members-is (withPosts t x) a;
         taskOnce = task-once (withPosts t x) a;

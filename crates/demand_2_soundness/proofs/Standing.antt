@@ -12,7 +12,7 @@ use Rattle.basics.specs.Lists.{bit, count}
 use Rattle.basics.specs.Rule.{Means, _is_, every}
 use Rattle.basics.proofs.Laws.{same?, lt-or-le, count-first}
 use Rattle.rules.specs.Tables.{Typed, taskCount, swiCount, swiWidth, ready, task, swi, mostLevels, levels, PRIORITY, POSTED}
-use Rattle.rules.specs.Lines.{lineCount, nowhere, readyLine, postedLine, activeLine, line, anyone, first, homeBy, taskHome, swiHome}
+use Rattle.rules.specs.Lines.{lineCount, nowhere, readyLine, postedLine, activeLine, line, anyone, frontOf, homeBy, taskHome, swiHome}
 use Rattle.rules.specs.Sound.{Sound, isPosted, homeIn, membersRule, onceRule, tasksRule, swiRule}
 use Rattle.rules.specs.declared.Tables.{Tables}
 use Rattle.rules_laws.proofs.Rows.{by-range, field-out}
@@ -167,7 +167,7 @@ task-0-never-waits t s j waiters =
     ∙ bit-other (taskHome (t .tasks) 0) j (λ e. omega (arith, home, e, waiters))
 
 -- so whoever is first in such a line is another
-pub first-not : (i : ℕ) (ls : List ℕ) → NeverWaits i ls → (j : ℕ) → j < postedLine 0 → anyone ls j ≡ true → first ls j ≢ i
+pub first-not : (i : ℕ) (ls : List ℕ) → NeverWaits i ls → (j : ℕ) → j < postedLine 0 → anyone ls j ≡ true → frontOf ls j ≢ i
 first-not i ls never j waiters some e =
-    let there : 0 < count (first ls j) (line ls j) = count-first (line ls j) (ltb-true 0 (length (line ls j)) some) in
+    let there : 0 < count (frontOf ls j) (line ls j) = count-first (line ls j) (ltb-true 0 (length (line ls j)) some) in
     omega (arith, never j waiters, rw e at there)

@@ -12,8 +12,8 @@ use Rattle.basics.specs.Lists.{bit, count, without}
 use Rattle.basics.specs.Rule.{Means}
 use Rattle.basics.proofs.Laws.{same?, count-snoc, count-without, count-without-other, putAt-back}
 use Rattle.rules.specs.Tables.{swiCount, swi, withSwi, PRIORITY, INITIAL, TRIGGER, POSTED, TAKEN, USED}
-use Rattle.rules.specs.Lines.{lineCount, lineMost, lineWidth, line, left, joined, atBack, postedLine, activeLine, swiHome}
-use Rattle.rules.specs.Swis.{posts, top}
+use Rattle.rules.specs.Lines.{lineCount, lineMost, lineWidth, line, outOf, joined, atBack, postedLine, activeLine, swiHome}
+use Rattle.rules.specs.Swis.{swiQueues, top}
 use Rattle.rules.specs.Dispatch.{started}
 use Rattle.rules.specs.Sound.{swiRule, activeRule}
 use Rattle.rules.specs.Step.{withPosts}
@@ -78,7 +78,7 @@ module _ (t : Tables) (a : Almost t) (i p : ℕ) (low : p < 16) (home : swiHome 
 
   -- ---- the lines
   ks : List ℕ
-  ks = left (postedLine p) i (t .lines)
+  ks = outOf (postedLine p) i (t .lines)
 
   ls : List ℕ
   ls = joined activeLine i ks
@@ -156,7 +156,7 @@ module _ (t : Tables) (a : Almost t) (i p : ℕ) (low : p < 16) (home : swiHome 
           λ k h. rw (priority-stays (getD ys k 0), priority-stays (getD ys (suc k) 0)) (r k h),
         )
 
-    changed : SwiChanged t i (posts ws ls)
+    changed : SwiChanged t i (swiQueues ws ls)
     unfolding ks ws ls
     changed =
         record {
@@ -174,27 +174,27 @@ module _ (t : Tables) (a : Almost t) (i p : ℕ) (low : p < 16) (home : swiHome 
           active = active-rule;
         }
 
-    pub started-almost : Almost (withPosts t (started i (postedLine p) (posts (t .swis) (t .lines))))
+    pub started-almost : Almost (withPosts t (started i (postedLine p) (swiQueues (t .swis) (t .lines))))
     unfolding started one two ws ks ls
-    started-almost = swi-almost t a i (posts ws ls) changed
+    started-almost = swi-almost t a i (swiQueues ws ls) changed
 
   -- ---- it is the top active one, at its priority; the posted ones at other priorities stay
-  pub started-active : line (started i (postedLine p) (posts (t .swis) (t .lines)) .lines) activeLine ≡ line (t .lines) activeLine ++ (i ∷ [])
+  pub started-active : line (started i (postedLine p) (swiQueues (t .swis) (t .lines)) .lines) activeLine ≡ line (t .lines) activeLine ++ (i ∷ [])
   unfolding started ks ls
   started-active = active
 
-  pub started-top : top (started i (postedLine p) (posts (t .swis) (t .lines)) .lines) ≡ i
+  pub started-top : top (started i (postedLine p) (swiQueues (t .swis) (t .lines)) .lines) ≡ i
   unfolding top
   started-top =
       let xs : List ℕ = line (t .lines) activeLine in
       let n = length-snoc xs i in
       rw (started-active, getD-at xs i [] 0 (length (xs ++ (i ∷ [])) - 1) (omega arith))
 
-  pub started-priority : swi (started i (postedLine p) (posts (t .swis) (t .lines)) .swis) i PRIORITY ≡ p
+  pub started-priority : swi (started i (postedLine p) (swiQueues (t .swis) (t .lines)) .swis) i PRIORITY ≡ p
   unfolding started one two ws
   started-priority = priority-stays i ∙ is-posted .1
 
   pub started-stays : (q : ℕ) → q < 16 → q ≢ p
-      → line (started i (postedLine p) (posts (t .swis) (t .lines)) .lines) (postedLine q) ≡ line (t .lines) (postedLine q)
+      → line (started i (postedLine p) (swiQueues (t .swis) (t .lines)) .lines) (postedLine q) ≡ line (t .lines) (postedLine q)
   unfolding started ks ls
   started-stays = stays

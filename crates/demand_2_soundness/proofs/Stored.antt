@@ -10,7 +10,7 @@ use Rattle.basics.specs.Rule.{Means, _is_, every}
 use Rattle.basics.proofs.Laws.{same?, lt-or-le, length-putAt}
 use Rattle.basics.proofs.Runs.{length-reads, getD-reads}
 use Rattle.rules.specs.Rows.{withListed, behind}
-use Rattle.rules.specs.Lines.{lineCount, lineMost, lineWidth, line, withLine, left, entered}
+use Rattle.rules.specs.Lines.{lineCount, lineMost, lineWidth, line, withLine, outOf, entered}
 use Rattle.rules.specs.Sound.{linesRule}
 use Rattle.rules_laws.proofs.Rows.{by-range, row-end}
 use Rattle.rules_laws.proofs.Listed.{length-listed, listed-away, length-there, behind-same}
@@ -88,8 +88,8 @@ module _ (ls : List ℕ) (all : length ls ≡ lineCount * lineWidth) (rule : Mea
                 (clear-other lineMost ls (j * lineWidth) xs short lineMost (i * lineWidth) apart z),
           )
 
-  pub left-lines : (j x : ℕ) → Means (linesRule (left j x ls))
-  unfolding left
+  pub left-lines : (j x : ℕ) → Means (linesRule (outOf j x ls))
+  unfolding outOf
   left-lines j x = stored-lines j (without x (line ls j)) (left-length ls j x)
 
   pub entered-lines : (place : List ℕ → ℕ) (j x : ℕ) → Means (linesRule (entered place j x ls))

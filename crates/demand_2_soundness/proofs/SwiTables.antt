@@ -11,7 +11,7 @@ use Rattle.basics.specs.Rule.{Means}
 use Rattle.basics.proofs.Laws.{same?, lt-or-le, at-most}
 use Rattle.rules.specs.Tables.{swiCount, swiWidth, clockCount, swi, withSwi, clock, USED, PRIORITY, POSTED, TAKEN}
 use Rattle.rules.specs.Lines.{semaphoreLine, mailboxLine, eventLine, postedLine, activeLine, line, swiHome}
-use Rattle.rules.specs.Swis.{Posts}
+use Rattle.rules.specs.Swis.{SwiQueues}
 use Rattle.rules.specs.Sound.{linesRule, semaphoreRule, eventRule, mailboxRule, swiRule, swisRule, activeRule, clockRule}
 use Rattle.rules.specs.Step.{withPosts}
 use Rattle.rules.specs.declared.Tables.{Tables}
@@ -30,7 +30,7 @@ unfolding swiRule
 rule-used ws ls x u p o c = (omega arith, (λ z. absurd (omega arith), (p, (o, c))))
 
 -- ---- Swi i's row changes, it may come into a line of Swis or leave one, and nothing else is touched
-pub record SwiChanged (t : Tables) (i : ℕ) (p : Posts) : Type 0 where
+pub record SwiChanged (t : Tables) (i : ℕ) (p : SwiQueues) : Type 0 where
   pub swisLength : length (p .swis) ≡ 96
   pub linesLength : length (p .lines) ≡ 2673
   pub lines : Means (linesRule (p .lines))
@@ -43,7 +43,7 @@ pub record SwiChanged (t : Tables) (i : ℕ) (p : Posts) : Type 0 where
   pub rule : Means (swiRule (p .swis) (p .lines) i)
   pub active : Means (activeRule (p .swis) (p .lines))
 
-module _ (t : Tables) (a : Almost t) (i : ℕ) (p : Posts) (k : SwiChanged t i p) where
+module _ (t : Tables) (a : Almost t) (i : ℕ) (p : SwiQueues) (k : SwiChanged t i p) where
   standing : (x q : ℕ) → q < 16 → count x (line (p .lines) (postedLine q)) ≡ bit (eqb (swiHome (p .swis) x) (postedLine q))
   standing x q h =
       ⊎-elim

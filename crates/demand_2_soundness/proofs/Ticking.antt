@@ -11,10 +11,10 @@ use Rattle.basics.specs.Find.{rising}
 use Rattle.basics.specs.Rule.{Means}
 use Rattle.basics.proofs.Laws.{same?}
 use Rattle.rules.specs.Tables.{taskCount, clockCount, notInUse, ready, sleeping, terminated, inactive, task, clock, withClock, swi, tables, USED, levels}
-use Rattle.rules.specs.Lines.{Queued, queued}
-use Rattle.rules.specs.Swis.{Posts, posts, posted}
+use Rattle.rules.specs.Lines.{TaskQueues, taskQueues}
+use Rattle.rules.specs.Swis.{SwiQueues, swiQueues, posted}
 use Rattle.rules.specs.Clocks.{withLeft}
-use Rattle.rules.specs.Tick.{aged, postedIf, Clocked, clockedOf, clockTick, clocksTicked, oneLess, endedWith, taskTick, tasksTicked}
+use Rattle.rules.specs.Tick.{aged, postedIf, ClockTables, clockTables, clockTick, clocksTicked, oneLess, endedWith, taskTick, tasksTicked}
 use Rattle.rules.specs.Sound.{clockRule, taskRule}
 use Rattle.rules.specs.Step.{withQueued, withPosts, withClocks}
 use Rattle.rules.specs.declared.Tables.{Tables}
@@ -56,7 +56,7 @@ module _ (ws : List ℕ) (k : Clock) (rule : Means (clockRule ws k)) where
   aged-rule l stopped =
       (rule .0, ((λ e. let (s, (f, (p, z))) = rule .1 .0 e in (s, (f, (p, stopped z)))), rule .1 .1))
 
-abbrev pub withClocked : Tables → Clocked → Tables
+abbrev pub withClocked : Tables → ClockTables → Tables
 withClocked t x =
     tables (t .tasks) (x .lines) (t .semaphores) (t .events) (t .mailboxes) (x .swis) (x .clocks) (t .heap) (t .state)
 
@@ -66,16 +66,16 @@ module _ (t : Tables) (a : Almost t) (n : ℕ) (lt : n < clockCount) where
   k = clock (t .clocks) n
 
   clock-step : (fired : Bool) (l : ℕ) → (fired ≡ true → k .left ≢ 0) → (k .left ≡ 0 → l ≡ 0)
-      → Almost (withClocks (withPosts t (postedIf fired (k .swi) (posts (t .swis) (t .lines)))) (withClock (t .clocks) n (withLeft k l)))
+      → Almost (withClocks (withPosts t (postedIf fired (k .swi) (swiQueues (t .swis) (t .lines)))) (withClock (t .clocks) n (withLeft k l)))
   clock-step fired l runs stopped =
-      let p = postedIf fired (k .swi) (posts (t .swis) (t .lines)) in
+      let p = postedIf fired (k .swi) (swiQueues (t .swis) (t .lines)) in
       let after : Almost (withPosts t p) =
-      chosen (λ (p : Posts). Almost (withPosts t p)) fired (posted (k .swi) (posts (t .swis) (t .lines))) (posts (t .swis) (t .lines))
+      chosen (λ (p : SwiQueues). Almost (withPosts t p)) fired (posted (k .swi) (swiQueues (t .swis) (t .lines))) (swiQueues (t .swis) (t .lines))
       (λ e. posted-keeps t a (k .swi) (λ (z : swi (t .swis) (k .swi) USED ≡ 0). omega (arith, running-swi (t .swis) k (a .clocks n lt) (runs e))))
       (λ _. a) in
       clock-keeps (withPosts t p) after n (withLeft k l) (aged-rule (p .swis) k (after .clocks n lt) l stopped)
 
-clock-ticks : (t : Tables) (x : Clocked) (n : ℕ) → n < clockCount → Almost (withClocked t x) → Almost (withClocked t (clockTick x n))
+clock-ticks : (t : Tables) (x : ClockTables) (n : ℕ) → n < clockCount → Almost (withClocked t x) → Almost (withClocked t (clockTick x n))
 unfolding clockTick aged
 clock-ticks t x n lt a =
     let k = clock (x .clocks) n in
@@ -95,7 +95,7 @@ clock-ticks t x n lt a =
 
 pub clocks-tick : (t : Tables) → Almost t → Almost (withClocked t (clocksTicked (t .clocks) (t .swis) (t .lines)))
 clocks-tick t a =
-    rising-keeps (λ (x : Clocked). Almost (withClocked t x)) clockTick (clockedOf (t .clocks) (t .swis) (t .lines)) clockCount
+    rising-keeps (λ (x : ClockTables). Almost (withClocked t x)) clockTick (clockTables (t .clocks) (t .swis) (t .lines)) clockCount
     (λ x n lt h. clock-ticks t x n lt h) a
 
 -- ---- the tasks
@@ -113,10 +113,10 @@ waits-of st i k row some =
 
 -- task x is ready, and all rules but those on the state hold
 module _ (t : Tables) (x : ℕ) where
-  abbrev pub Ready : Queued → Type 0
+  abbrev pub Ready : TaskQueues → Type 0
   Ready q = Almost (withQueued t q) × (task (q .tasks) x .mode ≡ ready)
 
-  pub task-ticks : (q : Queued) (i : ℕ) → i < taskCount → Ready q → Ready (taskTick q i)
+  pub task-ticks : (q : TaskQueues) (i : ℕ) → i < taskCount → Ready q → Ready (taskTick q i)
   unfolding taskTick
   task-ticks q i lt (a, r) =
       let k = task (q .tasks) i in
@@ -145,4 +145,4 @@ module _ (t : Tables) (x : ℕ) where
       ended-small mode = chosen (λ (o : ℕ). o < 2) (eqb mode sleeping) 0 1 (λ _. omega arith) (λ _. omega arith)
 
   pub tasks-tick : Almost t → task (t .tasks) x .mode ≡ ready → Ready (tasksTicked (t .tasks) (t .lines))
-  tasks-tick a r = rising-keeps (λ (q : Queued). Ready q) taskTick (queued (t .tasks) (t .lines)) taskCount (λ q i lt h. task-ticks q i lt h) (a, r)
+  tasks-tick a r = rising-keeps (λ (q : TaskQueues). Ready q) taskTick (taskQueues (t .tasks) (t .lines)) taskCount (λ q i lt h. task-ticks q i lt h) (a, r)

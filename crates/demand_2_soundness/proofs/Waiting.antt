@@ -13,7 +13,7 @@ use Rattle.basics.specs.Rule.{Means, _is_, _isnt_, _under_, _and_, _or_}
 use Rattle.basics.proofs.Laws.{same?}
 use Rattle.rules.specs.Answer.{T, S, I}
 use Rattle.rules.specs.Tables.{Typed, taskCount, semaphoreCount, eventCount, mailboxCount, levels, wordEnd, forever, minusOne, notInUse, ready, sleeping, atSemaphore, atEvent, reading, writing, terminated, inactive, task, state, current, DEPTH, SWIS, TASKS, CURRENT}
-use Rattle.rules.specs.Lines.{postedLine, activeLine, anyone, queued, moved, atBack}
+use Rattle.rules.specs.Lines.{postedLine, activeLine, anyone, taskQueues, moved, atBack}
 use Rattle.rules.specs.Waits.{switchOff, idle, ticksFor, waiting, readied, woken}
 use Rattle.rules.specs.Swis.{top}
 use Rattle.rules.specs.Dispatch.{context, highestPosted, activeLevel, swiDue, taskDue}
@@ -41,11 +41,11 @@ pub record Other (st : List ℕ) (k : Task) : Type 0 where
   pub whenFree : k .mode ≡ notInUse → Means ((k .priority is 0) and noWait k and (k .outcome is 0) and (k .value is 0))
   pub whenReady : k .mode ≡ ready → Means (noWait k)
   pub whenSleeping : k .mode ≡ sleeping
-      → Means ((k .object is 0) and (k .left isnt 0) and (k .left under forever) and (k .first is 0) and (k .second is 0))
-  pub whenAtSemaphore : k .mode ≡ atSemaphore → Means (waitRule k semaphoreCount and (k .first is 0) and (k .second is 0))
-  pub whenAtEvent : k .mode ≡ atEvent → Means (waitRule k eventCount and (k .first isnt 0 or k .second isnt 0))
-  pub whenReading : k .mode ≡ reading → Means (waitRule k mailboxCount and (k .first is 0) and (k .second is 0))
-  pub whenWriting : k .mode ≡ writing → Means (waitRule k mailboxCount and (k .second is 0))
+      → Means ((k .object is 0) and (k .left isnt 0) and (k .left under forever) and (k .held is 0) and (k .mask is 0))
+  pub whenAtSemaphore : k .mode ≡ atSemaphore → Means (waitRule k semaphoreCount and (k .held is 0) and (k .mask is 0))
+  pub whenAtEvent : k .mode ≡ atEvent → Means (waitRule k eventCount and (k .held isnt 0 or k .mask isnt 0))
+  pub whenReading : k .mode ≡ reading → Means (waitRule k mailboxCount and (k .held is 0) and (k .mask is 0))
+  pub whenWriting : k .mode ≡ writing → Means (waitRule k mailboxCount and (k .mask is 0))
   pub whenTerminated : k .mode ≡ terminated → Means (noWait k)
   pub whenInactive : k .mode ≡ inactive → Means ((k .priority is minusOne) and noWait k)
   pub level : (k .mode ≢ notInUse) × (k .mode ≢ inactive) → (0 < k .priority) × (k .priority < levels st)
@@ -120,8 +120,8 @@ pub still-waiting : (st : List ℕ) (i : ℕ) (k : Task) → i ≢ 0 → Means (
       priority = p;
       object = k .object;
       left = l;
-      first = k .first;
-      second = k .second;
+      held = k .held;
+      mask = k .mask;
       outcome = k .outcome;
       value = k .value;
     }))
@@ -169,11 +169,11 @@ module _ (st : List ℕ) (i : ℕ) (k : Task) (n : i ≢ 0) (row : Means (taskRu
     abbrev w : Task
     w = waiting k mode object limit x y
 
-    blocked-row : (mode ≡ sleeping → Means ((w .object is 0) and (w .left isnt 0) and (w .left under forever) and (w .first is 0) and (w .second is 0)))
-        → (mode ≡ atSemaphore → Means (waitRule w semaphoreCount and (w .first is 0) and (w .second is 0)))
-        → (mode ≡ atEvent → Means (waitRule w eventCount and (w .first isnt 0 or w .second isnt 0)))
-        → (mode ≡ reading → Means (waitRule w mailboxCount and (w .first is 0) and (w .second is 0)))
-        → (mode ≡ writing → Means (waitRule w mailboxCount and (w .second is 0)))
+    blocked-row : (mode ≡ sleeping → Means ((w .object is 0) and (w .left isnt 0) and (w .left under forever) and (w .held is 0) and (w .mask is 0)))
+        → (mode ≡ atSemaphore → Means (waitRule w semaphoreCount and (w .held is 0) and (w .mask is 0)))
+        → (mode ≡ atEvent → Means (waitRule w eventCount and (w .held isnt 0 or w .mask isnt 0)))
+        → (mode ≡ reading → Means (waitRule w mailboxCount and (w .held is 0) and (w .mask is 0)))
+        → (mode ≡ writing → Means (waitRule w mailboxCount and (w .mask is 0)))
         → Means (taskRule (levels st) i w)
     blocked-row ofSleep ofSemaphore ofEvent ofReader ofWriter =
         other-row _ i w n
@@ -306,7 +306,7 @@ task-due ls st c off =
 -- ---- a wait begins: the current task leaves the ready ones, and dispatch will choose another
 pub waits-settle : (t : Tables) → Typed t → Sound t → context (t .lines) (t .state) ≡ T → switchOff (t .state) ≡ false
     → (k : Task) → Means (taskRule (levels (t .state)) (current (t .state)) k) → Welcome t (current (t .state)) k → (place : List ℕ → ℕ)
-    → Settling (withQueued t (moved place (current (t .state)) k (queued (t .tasks) (t .lines))))
+    → Settling (withQueued t (moved place (current (t .state)) k (taskQueues (t .tasks) (t .lines))))
 waits-settle t typed s c off k row welcome place =
     let a = sound-almost t typed s in
     let i = current (t .state) in
@@ -337,7 +337,7 @@ welcome-ready t i k e = welcome-none t i k (inl (omega arith))
 -- who is ready stays so when any task moves to be ready
 pub moved-ready : (t : Tables) (a : Almost t) (place : List ℕ → ℕ) (i : ℕ) (k : Task) (lt : i < taskCount) (row : Means (taskRule (levels (t .state)) i k))
     → k .mode ≡ ready → (x : ℕ) → task (t .tasks) x .mode ≡ ready
-    → task (moved place i k (queued (t .tasks) (t .lines)) .tasks) x .mode ≡ ready
+    → task (moved place i k (taskQueues (t .tasks) (t .lines)) .tasks) x .mode ≡ ready
 moved-ready t a place i k lt row e x r =
     ⊎-elim
     (λ (q : x ≡ i). rw q (ap (λ (w : Task). w .mode) (moved-row t a place i k lt row) ∙ e))
@@ -353,12 +353,12 @@ module _ (t : Tables) (a : Almost t) (i : ℕ) (lt : i < taskCount) (low : ready
     pub woken-row : Means (taskRule (levels (t .state)) i (readied (task (t .tasks) i) o v))
     woken-row = readied-row _ i (task (t .tasks) i) waiter-other (a .tasks i lt) (used-at _ (omega arith) (omega arith)) o v small unmet
 
-    pub woken-keeps : Almost (withQueued t (woken i o v (queued (t .tasks) (t .lines))))
+    pub woken-keeps : Almost (withQueued t (woken i o v (taskQueues (t .tasks) (t .lines))))
     woken-keeps = moved-keeps t a atBack i _ lt woken-row (welcome-ready t i _ refl)
 
-    pub woken-ready : (x : ℕ) → task (t .tasks) x .mode ≡ ready → task (woken i o v (queued (t .tasks) (t .lines)) .tasks) x .mode ≡ ready
+    pub woken-ready : (x : ℕ) → task (t .tasks) x .mode ≡ ready → task (woken i o v (taskQueues (t .tasks) (t .lines)) .tasks) x .mode ≡ ready
     woken-ready x r = moved-ready t a atBack i _ lt woken-row refl x r
 
     pub wakes-settle : Ranges (t .state) → task (t .tasks) (state (t .state) CURRENT) .mode ≡ ready
-        → Settling (withQueued t (woken i o v (queued (t .tasks) (t .lines))))
+        → Settling (withQueued t (woken i o v (taskQueues (t .tasks) (t .lines))))
     wakes-settle ranges r = record { almost = woken-keeps; ranges = ranges; current = inl (woken-ready (state (t .state) CURRENT) r) }

@@ -12,7 +12,7 @@ use Rattle.basics.specs.Rule.{Means}
 use Rattle.basics.proofs.Laws.{putAt-back, without-absent}
 use Rattle.rules.specs.Answer.{nowWaiting, asked}
 use Rattle.rules.specs.Tables.{Typed, forever, atSemaphore, semaphoreCount, semaphoreWidth, task, current, semaphore, USED, KIND, COUNT, levels}
-use Rattle.rules.specs.Lines.{line, semaphoreLine, homeBy, taskHome, queued, moved}
+use Rattle.rules.specs.Lines.{line, semaphoreLine, homeBy, taskHome, taskQueues, moved}
 use Rattle.rules.specs.Waits.{ticksFor, waiting}
 use Rattle.rules.specs.Semaphores as Semaphores
 use Rattle.rules.specs.Sound.{Sound, taskRule}
@@ -67,7 +67,7 @@ module _ (t : Tables) (typed : Typed t) (sound : Sound t) (s : ℕ) (word : s < 
       row-used semaphoreWidth semaphoreCount (t .semaphores) s USED (eqb-false _ _ (object-used _ _ (accepted-is _ (ok .cases) .at3) (accepted-is _ (ok .cases) .at11)))
 
   other : i ≢ 0
-  unfolding callOf Semaphores.semaphoreCall Semaphores.pendCases Semaphores.waits
+  unfolding callOf Semaphores.semaphoreCall Semaphores.pendCases Semaphores.pendWaits
   other =
       let none : semaphore (t .semaphores) s COUNT ≡ 0 = omega (arith, ltb-false 0 (semaphore (t .semaphores) s COUNT) none-left) in
       not-idle t sound (rw none at (accepted-is (Semaphores.pendCases (t .semaphores) (t .state) _ s forever 0 0) (ok .cases) .at5))
@@ -79,11 +79,11 @@ module _ (t : Tables) (typed : Typed t) (sound : Sound t) (s : ℕ) (word : s < 
   almost = sound-almost t typed sound
 
   -- it goes to its place in line s, and nothing else changes
-  pend-tasks : callFor t q .effect .next .tasks ≡ moved place i k (queued (t .tasks) (t .lines)) .tasks
+  pend-tasks : callFor t q .effect .next .tasks ≡ moved place i k (taskQueues (t .tasks) (t .lines)) .tasks
   unfolding callOf Semaphores.semaphoreCall Semaphores.pendEffect
   pend-tasks = rw none-left
 
-  pend-lines : callFor t q .effect .next .lines ≡ moved place i k (queued (t .tasks) (t .lines)) .lines
+  pend-lines : callFor t q .effect .next .lines ≡ moved place i k (taskQueues (t .tasks) (t .lines)) .lines
   unfolding callOf Semaphores.semaphoreCall Semaphores.pendEffect
   pend-lines = rw none-left
 

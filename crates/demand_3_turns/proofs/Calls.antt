@@ -3,10 +3,10 @@ use Prim.Native.Nat.{ℕ}
 use mathlib.Core.Bool.{cond as if}
 use borrow.Author.Tests.{eqb-true}
 use lib.Dec.{eqb}
-use Rattle.rules.specs.Answer.{CallRule, codeOf, After, answered}
+use Rattle.rules.specs.Answer.{CallRule, codeOf, Effect, answered}
 use Rattle.rules.specs.Tables.{Typed}
-use Rattle.rules.specs.Lines.{Queued, queued}
-use Rattle.rules.specs.Dispatch.{context, Dispatched}
+use Rattle.rules.specs.Lines.{TaskQueues, taskQueues}
+use Rattle.rules.specs.Dispatch.{context, DispatchTables}
 use Rattle.rules.specs.Sound.{Sound, sound}
 use Rattle.rules.specs.Step.{inRange, callOf, finished, step, call}
 use Rattle.rules.specs.declared.Tables.{Tables}
@@ -25,18 +25,18 @@ use Rattle.demand_3_turns.proofs.SwiCalls.{swis-leave}
 use Rattle.demand_3_turns.proofs.Ticks.{switches-leave}
 use Rattle.rules.specs.declared.Call.{Call}
 
-abbrev rows : Tables → Queued
-rows t = queued (t .tasks) (t .lines)
+abbrev rows : Tables → TaskQueues
+rows t = taskQueues (t .tasks) (t .lines)
 
 -- dispatch leaves the lines of tasks
-finished-aside : (n : ℕ) (r : After Tables) → Aside (r .next .lines) (finished n r .tables .lines)
+finished-aside : (n : ℕ) (r : Effect Tables) → Aside (r .next .lines) (finished n r .tables .lines)
 unfolding finished
 finished-aside n r =
-    chosen (λ (x : Dispatched). Aside (r .next .lines) (x .lines)) (eqb (r .answer .code) 0) _ _
+    chosen (λ (x : DispatchTables). Aside (r .next .lines) (x .lines)) (eqb (r .answer .code) 0) _ _
     (λ _. dispatched-aside (r .next .swis) (r .next .lines) (r .next .state))
     (λ _. aside-refl (r .next .lines))
 
-finished-leaves : (n : ℕ) (t : Tables) (i : ℕ) (r : After Tables) → Left t i (rows (r .next)) → Left t i (rows (finished n r .tables))
+finished-leaves : (n : ℕ) (t : Tables) (i : ℕ) (r : Effect Tables) → Left t i (rows (r .next)) → Left t i (rows (finished n r .tables))
 unfolding finished
 finished-leaves n t i r k =
     in-trans i (Arrival t) _ (rows (r .next)) _ k
@@ -61,11 +61,11 @@ module _ (t : Tables) (typed : Typed t) (s : Sound t) (q : Call) (i : ℕ) (u : 
 
   answered-leaves : (c : CallRule Tables) → Leaves t i rows c → Left t i (rows (answered t c .next))
   answered-leaves c k =
-      chosen (λ (r : After Tables). Left t i (rows (r .next))) (eqb (codeOf (c .cases)) 0) _ _
+      chosen (λ (r : Effect Tables). Left t i (rows (r .next))) (eqb (codeOf (c .cases)) 0) _ _
       (λ e. k (eqb-true (codeOf (c .cases)) 0 e))
       (λ _. stay t i)
 
-  pub call-same : Left t i (queued (next t q .tasks) (next t q .lines))
+  pub call-same : Left t i (taskQueues (next t q .tasks) (next t q .lines))
   unfolding call step
   call-same =
       chosen (λ (x : Step). Left t i (rows (x .tables))) (sound t) _ _

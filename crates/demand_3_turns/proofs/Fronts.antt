@@ -12,12 +12,12 @@ use Rattle.basics.specs.Find.{highestBelow}
 use Rattle.basics.proofs.Laws.{same?, length-without}
 use Rattle.basics.proofs.Finds.{high-is, high-one}
 use Rattle.rules.specs.Tables.{Typed, levels, state, DEPTH, SWIS, TASKS, CURRENT}
-use Rattle.rules.specs.Lines.{activeLine, readyLine, anyone, first}
+use Rattle.rules.specs.Lines.{activeLine, readyLine, anyone, frontOf}
 use Rattle.rules.specs.Dispatch.{running, highestReady, front, taskDue}
 use Rattle.rules.specs.Sound.{Sound}
 use Rattle.rules.specs.declared.Tables.{Tables}
 use Rattle.rules.specs.declared.Thread.the-variants.{Task}
-use Rattle.runs.specs.Turn.{ReadyAt, queue, AtFront, Unhindered}
+use Rattle.runs.specs.Turn.{ReadyAt, queueAt, AtFront, Unhindered}
 use Rattle.demand_2_soundness.proofs.Waiting.{current-in}
 use Rattle.demand_3_turns.proofs.Ahead.{first-ahead}
 use Rattle.demand_3_turns.proofs.Turns.{in-queue, ready-level}
@@ -37,18 +37,18 @@ unfolding count
 first-then i [] h e = absurd (omega arith)
 first-then i (x ∷ xs) h e = ap (λ (y : ℕ). y ∷ xs) (is-first i (x ∷ xs) h e)
 
-pub at-front : (t : Tables) → Typed t → Sound t → (p i : ℕ) → ReadyAt p i t → ahead i (queue p t) ≡ [] → AtFront p i t
+pub at-front : (t : Tables) → Typed t → Sound t → (p i : ℕ) → ReadyAt p i t → ahead i (queueAt p t) ≡ [] → AtFront p i t
 at-front t typed s p i is none =
-    record { behind = drop 1 (queue p t); is = first-then i (queue p t) (in-queue t typed s p i is) none }
+    record { behind = drop 1 (queueAt p t); is = first-then i (queueAt p t) (in-queue t typed s p i is) none }
 
-pub nobody-before : {p i : ℕ} {t : Tables} → AtFront p i t → ahead i (queue p t) ≡ []
+pub nobody-before : {p i : ℕ} {t : Tables} → AtFront p i t → ahead i (queueAt p t) ≡ []
 unfolding ahead
 nobody-before {i = i} f = rw (f .is, eq-eqb i i refl)
 
 one-less : (p : ℕ) → suc p - 1 ≡ p
 one-less p = omega arith
 
-module _ (t : Tables) (typed : Typed t) (s : Sound t) (p i : ℕ) (is : ReadyAt p i t) (free : Unhindered p t) (first-there : ahead i (queue p t) ≡ []) where
+module _ (t : Tables) (typed : Typed t) (s : Sound t) (p i : ℕ) (is : ReadyAt p i t) (free : Unhindered p t) (first-there : ahead i (queueAt p t) ≡ []) where
   nobody-active : anyone (t .lines) activeLine ≡ false
   nobody-active = rw (free .active)
 
@@ -71,7 +71,7 @@ module _ (t : Tables) (typed : Typed t) (s : Sound t) (p i : ℕ) (is : ReadyAt 
         high = ready-level t typed s p i is;
         has = λ l.
             ap (λ (n : ℕ). anyone (t .lines) (readyLine n)) (one-less p)
-            ∙ lt-ltb 0 (length (queue p t)) (omega (arith, in-queue t typed s p i is, length-without i (queue p t)));
+            ∙ lt-ltb 0 (length (queueAt p t)) (omega (arith, in-queue t typed s p i is, length-without i (queueAt p t)));
         after = λ r l h. rw (free .higher r (omega (arith, l)) h);
       }
 
@@ -79,9 +79,9 @@ module _ (t : Tables) (typed : Typed t) (s : Sound t) (p i : ℕ) (is : ReadyAt 
   unfolding front
   current-is =
       s .dispatch .1 due
-      ∙ ap (λ (n : ℕ). first (t .lines) (readyLine (n - 1))) highest
-      ∙ ap (λ (n : ℕ). first (t .lines) (readyLine n)) (one-less p)
-      ∙ is-first i (queue p t) (in-queue t typed s p i is) first-there
+      ∙ ap (λ (n : ℕ). frontOf (t .lines) (readyLine (n - 1))) highest
+      ∙ ap (λ (n : ℕ). frontOf (t .lines) (readyLine n)) (one-less p)
+      ∙ is-first i (queueAt p t) (in-queue t typed s p i is) first-there
 
   pub runs-there : running (t .lines) (t .state) ≡ Task i
   unfolding running

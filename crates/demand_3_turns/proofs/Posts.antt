@@ -10,10 +10,10 @@ use lib.Dec.{eqb, ltb}
 use lib.ListN.{length}
 use borrow.Author.Tests.{ltb-true}
 use Rattle.basics.proofs.Laws.{same?}
-use Rattle.rules.specs.Answer.{After, accepted, done, notMet, nowWaiting}
+use Rattle.rules.specs.Answer.{Effect, accepted, done, notMet, nowWaiting}
 use Rattle.rules.specs.Tables.{Typed, taskCount, reading, writing, task, event, current, BITS}
-use Rattle.rules.specs.Lines.{anyone, semaphoreLine, eventLine, mailboxLine, Queued, queued, moved, atBack}
-use Rattle.rules.specs.Waits.{Served, served, requeued}
+use Rattle.rules.specs.Lines.{anyone, semaphoreLine, eventLine, mailboxLine, TaskQueues, taskQueues, moved, atBack}
+use Rattle.rules.specs.Waits.{WaitTables, waitTables, withQueues}
 use Rattle.rules.specs.Semaphores as Semaphores
 use Rattle.rules.specs.Events as Events
 use Rattle.rules.specs.Mailboxes as Mailboxes
@@ -33,10 +33,10 @@ use Rattle.rules.specs.declared.Call.{Call}
 
 -- who moves gets the row k, and every other row stays
 moved-or-same : (place : List ℕ → ℕ) (i : ℕ) (k : Task) (ts ls : List ℕ) → length ts ≡ 256
-    → (x : ℕ) → (task (moved place i k (queued ts ls) .tasks) x ≡ task ts x) ⊎ ((x ≡ i) × (task (moved place i k (queued ts ls) .tasks) x ≡ k))
+    → (x : ℕ) → (task (moved place i k (taskQueues ts ls) .tasks) x ≡ task ts x) ⊎ ((x ≡ i) × (task (moved place i k (taskQueues ts ls) .tasks) x ≡ k))
 unfolding moved
 moved-or-same place i k ts ls full x =
-    chosen (λ (y : Queued). (task (y .tasks) x ≡ task ts x) ⊎ ((x ≡ i) × (task (y .tasks) x ≡ k))) (ltb i taskCount) _ _
+    chosen (λ (y : TaskQueues). (task (y .tasks) x ≡ task ts x) ⊎ ((x ≡ i) × (task (y .tasks) x ≡ k))) (ltb i taskCount) _ _
     (λ lt.
     ⊎-elim
     (λ (e : x ≡ i). inr (e, rw e (task-same ts i k full (ltb-true _ _ lt))))
@@ -111,16 +111,16 @@ module _ (t : Tables) (q : Call) (ok : Accepted t q) where
 
     -- the word is stored, or the post is not met, or its caller waits
     module _ (none : Mailboxes.waitsFirst (t .tasks) (t .lines) (q .a) reading ≡ false) where
-      abbrev effect : After Served
-      effect = Mailboxes.postEffect (served (t .tasks) (t .lines) (t .mailboxes)) (t .state) (q .a) (q .b) (q .c)
+      abbrev effect : Effect WaitTables
+      effect = Mailboxes.postEffect (waitTables (t .tasks) (t .lines) (t .mailboxes)) (t .state) (q .a) (q .b) (q .c)
 
-      abbrev waitsWith : Task → After Served
+      abbrev waitsWith : Task → Effect WaitTables
       waitsWith k =
           accepted nowWaiting 0
-          (requeued (served (t .tasks) (t .lines) (t .mailboxes)) (moved atBack (current (t .state)) k (queued (t .tasks) (t .lines))))
+          (withQueues (waitTables (t .tasks) (t .lines) (t .mailboxes)) (moved atBack (current (t .state)) k (taskQueues (t .tasks) (t .lines))))
 
-      by-room : (P : After Served → Type 0) → ((ms : List ℕ) → P (accepted done 0 (served (t .tasks) (t .lines) ms)))
-          → P (accepted notMet 0 (served (t .tasks) (t .lines) (t .mailboxes))) → ((k : Task) → k .mode ≡ writing → P (waitsWith k)) → P effect
+      by-room : (P : Effect WaitTables → Type 0) → ((ms : List ℕ) → P (accepted done 0 (waitTables (t .tasks) (t .lines) ms)))
+          → P (accepted notMet 0 (waitTables (t .tasks) (t .lines) (t .mailboxes))) → ((k : Task) → k .mode ≡ writing → P (waitsWith k)) → P effect
       unfolding Mailboxes.postEffect
       by-room P stored unmet waits =
           rw none
@@ -138,7 +138,7 @@ module _ (t : Tables) (q : Call) (ok : Accepted t q) where
 
       pub stores-value : made t q .answer .value ≡ 0
       stores-value =
-          ap (λ (r : Answer). r .value) (ok .answer ∙ is-effect) ∙ by-room (λ (e : After Served). e .answer .value ≡ 0) (λ ms. refl) refl (λ k m. refl)
+          ap (λ (r : Answer). r .value) (ok .answer ∙ is-effect) ∙ by-room (λ (e : Effect WaitTables). e .answer .value ≡ 0) (λ ms. refl) refl (λ k m. refl)
 
       -- every row stays, but that of a caller that now waits to write
       pub stores-rows : Typed t → (x : ℕ)
@@ -146,7 +146,7 @@ module _ (t : Tables) (q : Call) (ok : Accepted t q) where
       stores-rows typed x =
           rw (tasks-after t q ok ∙ is-next)
           (by-room
-          (λ (e : After Served). (task (e .next .tasks) x ≡ task (t .tasks) x) ⊎ ((x ≡ current (t .state)) × (task (e .next .tasks) x .mode ≡ writing)))
+          (λ (e : Effect WaitTables). (task (e .next .tasks) x ≡ task (t .tasks) x) ⊎ ((x ≡ current (t .state)) × (task (e .next .tasks) x .mode ≡ writing)))
           (λ ms. inl refl) (inl refl)
           (λ k m.
           ⊎-elim inl (λ (e, row). inr (e, ap (λ (w : Task). w .mode) row ∙ m))

@@ -13,7 +13,7 @@ use Rattle.rules.specs.Tables.{Typed}
 use Rattle.rules.specs.Sound.{Sound}
 use Rattle.rules.specs.declared.Tables.{Tables}
 use Rattle.runs.specs.Run.{next, after, Each, AllWords}
-use Rattle.runs.specs.Turn.{ReadyAt, queue, Undisturbed, Yields, Gone}
+use Rattle.runs.specs.Turn.{ReadyAt, queueAt, Undisturbed, Yields, Gone}
 use Rattle.demand_3_turns.proofs.Made.{next-typed, next-sound}
 use Rattle.demand_3_turns.proofs.Turns.{ready-stays}
 use Rattle.rules.specs.declared.Call.{Call}
@@ -51,9 +51,9 @@ module _ (p i : ℕ) where
       stays (next v q) ty so (ready-stays v typed sound q p i r (quiet .0) .ready) qs (words .1) (quiet .1)
 
   pub order : (v : Tables) → Typed v → Sound v → ReadyAt p i v → (qs : List Call) → AllWords v qs → Each (Undisturbed p i) v qs
-      → Sublistᴰ (ahead i (queue p (after v qs))) (ahead i (queue p v))
+      → Sublistᴰ (ahead i (queueAt p (after v qs))) (ahead i (queueAt p v))
   unfolding Each after
-  order v typed sound r [] words quiet = Sublistᴰ·refl (ahead i (queue p v))
+  order v typed sound r [] words quiet = Sublistᴰ·refl (ahead i (queueAt p v))
   order v typed sound r (q ∷ qs) words quiet =
       let ty = next-typed v typed sound q (words .0) in
       let so = next-sound v typed sound q (words .0) in
@@ -61,16 +61,16 @@ module _ (p i : ℕ) where
       Sublistᴰ·trans (order (next v q) ty so (one .ready) qs (words .1) (quiet .1)) (one .order)
 
   pub gone : (v : Tables) → Typed v → Sound v → ReadyAt p i v → (qs : List Call) → AllWords v qs → Each (Undisturbed p i) v qs
-      → (x : ℕ) → Gone p x v qs → count x (ahead i (queue p (after v qs))) ≡ 0
+      → (x : ℕ) → Gone p x v qs → count x (ahead i (queueAt p (after v qs))) ≡ 0
   unfolding Each after Gone
-  gone v typed sound r [] words quiet x out = omega (arith, ahead-count x i (queue p v), out)
+  gone v typed sound r [] words quiet x out = omega (arith, ahead-count x i (queueAt p v), out)
   gone v typed sound r (q ∷ qs) words quiet x away =
       let ty = next-typed v typed sound q (words .0) in
       let so = next-sound v typed sound q (words .0) in
       let one = ready-stays v typed sound q p i r (quiet .0) in
       let later = order (next v q) ty so (one .ready) qs (words .1) (quiet .1) in
       ⊎-elim
-      (λ (out : count x (queue p v) ≡ 0). omega (arith, sub-count x later, sub-count x (one .order), ahead-count x i (queue p v), out))
+      (λ (out : count x (queueAt p v) ≡ 0). omega (arith, sub-count x later, sub-count x (one .order), ahead-count x i (queueAt p v), out))
       (λ (rest : Yields x v q ⊎ Gone p x (next v q) qs).
       ⊎-elim
       (λ (y : Yields x v q). omega (arith, sub-count x later, one .yielded x y))
@@ -80,11 +80,11 @@ module _ (p i : ℕ) where
 
   -- once each of those before it has left or yielded, nobody is before it
   pub front : (v : Tables) → Typed v → Sound v → ReadyAt p i v → (qs : List Call) → AllWords v qs → Each (Undisturbed p i) v qs
-      → ((x : ℕ) → 0 < count x (ahead i (queue p v)) → Gone p x v qs) → ahead i (queue p (after v qs)) ≡ []
+      → ((x : ℕ) → 0 < count x (ahead i (queueAt p v)) → Gone p x v qs) → ahead i (queueAt p (after v qs)) ≡ []
   front v typed sound r qs words quiet all =
-      empty (ahead i (queue p (after v qs)))
+      empty (ahead i (queueAt p (after v qs)))
       (λ x.
       ⊎-elim
-      (λ (z : count x (ahead i (queue p v)) ≡ 0). omega (arith, sub-count x (order v typed sound r qs words quiet), z))
-      (λ (n : count x (ahead i (queue p v)) ≢ 0). gone v typed sound r qs words quiet x (all x (omega arith)))
-      (same? (count x (ahead i (queue p v))) 0))
+      (λ (z : count x (ahead i (queueAt p v)) ≡ 0). omega (arith, sub-count x (order v typed sound r qs words quiet), z))
+      (λ (n : count x (ahead i (queueAt p v)) ≢ 0). gone v typed sound r qs words quiet x (all x (omega arith)))
+      (same? (count x (ahead i (queueAt p v))) 0))

@@ -11,7 +11,7 @@ use Rattle.basics.specs.Lists.{count}
 use Rattle.basics.proofs.Laws.{same?, count-first}
 use Rattle.rules.specs.Answer.{codeOf}
 use Rattle.rules.specs.Tables.{semaphoreCount, semaphoreWidth, eventCount, eventWidth, mailboxCount, mailboxWidth}
-use Rattle.rules.specs.Lines.{line, anyone, first, semaphoreLine, eventLine, mailboxLine, nowhere, taskHome}
+use Rattle.rules.specs.Lines.{line, anyone, frontOf, semaphoreLine, eventLine, mailboxLine, nowhere, taskHome}
 use Rattle.rules.specs.Semaphores as Semaphores
 use Rattle.rules.specs.Events as Events
 use Rattle.rules.specs.Mailboxes as Mailboxes
@@ -76,12 +76,12 @@ reached-line q (nobody e) = inr e
 
 module _ (ts ws ls : List ℕ) (standing : Standing ts ws ls) (i : ℕ) where
   -- who is the first in a line of tasks has it as home
-  pub first-home : (j : ℕ) → OfTasks j → anyone ls j ≡ true → first ls j ≡ i → taskHome ts i ≡ j
+  pub first-home : (j : ℕ) → OfTasks j → anyone ls j ≡ true → frontOf ls j ≡ i → taskHome ts i ≡ j
   first-home j o some e =
       let c : 0 < count i (line ls j) = rw e at (count-first (line ls j) (ltb-true _ _ some)) in
       bit-eq (taskHome ts i) j (rw (standing .tasks i j o) at c)
 
-  pub not-first : (q : Call) → Reaches q → taskHome ts i ≢ servedLine q → anyone ls (servedLine q) ≡ true → first ls (servedLine q) ≢ i
+  pub not-first : (q : Call) → Reaches q → taskHome ts i ≢ servedLine q → anyone ls (servedLine q) ≡ true → frontOf ls (servedLine q) ≢ i
   not-first q r apart some e =
       ⊎-elim
       (λ (h : servedLine q < 32). apart (first-home (servedLine q) (inl h) some e))

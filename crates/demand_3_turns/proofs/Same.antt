@@ -5,7 +5,7 @@ use mathlib.Core.Logic.{_≢_, _⊎_}
 use mathlib.Core.Bool.{true, _||_, cond as if}
 use lib.Dec.{eqb}
 use Rattle.rules.specs.Tables.{semaphoreCount, notInUse, terminated, task, semaphore, KIND}
-use Rattle.rules.specs.Lines.{anyone, first, semaphoreLine, eventLine, mailboxLine, nowhere}
+use Rattle.rules.specs.Lines.{anyone, frontOf, semaphoreLine, eventLine, mailboxLine, nowhere}
 use Rattle.rules.specs.Tasks.{blocked}
 use Rattle.rules.specs.Dispatch.{running}
 use Rattle.rules.specs.declared.Tables.{Tables}
@@ -27,7 +27,7 @@ pub record Unmoved (t : Tables) (q : Call) (i : ℕ) : Type 0 where
   pub rests : running (t .lines) (t .state) ≢ Task i
   pub stays : q .number ≡ 0x01 → q .a ≡ i → task (t .tasks) i .mode < terminated
   pub kept : q .number ≡ 0x02 → q .a ≡ i → (q .b ≡ task (t .tasks) i .priority) ⊎ (blocked (task (t .tasks) i .mode) ≡ true)
-  pub behind : anyone (t .lines) (servedLine q) ≡ true → first (t .lines) (servedLine q) ≢ i
+  pub behind : anyone (t .lines) (servedLine q) ≡ true → frontOf (t .lines) (servedLine q) ≢ i
   pub lasts : task (t .tasks) i .left ≢ 1
 
 -- line j is served in arrival order: a ready queue, a mailbox's, an event's, or a semaphore's of kind 0 or 1

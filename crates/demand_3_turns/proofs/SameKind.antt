@@ -10,10 +10,10 @@ use lib.Dec.{eqb, ltb}
 use borrow.Author.Tests.{eqb-true}
 use Rattle.basics.specs.Lists.{zeros}
 use Rattle.basics.proofs.Laws.{same?}
-use Rattle.rules.specs.Answer.{CallRule, After, codeOf, called}
+use Rattle.rules.specs.Answer.{CallRule, Effect, codeOf, called}
 use Rattle.rules.specs.Tables.{semaphoreCount, semaphoreWidth, semaphore, withSemaphore, USED, KIND, COUNT}
 use Rattle.rules.specs.Lines.{anyone, semaphoreLine}
-use Rattle.rules.specs.Waits.{Served, served}
+use Rattle.rules.specs.Waits.{WaitTables, waitTables}
 use Rattle.rules.specs.Semaphores.{freeSemaphore, createCases, createEffect, deleteCases, deleteEffect, pendCases, pendEffect, postCases, postEffect, resetCases, resetEffect, semaphoreCall}
 use Rattle.rules.specs.Step.{over, withSemaphores, callOf, inRange}
 use Rattle.rules.specs.declared.Tables.{Tables}
@@ -30,8 +30,8 @@ other-word ss a v s f other =
     (λ (n : s ≢ a). field-row semaphoreWidth semaphoreCount ss a COUNT v s f n)
     (same? s a)
 
-module _ (s : ℕ) (q : Served) (used : semaphore (q .objects) s USED ≢ 0) (waiters : anyone (q .lines) (semaphoreLine s) ≡ true) where
-  abbrev Kept : CallRule Served → Type 0
+module _ (s : ℕ) (q : WaitTables) (used : semaphore (q .objects) s USED ≢ 0) (waiters : anyone (q .lines) (semaphoreLine s) ≡ true) where
+  abbrev Kept : CallRule WaitTables → Type 0
   Kept k = codeOf (k .cases) ≡ 0 → semaphore (k .effect .next .objects) s KIND ≡ semaphore (q .objects) s KIND
 
   -- a new one takes a number not in use
@@ -54,15 +54,15 @@ module _ (s : ℕ) (q : Served) (used : semaphore (q .objects) s USED ≢ 0) (wa
   pend-kept : (st : List ℕ) (x a b c d : ℕ) → Kept (called (pendCases (q .objects) st x a b c d) (pendEffect q st a b))
   unfolding pendEffect
   pend-kept st x a b c d z =
-      chosen (λ (r : After Served). semaphore (r .next .objects) s KIND ≡ semaphore (q .objects) s KIND) (ltb 0 (semaphore (q .objects) a COUNT)) _ _
+      chosen (λ (r : Effect WaitTables). semaphore (r .next .objects) s KIND ≡ semaphore (q .objects) s KIND) (ltb 0 (semaphore (q .objects) a COUNT)) _ _
       (λ _. other-word (q .objects) a _ s KIND (λ e. omega arith))
       (λ _.
-      chosen (λ (r : After Served). semaphore (r .next .objects) s KIND ≡ semaphore (q .objects) s KIND) (eqb b 0) _ _ (λ _. refl) (λ _. refl))
+      chosen (λ (r : Effect WaitTables). semaphore (r .next .objects) s KIND ≡ semaphore (q .objects) s KIND) (eqb b 0) _ _ (λ _. refl) (λ _. refl))
 
   post-kept : (a b c d : ℕ) → Kept (called (postCases (q .objects) a b c d) (postEffect q a))
   unfolding postEffect
   post-kept a b c d z =
-      chosen (λ (r : After Served). semaphore (r .next .objects) s KIND ≡ semaphore (q .objects) s KIND) (anyone (q .lines) (semaphoreLine a)) _ _
+      chosen (λ (r : Effect WaitTables). semaphore (r .next .objects) s KIND ≡ semaphore (q .objects) s KIND) (anyone (q .lines) (semaphoreLine a)) _ _
       (λ _. refl)
       (λ _. other-word (q .objects) a _ s KIND (λ e. omega arith))
 
@@ -85,7 +85,7 @@ module _ (s : ℕ) (q : Served) (used : semaphore (q .objects) s USED ≢ 0) (wa
 -- what holds of every call that leaves the semaphores alone, and of the calls on semaphores, holds of all calls
 pub on-semaphores-or-not : (t : Tables) (x number a b c d : ℕ) (P : CallRule Tables → Type 0)
     → ((k : CallRule Tables) → k .effect .next .semaphores ≡ t .semaphores → P k)
-    → P (over (withSemaphores t) (semaphoreCall (served (t .tasks) (t .lines) (t .semaphores)) (t .state) x number a b c d))
+    → P (over (withSemaphores t) (semaphoreCall (waitTables (t .tasks) (t .lines) (t .semaphores)) (t .state) x number a b c d))
     → P (callOf t x number a b c d)
 unfolding callOf
 on-semaphores-or-not t x number a b c d P alone ours =
@@ -110,7 +110,7 @@ pub kind-kept : (t : Tables) (s : ℕ) → semaphore (t .semaphores) s USED ≢ 
     → semaphore (callOf t x number a b c d .effect .next .semaphores) s KIND ≡ semaphore (t .semaphores) s KIND
 kind-kept t s used waiters x number a b c d =
     on-semaphores-or-not t x number a b c d P (λ k e z. ap (λ (ss : List ℕ). semaphore ss s KIND) e)
-    (semaphore-kept s (served (t .tasks) (t .lines) (t .semaphores)) used waiters (t .state) x number a b c d)
+    (semaphore-kept s (waitTables (t .tasks) (t .lines) (t .semaphores)) used waiters (t .state) x number a b c d)
   where
     P : CallRule Tables → Type 0
     P k = codeOf (k .cases) ≡ 0 → semaphore (k .effect .next .semaphores) s KIND ≡ semaphore (t .semaphores) s KIND

@@ -10,7 +10,7 @@ use borrow.Author.Tests.{lt-ltb, le-ltb}
 use Rattle.basics.specs.Lists.{count, ahead, without, putAt}
 use Rattle.basics.proofs.Laws.{same?, count-snoc, count-without-other, putAt-back, ahead-snoc, ahead-without, without-sub}
 use Rattle.rules.specs.Tables.{taskCount, task, withTask}
-use Rattle.rules.specs.Lines.{lineCount, lineMost, line, left, entered, homeOf, taskHome, Queued, queued, moved}
+use Rattle.rules.specs.Lines.{lineCount, lineMost, line, outOf, entered, homeOf, taskHome, TaskQueues, taskQueues, moved}
 use Rattle.rules.specs.Tasks.{blocked}
 use Rattle.rules.specs.declared.Task.{Task}
 use Rattle.rules_laws.proofs.Rows.{by-range}
@@ -63,18 +63,18 @@ module _ (i : ℕ) where
       rw (putAt-back x xs) (omega (arith, count-snoc i x xs), rw (ahead-snoc i x xs h) (Sublistᴰ·refl (ahead i xs)))
 
 -- ---- the tasks and lines y beside x, for task i and the lines that have A
-pub record SameIn (i : ℕ) (A : ℕ → Type 0) (x y : Queued) : Type 0 where
+pub record SameIn (i : ℕ) (A : ℕ → Type 0) (x y : TaskQueues) : Type 0 where
   pub taskLength : length (y .tasks) ≡ length (x .tasks)
   pub lineLength : length (y .lines) ≡ length (x .lines)
   pub row : SameRow (task (x .tasks) i) (task (y .tasks) i)
   pub place : (j : ℕ) → A j → SamePlace i (line (x .lines) j) (line (y .lines) j)
 
 module _ (i : ℕ) (A : ℕ → Type 0) where
-  pub in-refl : (x : Queued) → SameIn i A x x
+  pub in-refl : (x : TaskQueues) → SameIn i A x x
   in-refl x =
       record { taskLength = refl; lineLength = refl; row = row-refl (task (x .tasks) i); place = λ j a. place-same i _ _ refl }
 
-  pub in-trans : (x y z : Queued) → SameIn i A x y → SameIn i A y z → SameIn i A x z
+  pub in-trans : (x y z : TaskQueues) → SameIn i A x y → SameIn i A y z → SameIn i A x z
   in-trans x y z a b =
       record {
         taskLength = b .taskLength ∙ a .taskLength;
@@ -84,8 +84,8 @@ module _ (i : ℕ) (A : ℕ → Type 0) where
       }
 
   -- a row changes, and no line
-  pub in-row : (x : Queued) (w : ℕ) (k : Task) → (w ≡ i → SameRow (task (x .tasks) i) (task (withTask (x .tasks) w k) i))
-      → SameIn i A x (queued (withTask (x .tasks) w k) (x .lines))
+  pub in-row : (x : TaskQueues) (w : ℕ) (k : Task) → (w ≡ i → SameRow (task (x .tasks) i) (task (withTask (x .tasks) w k) i))
+      → SameIn i A x (taskQueues (withTask (x .tasks) w k) (x .lines))
   in-row x w k own =
       record {
         taskLength = length-withTask (x .tasks) w k;
@@ -98,13 +98,13 @@ module _ (i : ℕ) (A : ℕ → Type 0) where
       }
 
   -- the lines of A are as they were
-  pub in-lines : (ts ls ms : List ℕ) → length ms ≡ length ls → ((j : ℕ) → A j → line ms j ≡ line ls j) → SameIn i A (queued ts ls) (queued ts ms)
+  pub in-lines : (ts ls ms : List ℕ) → length ms ≡ length ls → ((j : ℕ) → A j → line ms j ≡ line ls j) → SameIn i A (taskQueues ts ls) (taskQueues ts ms)
   in-lines ts ls ms all same =
       record { taskLength = refl; lineLength = all; row = row-refl (task ts i); place = λ j a. place-same i _ _ (same j a) }
 
   -- ---- another task moves: at the back, or at any place into a line that lacks A
   module _ (w : ℕ) (other : w ≢ i) where
-    pub left-place : (ls : List ℕ) → length ls ≡ 2673 → (h j : ℕ) → SamePlace i (line ls j) (line (left h w ls) j)
+    pub left-place : (ls : List ℕ) → length ls ≡ 2673 → (h j : ℕ) → SamePlace i (line ls j) (line (outOf h w ls) j)
     left-place ls all h j =
         ⊎-elim
         (λ (e : j ≡ h).
@@ -128,16 +128,16 @@ module _ (i : ℕ) (A : ℕ → Type 0) where
         (λ (n : j ≢ h). place-same i _ _ (entered-other ls h w place j n))
         (same? j h)
 
-    module _ (x : Queued) (all : length (x .lines) ≡ 2673) (place : List ℕ → ℕ) (k : Task)
+    module _ (x : TaskQueues) (all : length (x .lines) ≡ 2673) (place : List ℕ → ℕ) (k : Task)
         (back : A (homeOf k) → (xs : List ℕ) → place xs ≡ length xs) where
       -- the lines once it has left its own
       abbrev mid : List ℕ
-      mid = left (taskHome (x .tasks) w) w (x .lines)
+      mid = outOf (taskHome (x .tasks) w) w (x .lines)
 
       mid-length : length mid ≡ length (x .lines)
       mid-length = length-left (x .lines) (taskHome (x .tasks) w) w
 
-      there : SameIn i A x (queued (withTask (x .tasks) w k) (entered place (homeOf k) w mid))
+      there : SameIn i A x (taskQueues (withTask (x .tasks) w k) (entered place (homeOf k) w mid))
       there =
           record {
             taskLength = length-withTask (x .tasks) w k;
@@ -154,7 +154,7 @@ module _ (i : ℕ) (A : ℕ → Type 0) where
       in-moved = by-range w taskCount (λ l. rw (lt-ltb w taskCount l) there) (λ l. rw (le-ltb w taskCount l) (in-refl x))
 
 -- whoever does not move has its row
-pub moved-others : (place : List ℕ → ℕ) (w : ℕ) (k : Task) (x : Queued) (i : ℕ) → w ≢ i → task (moved place w k x .tasks) i ≡ task (x .tasks) i
+pub moved-others : (place : List ℕ → ℕ) (w : ℕ) (k : Task) (x : TaskQueues) (i : ℕ) → w ≢ i → task (moved place w k x .tasks) i ≡ task (x .tasks) i
 unfolding moved
 moved-others place w k x i other =
     by-range w taskCount

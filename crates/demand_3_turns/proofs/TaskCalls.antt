@@ -8,7 +8,7 @@ use borrow.Author.Tests.{eqb-true, eqb-false, ne-eqb, not-false}
 use lib.Dec.{eqb}
 use Rattle.rules.specs.Answer.{T}
 use Rattle.rules.specs.Tables.{Typed, taskCount, notInUse, terminated, inactive, task, noTask}
-use Rattle.rules.specs.Lines.{Queued, queued, atBack}
+use Rattle.rules.specs.Lines.{TaskQueues, taskQueues, atBack}
 use Rattle.rules.specs.Dispatch.{context}
 use Rattle.rules.specs.Tasks.{freeTask, blocked, placedAt, withPriority, reprioritized, createCases, createEffect, deleteCases, deleteEffect, setPriorityCases, setPriorityEffect, yieldCases, yieldEffect, endCases, endEffect, sleepCases, sleepEffect, lastResultEffect, taskCall}
 use Rattle.rules.specs.declared.Tables.{Tables}
@@ -32,10 +32,10 @@ past : (m : ℕ) → (eqb m terminated || eqb m inactive) ≡ true → m < termi
 past m e l = omega (arith, eqb-true m inactive (rw (ne-eqb m terminated (λ z. omega arith)) at e))
 
 module _ (t : Tables) (typed : Typed t) (q : Call) (i : ℕ) (u : Unmoved t q i) where
-  abbrev tq : Queued
-  tq = queued (t .tasks) (t .lines)
+  abbrev tq : TaskQueues
+  tq = taskQueues (t .tasks) (t .lines)
 
-  abbrev whole : Queued → Queued
+  abbrev whole : TaskQueues → TaskQueues
   whole y = y
 
   create-leaves : eqb (freeTask (t .tasks)) taskCount ≡ false → Left t i (createEffect tq (q .a) .next)
@@ -56,10 +56,10 @@ module _ (t : Tables) (typed : Typed t) (q : Call) (i : ℕ) (u : Unmoved t q i)
   unfolding reprioritized
   reprioritized-leaves number used =
       let k = task (t .tasks) (q .a) in
-      chosen (λ (y : Queued). Left t i y) (eqb (q .b) (k .priority)) _ _
+      chosen (λ (y : TaskQueues). Left t i y) (eqb (q .b) (k .priority)) _ _
       (λ _. stay t i)
       (λ new.
-      chosen (λ (y : Queued). Left t i y) (blocked (k .mode)) _ _
+      chosen (λ (y : TaskQueues). Left t i y) (blocked (k .mode)) _ _
       (λ e.
       in-row i (Arrival t) tq (q .a) (withPriority k (q .b))
       (λ own. rw (← own, task-same (t .tasks) (q .a) (withPriority k (q .b)) (typed .tasks) (in-use (t .tasks) (q .a) used)) (repriced k (q .b) e)))

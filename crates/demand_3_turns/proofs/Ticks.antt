@@ -8,10 +8,10 @@ use lib.Dec.{eqb}
 use lib.ListN.{length}
 use Rattle.basics.specs.Find.{rising}
 use Rattle.rules.specs.Tables.{Typed, taskCount, task}
-use Rattle.rules.specs.Lines.{Queued, queued, atBack}
+use Rattle.rules.specs.Lines.{TaskQueues, taskQueues, atBack}
 use Rattle.rules.specs.Sound.{Sound}
 use Rattle.rules.specs.Waits.{readied}
-use Rattle.rules.specs.Tick.{Ticked, tickedOf, oneLess, endedWith, taskTick, clocksTicked, ticked, switchCall}
+use Rattle.rules.specs.Tick.{TickTables, tickTables, oneLess, endedWith, taskTick, clocksTicked, ticked, switchCall}
 use Rattle.rules.specs.Dispatch.{context}
 use Rattle.rules.specs.declared.Tables.{Tables}
 use Rattle.rules.specs.declared.Task.{Task}
@@ -28,30 +28,30 @@ less : (k : Task) → k .left ≢ 0 → SameRow k (oneLess k)
 less k n = record { mode = refl; object = refl; priority = λ _. refl; endless = λ z. absurd (n z); result = (refl, refl) }
 
 -- ---- the tasks' ticks, in rising number
-module _ (i : ℕ) (A : ℕ → Type 0) (x : Queued) (tasks : length (x .tasks) ≡ 256) (lines : length (x .lines) ≡ 2673)
+module _ (i : ℕ) (A : ℕ → Type 0) (x : TaskQueues) (tasks : length (x .tasks) ≡ 256) (lines : length (x .lines) ≡ 2673)
     (lasts : task (x .tasks) i .left ≢ 1) where
   -- those below n have had theirs, and where i is not among them it has the ticks that it had
-  record Ticking (n : ℕ) (y : Queued) : Type 0 where
+  record Ticking (n : ℕ) (y : TaskQueues) : Type 0 where
     so-far : SameIn i A x y
     ahead : n ≤ i → task (y .tasks) i .left ≢ 1
 
   -- a step that leaves i its row, or is its own
-  goes : (n : ℕ) (y z : Queued) → Ticking n y → SameIn i A y z → (n ≢ i → task (z .tasks) i ≡ task (y .tasks) i) → Ticking (suc n) z
+  goes : (n : ℕ) (y z : TaskQueues) → Ticking n y → SameIn i A y z → (n ≢ i → task (z .tasks) i ≡ task (y .tasks) i) → Ticking (suc n) z
   goes n y z k step same =
       record {
         so-far = in-trans i A x y z (k .so-far) step;
         ahead = λ l. rw (same (λ e. omega arith)) (k .ahead (omega arith));
       }
 
-  tick-goes : (n : ℕ) (y : Queued) → Ticking n y → Ticking (suc n) (taskTick y n)
+  tick-goes : (n : ℕ) (y : TaskQueues) → Ticking n y → Ticking (suc n) (taskTick y n)
   unfolding taskTick
   tick-goes n y k =
       let w = task (y .tasks) n in
       let full : length (y .tasks) ≡ 256 = k .so-far .taskLength ∙ tasks in
-      chosen (λ (z : Queued). Ticking (suc n) z) (eqb (w .left) 0) _ _
+      chosen (λ (z : TaskQueues). Ticking (suc n) z) (eqb (w .left) 0) _ _
       (λ _. goes n y y k (in-refl i A y) (λ _. refl))
       (λ some.
-      chosen (λ (z : Queued). Ticking (suc n) z) (eqb (w .left) 1) _ _
+      chosen (λ (z : TaskQueues). Ticking (suc n) z) (eqb (w .left) 1) _ _
       (λ e.
       let last : w .left ≡ 1 = eqb-true _ _ e in
       let other : n ≢ i = λ (own : n ≡ i). k .ahead (omega arith) (rw own at last) in
@@ -76,19 +76,19 @@ module _ (i : ℕ) (A : ℕ → Type 0) (x : Queued) (tasks : length (x .tasks) 
 
 -- ---- the whole tick, and the calls by number
 module _ (t : Tables) (typed : Typed t) (s : Sound t) (q : Call) (i : ℕ) (u : Unmoved t q i) where
-  abbrev tt : Ticked
-  tt = tickedOf (t .tasks) (t .lines) (t .swis) (t .clocks) (t .state)
+  abbrev tt : TickTables
+  tt = tickTables (t .tasks) (t .lines) (t .swis) (t .clocks) (t .state)
 
-  abbrev put : Ticked → Queued
-  put y = queued (y .tasks) (y .lines)
+  abbrev put : TickTables → TaskQueues
+  put y = taskQueues (y .tasks) (y .lines)
 
   tick-leaves : Left t i (put (ticked tt))
   unfolding ticked
   tick-leaves =
       let ls = clocksTicked (t .clocks) (t .swis) (t .lines) .lines in
       let aside = clocks-aside (t .clocks) (t .swis) (t .lines) (posting-starts t s) in
-      in-trans i (Arrival t) _ (queued (t .tasks) ls) _ (aside-leaves t i ls aside)
-      (tasks-ticked i (Arrival t) (queued (t .tasks) ls) (typed .tasks) (aside .full ∙ typed .lines) (u .lasts))
+      in-trans i (Arrival t) _ (taskQueues (t .tasks) ls) _ (aside-leaves t i ls aside)
+      (tasks-ticked i (Arrival t) (taskQueues (t .tasks) ls) (typed .tasks) (aside .full ∙ typed .lines) (u .lasts))
 
   pub switches-leave : Leaves t i put (switchCall tt (context (t .lines) (t .state)) (q .number) (q .a) (q .b) (q .c) (q .d))
   unfolding switchCall

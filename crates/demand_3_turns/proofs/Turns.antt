@@ -11,7 +11,7 @@ use lib.ListN.{length}
 use Rattle.basics.specs.Lists.{bit, count, ahead}
 use Rattle.basics.proofs.Laws.{same?, length-without, ahead-without}
 use Rattle.rules.specs.Tables.{Typed, levels, ready, taskCount, semaphoreCount, task, current, semaphore, state, USED, KIND, DEPTH}
-use Rattle.rules.specs.Lines.{line, anyone, first, semaphoreLine, activeLine, readyLine, homeBy, taskHome, queued, moved, atBack}
+use Rattle.rules.specs.Lines.{line, anyone, frontOf, semaphoreLine, activeLine, readyLine, homeBy, taskHome, taskQueues, moved, atBack}
 use Rattle.rules.specs.Tasks.{blocked, placedAt, reprioritized, setPriorityEffect, yieldEffect, taskCall}
 use Rattle.rules.specs.Waits.{readied}
 use Rattle.rules.specs.Swis.{top}
@@ -22,7 +22,7 @@ use Rattle.rules.specs.declared.Tables.{Tables}
 use Rattle.rules.specs.declared.Task.{Task}
 use Rattle.rules.specs.declared.Thread.the-variants as Threads
 use Rattle.runs.specs.Run.{next}
-use Rattle.runs.specs.Turn.{BlockedOn, beforeAt, isPost, ReadyAt, queue, Undisturbed, Yields}
+use Rattle.runs.specs.Turn.{BlockedOn, beforeAt, isPost, ReadyAt, queueAt, Undisturbed, Yields}
 use Rattle.demand_1_refusals.proofs.Known.{callFor}
 use Rattle.rules_laws.proofs.Levels.{levels-some, levels-under}
 use Rattle.demand_2_soundness.proofs.Groups.{OfTasks, Almost}
@@ -55,8 +55,8 @@ running-current ls st x e = go (ltb 0 (state st DEPTH)) (anyone ls activeLine) e
 -- ---- a ready task
 pub record StaysReady (p i : ℕ) (t : Tables) (q : Call) : Type 0 where
   pub ready : ReadyAt p i (next t q)
-  pub order : Sublistᴰ (ahead i (queue p (next t q))) (ahead i (queue p t))
-  pub yielded : (x : ℕ) → Yields x t q → count x (ahead i (queue p (next t q))) ≡ 0
+  pub order : Sublistᴰ (ahead i (queueAt p (next t q))) (ahead i (queueAt p t))
+  pub yielded : (x : ℕ) → Yields x t q → count x (ahead i (queueAt p (next t q))) ≡ 0
 
 module _ (t : Tables) (typed : Typed t) (s : Sound t) (p i : ℕ) (is : ReadyAt p i t) where
   pub low : i < taskCount
@@ -83,7 +83,7 @@ module _ (t : Tables) (typed : Typed t) (s : Sound t) (p i : ℕ) (is : ReadyAt 
   of-queue : OfTasks (readyLine p)
   of-queue = let h = ready-level in inr (omega arith, omega (arith, levels-under (t .state)))
 
-  pub in-queue : 0 < count i (queue p t)
+  pub in-queue : 0 < count i (queueAt p t)
   in-queue =
       omega (arith, sound-almost t typed s .standing .tasks i (readyLine p) of-queue, bit-same _ _ ready-home)
 
@@ -91,11 +91,11 @@ module _ (t : Tables) (typed : Typed t) (s : Sound t) (p i : ℕ) (is : ReadyAt 
       (keeps : task (next t q .tasks) i .priority ≡ p) where
     -- given another priority it would have it
     set-tasks : q .number ≡ 0x02 → q .a ≡ i → q .b ≢ task (t .tasks) i .priority
-        → callFor t q .effect .next .tasks ≡ moved atBack i (placedAt (task (t .tasks) i) (q .b)) (queued (t .tasks) (t .lines)) .tasks
+        → callFor t q .effect .next .tasks ≡ moved atBack i (placedAt (task (t .tasks) i) (q .b)) (taskQueues (t .tasks) (t .lines)) .tasks
     unfolding callOf taskCall setPriorityEffect reprioritized
     set-tasks e a n = rw (e, a, ne-eqb _ _ n, is .0)
 
-    placed-priority : (b : ℕ) → task (moved atBack i (placedAt (task (t .tasks) i) b) (queued (t .tasks) (t .lines)) .tasks) i .priority ≡ b
+    placed-priority : (b : ℕ) → task (moved atBack i (placedAt (task (t .tasks) i) b) (taskQueues (t .tasks) (t .lines)) .tasks) i .priority ≡ b
     unfolding moved
     placed-priority b =
         rw (lt-ltb i taskCount low) (ap (λ (k : Task). k .priority) (task-same (t .tasks) i (placedAt (task (t .tasks) i) b) (typed .tasks) low))
@@ -124,15 +124,15 @@ module _ (t : Tables) (typed : Typed t) (s : Sound t) (p i : ℕ) (is : ReadyAt 
           lasts = λ e. omega (arith, ready-left);
         }
 
-    same : Left t i (queued (next t q .tasks) (next t q .lines))
+    same : Left t i (taskQueues (next t q .tasks) (next t q .lines))
     same = call-same t typed s q i not-moved
 
     yield-lines : q .number ≡ 0x03
-        → callFor t q .effect .next .lines ≡ moved atBack (current (t .state)) (task (t .tasks) (current (t .state))) (queued (t .tasks) (t .lines)) .lines
+        → callFor t q .effect .next .lines ≡ moved atBack (current (t .state)) (task (t .tasks) (current (t .state))) (taskQueues (t .tasks) (t .lines)) .lines
     unfolding callOf taskCall yieldEffect
     yield-lines e = rw e
 
-    yielder-gone : (x : ℕ) → Yields x t q → count x (ahead i (queue p (next t q))) ≡ 0
+    yielder-gone : (x : ℕ) → Yields x t q → count x (ahead i (queueAt p (next t q))) ≡ 0
     yielder-gone x (runs, number, _) =
         let c : current (t .state) ≡ x = running-current (t .lines) (t .state) x runs in
         let n : i ≢ x = λ e. rests (runs ∙ ap Threads.Task (sym e)) in
@@ -141,7 +141,7 @@ module _ (t : Tables) (typed : Typed t) (s : Sound t) (p i : ℕ) (is : ReadyAt 
         line-after t q ok (readyLine p) of-queue
         ∙ ap (λ (ls : List ℕ). line ls (readyLine p)) (yield-lines number)
         ∙ moved-line t almost atBack (current (t .state)) (task (t .tasks) (current (t .state))) (current-under t s) (current-row t s) (readyLine p) of-queue in
-        rw now (rw c (ahead-back i x (queue p t) (eqb (readyLine p) (taskHome (t .tasks) x)) n in-queue))
+        rw now (rw c (ahead-back i x (queueAt p t) (eqb (readyLine p) (taskHome (t .tasks) x)) n in-queue))
 
     accepted-stays : StaysReady p i t q
     accepted-stays =
@@ -155,7 +155,7 @@ ready-stays t typed s q p i is (rests, keeps) =
     (λ no.
     record {
       ready = rw (no .next) is;
-      order = rw (no .next) (Sublistᴰ·refl (ahead i (queue p t)));
+      order = rw (no .next) (Sublistᴰ·refl (ahead i (queueAt p t)));
       yielded = λ x y. absurd (no .code (y .2));
     })
     (λ ok. accepted-stays t typed s p i is q rests ok keeps)
@@ -223,7 +223,7 @@ module _ (t : Tables) (typed : Typed t) (sound : Sound t) (s i : ℕ) (w : Waite
       wakes = subst (λ (a : ℕ). ServesFirst t q (semaphoreLine a) 0) at (semaphore-wakes t q ok number (rw at has-waiters))
 
       abbrev x : ℕ
-      x = first (t .lines) (semaphoreLine s)
+      x = frontOf (t .lines) (semaphoreLine s)
 
       is-post : isPost s t q ≡ true
       is-post = rw (eq-eqb _ _ number, eq-eqb _ _ at, eq-eqb _ _ (ok .code))
@@ -304,7 +304,7 @@ waiter-stays t typed sound q s i w =
     ⊎-elim
     (λ (d : q .a ≡ s).
     ⊎-elim (λ h. inr (serves t typed sound s i w q ok e d h)) (λ h. inl (passes t typed sound s i w q ok e d h))
-    (same? (first (t .lines) (semaphoreLine s)) i))
+    (same? (frontOf (t .lines) (semaphoreLine s)) i))
     (λ (n : q .a ≢ s). inl (waits-on t typed sound s i w q ok (λ _. n)))
     (same? (q .a) s))
     (λ (n : q .number ≢ 0x23). inl (waits-on t typed sound s i w q ok (λ e. absurd (n e))))

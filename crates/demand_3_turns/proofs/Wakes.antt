@@ -14,7 +14,7 @@ use Rattle.basics.specs.Rule.{Means}
 use Rattle.basics.proofs.Laws.{without-absent}
 use Rattle.rules.specs.Answer.{done}
 use Rattle.rules.specs.Tables.{Typed, taskCount, task, levels}
-use Rattle.rules.specs.Lines.{line, anyone, first, postedLine, queued, taskHome, atBack}
+use Rattle.rules.specs.Lines.{line, anyone, frontOf, postedLine, taskQueues, taskHome, atBack}
 use Rattle.rules.specs.Waits.{readied, woken}
 use Rattle.rules.specs.Sound.{Sound, taskRule}
 use Rattle.rules.specs.declared.Answer.{Answer}
@@ -35,9 +35,9 @@ pub record ServesFirst (t : Tables) (q : Call) (j v : ℕ) : Type 0 where
   pub waiters : j < postedLine 0
   pub some : anyone (t .lines) j ≡ true
   pub outcome : callFor t q .effect .answer .outcome ≡ done
-  pub value : callFor t q .effect .answer .value ≡ first (t .lines) j
-  pub tasks : callFor t q .effect .next .tasks ≡ woken (first (t .lines) j) done v (queued (t .tasks) (t .lines)) .tasks
-  pub lines : callFor t q .effect .next .lines ≡ woken (first (t .lines) j) done v (queued (t .tasks) (t .lines)) .lines
+  pub value : callFor t q .effect .answer .value ≡ frontOf (t .lines) j
+  pub tasks : callFor t q .effect .next .tasks ≡ woken (frontOf (t .lines) j) done v (taskQueues (t .tasks) (t .lines)) .tasks
+  pub lines : callFor t q .effect .next .lines ≡ woken (frontOf (t .lines) j) done v (taskQueues (t .tasks) (t .lines)) .lines
 
 -- a list whose first member stands in it only once: that member, then the list without it
 first-apart : (xs : List ℕ) → 0 < length xs → count (getD xs 0 0) xs ≤ 1 → xs ≡ getD xs 0 0 ∷ without (getD xs 0 0) xs
@@ -49,7 +49,7 @@ first-apart (x ∷ xs) some once =
 
 module _ (t : Tables) (typed : Typed t) (sound : Sound t) (q : Call) (ok : Accepted t q) (j v : ℕ) (w : ServesFirst t q j v) where
   abbrev pub foremost : ℕ
-  foremost = first (t .lines) j
+  foremost = frontOf (t .lines) j
 
   pub wake-done : made t q .answer .outcome ≡ done
   wake-done = ap (λ (r : Answer). r .outcome) (ok .answer) ∙ w .outcome

@@ -13,7 +13,7 @@ use Rattle.rules.specs.Sound.{Sound}
 use Rattle.rules.specs.declared.Tables.{Tables}
 use Rattle.rules.specs.declared.Step.{Step}
 use Rattle.runs.specs.Run.{after, Always, Each, AllWords}
-use Rattle.runs.specs.Turn.{BlockedOn, beforeAt, posts, ServedIn}
+use Rattle.runs.specs.Turn.{BlockedOn, beforeAt, postsOn, ServedIn}
 use Rattle.demands.specs.Promised.{Promised}
 use Rattle.demands.specs.Sequence.{Entered, Sequence, calls, tablesAfter, postsIn, AsEntered}
 use Rattle.demands.specs.Three.{ArrivalOrder, Turn, pend}
@@ -21,7 +21,7 @@ use Rattle.demands.proofs.Three.{demand-3}
 
 -- ---- a sequence of entry calls from sound tables
 pub as-entered : (t : Tables) → Sound t → (es : List Entered) → Sequence t es → AsEntered t es
-unfolding Sequence calls tablesAfter postsIn after posts Each
+unfolding Sequence calls tablesAfter postsIn after postsOn Each
 as-entered t sound [] p = record { tables = refl; posts = λ s. refl; words = tt; sound = sound; typed = λ given. given }
 as-entered t sound (e ∷ es) (p, rest) =
     let k = p .kept sound in
@@ -41,7 +41,7 @@ module _ (t : Tables) (sound : Sound t) (s : ℕ) (arrival : ArrivalOrder s t)
   demand-3-entered =
       let (typed, words) = p .types sound in
       subst (λ (x : Step). Turn s (current (t .state)) (line (t .lines) (semaphoreLine s)) (x .tables)) (sym (p .whole))
-      (demand-3 t typed sound s (words .first) arrival (ap (λ (x : Step). x .answer .outcome) (sym (p .whole)) ∙ waits))
+      (demand-3 t typed sound s (words .a) arrival (ap (λ (x : Step). x .answer .outcome) (sym (p .whole)) ∙ waits))
 
   -- whatever entry calls follow: it is blocked all along, with the posts that were answered with code 0 counted, or one of them served it
   pub turn-entered : (es : List Entered) → Sequence (r .tables) es

@@ -68,7 +68,7 @@ module _ (t : Tables) (typed : Typed t) (sound : Sound t) (s : ℕ) (word : s < 
     (waits : made t (pend s) .answer .outcome ≡ nowWaiting) where
   begun : Typed (next t (pend s)) × Sound (next t (pend s))
   begun =
-      let w : Words (pend s) = record { first = word; second = omega arith; third = omega arith; fourth = omega arith } in
+      let w : Words (pend s) = record { a = word; b = omega arith; c = omega arith; d = omega arith } in
       (next-typed t typed sound (pend s) w, next-sound t typed sound (pend s) w)
 
   behind-others : beforeAt s (current (t .state)) (next t (pend s)) ≡ line (t .lines) (semaphoreLine s)

@@ -6,7 +6,7 @@ use mathlib.Core.List.{List, [], _∷_}
 use lib.ListN.{length, getD}
 use Rattle.rules.specs.Tables.{Typed}
 use Rattle.rules.specs.Answer.{answer}
-use Rattle.rules.specs.Dispatch.{running, dispatched, dispatchedOf}
+use Rattle.rules.specs.Dispatch.{running, dispatched, dispatchTables}
 use Rattle.rules.specs.Sound.{Sound}
 use Rattle.rules.specs.declared.Answer.{Answer}
 use Rattle.rules.specs.declared.Tables.{Tables}
@@ -55,7 +55,7 @@ pub record ListKept (t : Tables) (words : List ℕ) (s : Handed) : Type 0 where
   pub sound : Sound (s .tables)
   pub thread : s .thread ≡ running (s .tables .lines) (s .tables .state)
   pub settled : dispatched (s .tables .swis) (s .tables .lines) (s .tables .state)
-      ≡ dispatchedOf (s .tables .swis) (s .tables .lines) (s .tables .state)
+      ≡ dispatchTables (s .tables .swis) (s .tables .lines) (s .tables .state)
 
 -- ---- what the entry promises of a list handed over on any tables: the whole, and with it demands 1 and 2
 pub record PromisedList (t : Tables) (words room : List ℕ) (s : Handed) : Type 0 where

@@ -12,7 +12,7 @@ use Rattle.rules.specs.Sound.{Sound}
 use Rattle.rules.specs.declared.Tables.{Tables}
 use Rattle.rules.specs.declared.Step.{Step}
 use Rattle.runs.specs.Run.{after, AllWords}
-use Rattle.runs.specs.Turn.{posts}
+use Rattle.runs.specs.Turn.{postsOn}
 use Rattle.demands.specs.Promised.{Promised}
 use Rattle.rules.specs.declared.Call.{Call}
 
@@ -45,7 +45,7 @@ postsIn s (e ∷ es) = bit (isPosted s e) + postsIn s es
 -- what demand 3 speaks of is what the entry calls left
 pub record AsEntered (t : Tables) (es : List Entered) : Type 0 where
   pub tables : tablesAfter t es ≡ after t (calls es)
-  pub posts : (s : ℕ) → postsIn s es ≡ posts s t (calls es)
+  pub posts : (s : ℕ) → postsIn s es ≡ postsOn s t (calls es)
   pub words : AllWords t (calls es)
   pub sound : Sound (tablesAfter t es)
   pub typed : Typed t → Typed (tablesAfter t es)

@@ -16,7 +16,7 @@ use Rattle.rules.specs.Sound.{Sound}
 use Rattle.rules.specs.declared.Tables.{Tables}
 use Rattle.rules.specs.declared.Thread.the-variants.{Task}
 use Rattle.runs.specs.Run.{made, next, after, Always, Each, AllWords}
-use Rattle.runs.specs.Turn.{BlockedOn, beforeAt, posts, ServedIn, ReadyAt, queue, AtFront, Undisturbed, Gone, Unhindered}
+use Rattle.runs.specs.Turn.{BlockedOn, beforeAt, postsOn, ServedIn, ReadyAt, queueAt, AtFront, Undisturbed, Gone, Unhindered}
 use Rattle.rules.specs.declared.Call.{Call}
 
 -- ---- the waiter: task i at semaphore s, behind k others, in tables u
@@ -24,20 +24,20 @@ pub record Waits (s i k : ℕ) (u : Tables) : Type 0 where
   -- whatever calls follow, it is blocked on s all along, with at most k less the accepted posts there before it; or one of the first k + 1
   -- accepted posts on s readied it, and nothing else did
   pub turn : (qs : List Call) → AllWords u qs
-      → (Always (BlockedOn s i) u qs × (length (beforeAt s i (after u qs)) + posts s u qs ≤ k)) ⊎ ServedIn s i k u qs
+      → (Always (BlockedOn s i) u qs × (length (beforeAt s i (after u qs)) + postsOn s u qs ≤ k)) ⊎ ServedIn s i k u qs
   -- and once there were k + 1 it has been readied
-  pub inTime : (qs : List Call) → AllWords u qs → k < posts s u qs → ServedIn s i k u qs
+  pub inTime : (qs : List Call) → AllWords u qs → k < postsOn s u qs → ServedIn s i k u qs
 
 -- ---- the ready task: i of priority p, in tables v
 pub record Queues (p i : ℕ) (v : Tables) : Type 0 where
   -- as long as it does not run and keeps its priority it is ready, and those before it are some of those who were, in their order
   pub order : (qs : List Call) → AllWords v qs → Each (Undisturbed p i) v qs
-      → ReadyAt p i (after v qs) × Sublistᴰ (ahead i (queue p (after v qs))) (ahead i (queue p v))
+      → ReadyAt p i (after v qs) × Sublistᴰ (ahead i (queueAt p (after v qs))) (ahead i (queueAt p v))
   -- who has left the queue or yielded since is not among them
   pub gone : (qs : List Call) → AllWords v qs → Each (Undisturbed p i) v qs → (x : ℕ) → Gone p x v qs
-      → count x (ahead i (queue p (after v qs))) ≡ 0
+      → count x (ahead i (queueAt p (after v qs))) ≡ 0
   -- and once each of them has, it is at the front
-  pub front : (qs : List Call) → AllWords v qs → Each (Undisturbed p i) v qs → ((x : ℕ) → 0 < count x (ahead i (queue p v)) → Gone p x v qs)
+  pub front : (qs : List Call) → AllWords v qs → Each (Undisturbed p i) v qs → ((x : ℕ) → 0 < count x (ahead i (queueAt p v)) → Gone p x v qs)
       → AtFront p i (after v qs)
   -- it runs whenever it is there and nothing stands in its way, whatever calls were made
   pub runs : (qs : List Call) → AllWords v qs → ReadyAt p i (after v qs) → AtFront p i (after v qs) → Unhindered p (after v qs)

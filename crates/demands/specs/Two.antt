@@ -3,7 +3,7 @@
 use mathlib.Core.Path.{_≡_}
 use mathlib.Core.Logic.{_≢_}
 use Rattle.rules.specs.Tables.{Typed}
-use Rattle.rules.specs.Dispatch.{running, dispatched, dispatchedOf}
+use Rattle.rules.specs.Dispatch.{running, dispatched, dispatchTables}
 use Rattle.rules.specs.Sound.{Sound}
 use Rattle.rules.specs.Step.{step}
 use Rattle.rules.specs.declared.Tables.{Tables}
@@ -23,7 +23,7 @@ pub record Kept (t : Tables) (q : Call) (s : Step) : Type 0 where
   -- the running thread is the one that the dispatch rule names on them, and dispatch has nothing left to do
   pub thread : s .thread ≡ running (s .tables .lines) (s .tables .state)
   pub settled : dispatched (s .tables .swis) (s .tables .lines) (s .tables .state)
-      ≡ dispatchedOf (s .tables .swis) (s .tables .lines) (s .tables .state)
+      ≡ dispatchTables (s .tables .swis) (s .tables .lines) (s .tables .state)
 
 -- the demand: of sound tables whose arrays have their types' lengths, and any call whose arguments are words
 abbrev pub DemandTwo : Type 0

@@ -20,7 +20,7 @@ use Rattle.rules.proofs.Runs as Runs
 use Rattle.rules.proofs.Faster.{quickly}
 use Rattle.rules.proofs.Standing.{linesWith, _has_}
 use Rattle.runs.specs.Run.{made, after, Each}
-use Rattle.runs.specs.Turn.{BlockedOn, ServedIn, ReadyAt, queue, AtFront, Undisturbed, Gone, Unhindered}
+use Rattle.runs.specs.Turn.{BlockedOn, ServedIn, ReadyAt, queueAt, AtFront, Undisturbed, Gone, Unhindered}
 use Rattle.demands.specs.Three.{pend, Turn, Queues}
 use Rattle.demands.proofs.Two.{made-fresh-safe}
 use Rattle.demands.proofs.Three.{demand-3}
@@ -143,7 +143,7 @@ accepted : made flooded (asked 0x23 0 0 0 0) .answer .code ≡ 0
 unfolding says
 accepted = let e = to-moment .answers .so in cc
 
-in-moment : ReadyAt 20 2 moment × (ahead 2 (queue 20 moment) ≡ 1 ∷ []) × (task (moment .tasks) 2 .outcome ≡ 0) × (task (moment .tasks) 2 .value ≡ 0)
+in-moment : ReadyAt 20 2 moment × (ahead 2 (queueAt 20 moment) ≡ 1 ∷ []) × (task (moment .tasks) 2 .outcome ≡ 0) × (task (moment .tasks) 2 .value ≡ 0)
 unfolding quickly ahead linesWith tablesOf moment
 in-moment = ((refl, refl), refl, refl, refl)
 
@@ -166,7 +166,7 @@ served =
     }
 
 -- ---- its turn in the queue of priority 20: task 1 ends
-in-ending : ReadyAt 20 2 ending × (queue 20 ending ≡ 2 ∷ []) × (highestReady (levels (ending .state)) (ending .lines) ≡ 21) × (line (ending .lines) activeLine ≡ [])
+in-ending : ReadyAt 20 2 ending × (queueAt 20 ending ≡ 2 ∷ []) × (highestReady (levels (ending .state)) (ending .lines) ≡ 21) × (line (ending .lines) activeLine ≡ [])
 unfolding quickly linesWith tablesOf ending
 in-ending = ((refl, refl), refl, refl, refl)
 
@@ -177,7 +177,7 @@ one-gone : Gone 20 1 moment later
 unfolding count
 one-gone = gone-at-last 20 1 moment later (rw (to-ending .now, in-ending .1))
 
-all-gone : (x : ℕ) → 0 < count x (ahead 2 (queue 20 moment)) → Gone 20 x moment later
+all-gone : (x : ℕ) → 0 < count x (ahead 2 (queueAt 20 moment)) → Gone 20 x moment later
 unfolding count
 all-gone x h =
     ⊎-elim

@@ -23,7 +23,7 @@ use Rattle.rules.specs.declared.Thread.the-variants.{Task, Swi, Interrupt}
 use Rattle.rules.proofs.Runs.{Line, Said, _runs_, look, said, saw, says, calls, answers}
 use Rattle.rules.proofs.Runs as Runs
 use Rattle.runs.specs.Run.{next, after, Each, Always, AllWords}
-use Rattle.runs.specs.Turn.{BlockedOn, posts, ServedIn, queue, Undisturbed, Gone}
+use Rattle.runs.specs.Turn.{BlockedOn, postsOn, ServedIn, queueAt, Undisturbed, Gone}
 use Rattle.demands.proofs.Two.{demand-2}
 use Rattle.rules.specs.Answer.{asked}
 use Rattle.rules.specs.declared.Call.{Call}
@@ -72,12 +72,12 @@ words t (q ∷ qs) e =
     let (abc, d) = and-eq-true-iff _ (ltb (q .d) wordEnd) .0 here in
     let (ab, c) = and-eq-true-iff _ (ltb (q .c) wordEnd) .0 abc in
     let (a, b) = and-eq-true-iff (ltb (q .a) wordEnd) (ltb (q .b) wordEnd) .0 ab in
-    (record { first = ltb-true _ _ a; second = ltb-true _ _ b; third = ltb-true _ _ c; fourth = ltb-true _ _ d }, words (next t q) qs later)
+    (record { a = ltb-true _ _ a; b = ltb-true _ _ b; c = ltb-true _ _ c; d = ltb-true _ _ d }, words (next t q) qs later)
 
 -- ---- that is what the calls do
 record Meant (f : Tables → Tables → Bool) (s : ℕ) (t : Tables) (xs : List Runs.Asked) (r : Pass) : Type 0 where
   says : says t xs ≡ r .says
-  posts : posts s t (asks xs) ≡ r .posts
+  posts : postsOn s t (asks xs) ≡ r .posts
   all : r .all ≡ true → Each (λ u q. f u (next u q) ≡ true) t (asks xs)
   now : after t (asks xs) ≡ r .now
   typed : Typed (r .now)
@@ -85,7 +85,7 @@ record Meant (f : Tables → Tables → Bool) (s : ℕ) (t : Tables) (xs : List 
 
 meant : (f : Tables → Tables → Bool) (s : ℕ) (t : Tables) → Typed t → Sound t → (xs : List Runs.Asked) → AllWords t (asks xs)
     → Meant f s t xs (pass f s t xs)
-unfolding Each after posts says pass
+unfolding Each after postsOn says pass
 meant f s t typed sound [] w = record { says = refl; posts = refl; all = λ e. tt; now = refl; typed = typed; sound = sound }
 meant f s t typed sound (Runs.asked n a b c d ∷ xs) w =
     let k = demand-2 t typed sound (asked n a b c d) (w .0) in
@@ -107,7 +107,7 @@ meant f s t typed sound (look g ∷ xs) w =
 pub record Leads (f : Tables → Tables → Bool) (s : ℕ) (t : Tables) (ls : List Line) (n : ℕ) (u : Tables) : Type 0 where
   pub words : AllWords t (asks (calls ls))
   pub answers : t runs ls
-  pub posts : posts s t (asks (calls ls)) ≡ n
+  pub posts : postsOn s t (asks (calls ls)) ≡ n
   pub all : Each (λ v q. f v (next v q) ≡ true) t (asks (calls ls))
   pub now : after t (asks (calls ls)) ≡ u
   pub typed : Typed u
@@ -174,12 +174,12 @@ not-served s i k u qs a x =
     omega (arith, there .0, rw (x .now) at (x .ready))
 
 -- who has left the queue after all calls is gone
-pub gone-at-last : (p x : ℕ) (t : Tables) (qs : List Call) → count x (queue p (after t qs)) ≡ 0 → Gone p x t qs
+pub gone-at-last : (p x : ℕ) (t : Tables) (qs : List Call) → count x (queueAt p (after t qs)) ≡ 0 → Gone p x t qs
 unfolding after Gone
 gone-at-last p x t [] e = e
 gone-at-last p x t (q ∷ qs) e = inr (inr (gone-at-last p x (next t q) qs e))
 
 -- no task is ready above the highest at which one is
-pub none-higher : (t : Tables) (r : ℕ) → highestReady (levels (t .state)) (t .lines) ≤ r → r < levels (t .state) → queue r t ≡ []
+pub none-higher : (t : Tables) (r : ℕ) → highestReady (levels (t .state)) (t .lines) ≤ r → r < levels (t .state) → queueAt r t ≡ []
 unfolding highestReady
 none-higher t r over under = no-length _ (ltb-false 0 _ (high-is (levels (t .state)) (λ p. anyone (t .lines) (readyLine p)) .after r over under))

@@ -18,7 +18,7 @@ use Rattle.rules.proofs.Runs.{says, calls}
 use Rattle.rules.proofs.Faster.{quickly}
 use Rattle.rules.proofs.Standing.{linesWith}
 use Rattle.runs.specs.Run.{made, after, Each}
-use Rattle.runs.specs.Turn.{BlockedOn, ServedIn, ReadyAt, queue, AtFront, Undisturbed, Gone, Unhindered}
+use Rattle.runs.specs.Turn.{BlockedOn, ServedIn, ReadyAt, queueAt, AtFront, Undisturbed, Gone, Unhindered}
 use Rattle.demands.specs.Three.{pend, Turn, Queues}
 use Rattle.demands.proofs.Three.{demand-3}
 use Rattle.demands_examples.proofs.BySteps.{asks, stays-blocked, stays-undisturbed, gone-at-last, none-higher}
@@ -63,7 +63,7 @@ pub accepted : made flooded (asked 0x23 0 0 0 0) .answer .code ≡ 0
 unfolding says
 accepted = let e = to-moment .answers .so in cc
 
-pub in-moment : ReadyAt 5 3 moment × (ahead 3 (queue 5 moment) ≡ 1 ∷ 2 ∷ []) × (running (moment .lines) (moment .state) ≡ Task 1)
+pub in-moment : ReadyAt 5 3 moment × (ahead 3 (queueAt 5 moment) ≡ 1 ∷ 2 ∷ []) × (running (moment .lines) (moment .state) ≡ Task 1)
     × (task (moment .tasks) 3 .outcome ≡ 0) × (task (moment .tasks) 3 .value ≡ 0)
 unfolding quickly ahead linesWith tablesOf moment
 in-moment = ((refl, refl), refl, refl, refl, refl)
@@ -87,7 +87,7 @@ served =
     }
 
 -- ---- its turn in the queue: of those before it, 1 yields and 2 ends
-pub in-ending : ReadyAt 5 3 ending × (queue 5 ending ≡ 3 ∷ 1 ∷ 4 ∷ []) × (running (ending .lines) (ending .state) ≡ Task 3)
+pub in-ending : ReadyAt 5 3 ending × (queueAt 5 ending ≡ 3 ∷ 1 ∷ 4 ∷ []) × (running (ending .lines) (ending .state) ≡ Task 3)
     × (highestReady (levels (ending .state)) (ending .lines) ≡ 6) × (line (ending .lines) activeLine ≡ [])
 unfolding quickly linesWith tablesOf ending
 in-ending = ((refl, refl), refl, refl, refl, refl)
@@ -107,7 +107,7 @@ pub two-gone : Gone 5 2 moment later
 unfolding count
 two-gone = gone-at-last 5 2 moment later (rw (to-ending .now, in-ending .1))
 
-pub all-gone : (x : ℕ) → 0 < count x (ahead 3 (queue 5 moment)) → Gone 5 x moment later
+pub all-gone : (x : ℕ) → 0 < count x (ahead 3 (queueAt 5 moment)) → Gone 5 x moment later
 unfolding count
 all-gone x h =
     ⊎-elim

@@ -25,7 +25,7 @@ use Rattle.rules.proofs.Runs.{Line, _⇒_, said, calls, says, T, yield, post, t
 use Rattle.rules.proofs.Computed.{computed}
 use Rattle.rules.proofs.Faster.{quickly}
 use Rattle.runs.specs.Run.{made, after}
-use Rattle.runs.specs.Turn.{posts}
+use Rattle.runs.specs.Turn.{postsOn}
 use Rattle.demand_1_refusals.specs.Refusals.{refusal, refusalBy, unknownNumber, among, valueOf, None}
 use Rattle.demands.specs.Two.{Kept}
 use Rattle.demands.specs.Sequence.{Entered, Sequence}
@@ -89,7 +89,7 @@ pub not-where-not-sound : ((t : Tables) (q : Call) → Typed t → Kept t q (mad
 not-where-not-sound every = every stray strange stray-typed .tested (ap (λ (r : Step). r .answer .code) refused)
 
 in-words : (number a : ℕ) → a < wordEnd → Words (asked number a 0 0 0)
-in-words number a h = record { first = h; second = omega arith; third = omega arith; fourth = omega arith }
+in-words number a h = record { a = h; b = omega arith; c = omega arith; d = omega arith }
 
 -- ---- on sound tables each other code may come, as 9: tasks are off, and task 0 yields
 abbrev switchedOff : List Line
@@ -161,7 +161,7 @@ unfoldable pub postsTried : ℕ → List Entered → ℕ
 postsTried s [] = 0
 postsTried s (e ∷ es) = bit (eqb (e .call .number) 0x23 && eqb (e .call .a) s) + postsTried s es
 
-pub not-with-refused-posts : ((t : Tables) → Sound t → (es : List Entered) → Sequence t es → (s : ℕ) → postsTried s es ≡ posts s t (Entries.calls es)) → ⊥
+pub not-with-refused-posts : ((t : Tables) → Sound t → (es : List Entered) → Sequence t es → (s : ℕ) → postsTried s es ≡ postsOn s t (Entries.calls es)) → ⊥
 unfolding postsTried Entries.calls
 not-with-refused-posts every =
     omega (arith, none-posted .posts, every fresh fresh-is-sound (entered (asked 0x23 7 0 0 0) ∷ []) (one-call 0x23 7 (omega arith)) 7)

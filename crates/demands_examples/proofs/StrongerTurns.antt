@@ -16,7 +16,7 @@ use Rattle.rules.proofs.Faster.{quickly}
 use Rattle.rules.proofs.Standing.{linesWith, _has_}
 use Rattle.demand_3_turns.proofs.Fronts.{nobody-before}
 use Rattle.runs.specs.Run.{next, after, Each, AllWords}
-use Rattle.runs.specs.Turn.{BlockedOn, posts, ServedIn, ReadyAt, queue, AtFront, Undisturbed, Gone, Unhindered}
+use Rattle.runs.specs.Turn.{BlockedOn, postsOn, ServedIn, ReadyAt, queueAt, AtFront, Undisturbed, Gone, Unhindered}
 use Rattle.demands_examples.proofs.BySteps.{asks, pass, inWords, Leads, leads, anything, blocked, unchanged, stays-blocked, stays-unchanged, not-served}
 use Rattle.demands_examples.proofs.BySteps.{none-higher}
 use Rattle.demands_examples.proofs.Stated.{Begun, Readied, begun-there}
@@ -40,7 +40,7 @@ unfolding quickly tablesOf alone
 in-alone = (refl, refl)
 
 abbrev pub KAreEnough : ℕ → ℕ → List ℕ → Tables → Type 0
-KAreEnough s i others u = (qs : List Call) → AllWords u qs → length others ≤ posts s u qs → ServedIn s i (length others) u qs
+KAreEnough s i others u = (qs : List Call) → AllWords u qs → length others ≤ postsOn s u qs → ServedIn s i (length others) u qs
 
 pub not-with-k-posts : Begun 2 KAreEnough → ⊥
 not-with-k-posts every =
@@ -51,7 +51,7 @@ not-with-k-posts every =
 -- ---- "none joins in front of it": but those in front may leave. Task 1 yields and task 2 ends
 abbrev pub AllStay : ℕ → ℕ → Tables → Type 0
 AllStay p i v =
-    (qs : List Call) → AllWords v qs → Each (Undisturbed p i) v qs → ahead i (queue p (after v qs)) ≡ ahead i (queue p v)
+    (qs : List Call) → AllWords v qs → Each (Undisturbed p i) v qs → ahead i (queueAt p (after v qs)) ≡ ahead i (queueAt p v)
 
 pub not-all-of-those-before : Readied AllStay → ⊥
 not-all-of-those-before every =
@@ -69,7 +69,7 @@ to-behind : Leads (unchanged 5 3) 0 moment yielding 1 behind
 unfolding quickly linesWith tablesOf pass inWords moment behind
 to-behind = leads (unchanged 5 3) 0 moment (to-moment .typed) (to-moment .sound) yielding 1 behind refl refl
 
-in-behind : count 1 (ahead 3 (queue 5 behind)) ≡ 1
+in-behind : count 1 (ahead 3 (queueAt 5 behind)) ≡ 1
 unfolding quickly ahead linesWith tablesOf behind
 in-behind = refl
 
@@ -80,7 +80,7 @@ one-gone = inr (inl (in-moment .2, refl, yields))
 abbrev pub GoneForGood : ℕ → ℕ → Tables → Type 0
 GoneForGood p i v =
     (qs : List Call) → AllWords v qs → Each (λ t q. task (next t q .tasks) i .priority ≡ p) v qs → (x : ℕ) → Gone p x v qs
-    → count x (ahead i (queue p (after v qs))) ≡ 0
+    → count x (ahead i (queueAt p (after v qs))) ≡ 0
 
 pub not-while-it-runs : Readied GoneForGood → ⊥
 not-while-it-runs every =
@@ -103,13 +103,13 @@ to-outranked : Leads anything 0 moment outranking 1 outranked
 unfolding quickly linesWith tablesOf pass inWords moment outranked
 to-outranked = leads anything 0 moment (to-moment .typed) (to-moment .sound) outranking 1 outranked refl refl
 
-in-outranked : ReadyAt 5 3 outranked × (queue 5 outranked ≡ 3 ∷ drop 1 (queue 5 outranked)) × (running (outranked .lines) (outranked .state) ≡ Task 5)
+in-outranked : ReadyAt 5 3 outranked × (queueAt 5 outranked ≡ 3 ∷ drop 1 (queueAt 5 outranked)) × (running (outranked .lines) (outranked .state) ≡ Task 5)
     × (highestReady (levels (outranked .state)) (outranked .lines) ≡ 7) × (line (outranked .lines) activeLine ≡ [])
 unfolding quickly ahead linesWith outranked
 in-outranked = ((refl, refl), refl, refl, refl, refl)
 
 foremost : AtFront 5 3 outranked
-foremost = record { behind = drop 1 (queue 5 outranked); is = in-outranked .1 }
+foremost = record { behind = drop 1 (queueAt 5 outranked); is = in-outranked .1 }
 
 nearly-unhindered : Unhindered 6 outranked
 unfolding outranked

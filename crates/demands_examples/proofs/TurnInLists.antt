@@ -103,7 +103,7 @@ unfolding nothingDone
 after-bad = ap (λ (h : Handed). h .tables) (bad-is (leftFirst .tables) (first-safe .1))
 
 in-words : Words posted
-in-words = record { first = omega arith; second = omega arith; third = omega arith; fourth = omega arith }
+in-words = record { a = omega arith; b = omega arith; c = omega arith; d = omega arith }
 
 pub mixed : Mixture fresh pieces
 unfolding Mixture

@@ -8,15 +8,15 @@ use borrow.Author.Tests.{eq-eqb, ne-eqb}
 use lib.Dec.{ltb}
 use lib.ListN.{set}
 use Rattle.rules.specs.Tables.{levels, swi, withSwi, state, DEPTH, SWIS}
-use Rattle.rules.specs.Lines.{first, left, joined, postedLine, activeLine}
-use Rattle.rules.specs.Swis.{Posts, posts}
+use Rattle.rules.specs.Lines.{frontOf, outOf, joined, postedLine, activeLine}
+use Rattle.rules.specs.Swis.{SwiQueues, swiQueues}
 use Rattle.rules.specs.Dispatch.{started, swiDue, activeLevel, highestPosted, swiDispatched, taskDue, front, taskDispatched}
 
 -- a Swi starts
 pub started-is : (ws ls : List ℕ) (i j : ℕ) {n v u : ℕ} {ws₁ ws₂ ws₃ ls₁ ls₂ : List ℕ}
     → n ≡ i → v ≡ swi ws n 3 → u ≡ swi ws n 2 → ws₁ ≡ withSwi ws n 5 v → ws₂ ≡ withSwi ws₁ n 3 u → ws₃ ≡ withSwi ws₂ n 4 0
-    → ls₁ ≡ left j i ls → ls₂ ≡ joined activeLine i ls₁
-    → posts ws₃ ls₂ ≡ started i j (posts ws ls)
+    → ls₁ ≡ outOf j i ls → ls₂ ≡ joined activeLine i ls₁
+    → swiQueues ws₃ ls₂ ≡ started i j (swiQueues ws ls)
 unfolding started
 started-is ws ls i j a b c d e f g h = rw (h, g, f, e, d, c, b, a)
 
@@ -36,14 +36,14 @@ module _ (ws ls st : List ℕ) where
 
 -- one is due, and starts; or none is
 module _ (ws ls st : List ℕ) {t : Bool} (is : t ≡ swiDue ws ls st) where
-  pub swi-starts : t ≡ true → {h k j i : ℕ} {x : Posts} → h ≡ highestPosted ls → k ≡ h - 1 → j ≡ 32 + k → i ≡ first ls j
-      → x ≡ started i j (posts ws ls) → x ≡ swiDispatched st (posts ws ls)
+  pub swi-starts : t ≡ true → {h k j i : ℕ} {x : SwiQueues} → h ≡ highestPosted ls → k ≡ h - 1 → j ≡ 32 + k → i ≡ frontOf ls j
+      → x ≡ started i j (swiQueues ws ls) → x ≡ swiDispatched st (swiQueues ws ls)
   unfolding swiDispatched
   swi-starts w a b c d e =
       let line-is = c ∙ ap postedLine (b ∙ ap (λ n. n - 1) a) in
       e ∙ rw (d, line-is, sym is ∙ w)
 
-  pub no-swi : t ≡ false → posts ws ls ≡ swiDispatched st (posts ws ls)
+  pub no-swi : t ≡ false → swiQueues ws ls ≡ swiDispatched st (swiQueues ws ls)
   unfolding swiDispatched
   no-swi w = rw (sym is ∙ w)
 

@@ -18,7 +18,7 @@ use rules::numbers::TAKEN;
 use rules::numbers::TRIGGER;
 ghost use mathlib.Core.Path.{_≡_};
 ghost use Rattle.rules.specs.Dispatch.{context, running, started, swiDispatched, taskDispatched};
-ghost use Rattle.tables.specs.Lent.{old, new, postsOld, postsNew};
+ghost use Rattle.tables.specs.Lent.{old, new, swiQueuesOld, swiQueuesNew};
 
 // The context of a call: 0 a task, 1 a Swi, 2 an interrupt.
 pub fn context(lines: &Lines, state: &State) -> u32
@@ -55,7 +55,7 @@ pub fn running(lines: &Lines, state: &State) -> Thread
 
 // Swi i, posted in line j, starts: its trigger is kept as taken and set back to its initial value.
 pub fn start(swis: &mut Swis, lines: &mut Lines, i: u8, j: usize)
-    ensures { λ _. ⌜ postsNew swis lines ≡ started i j (postsOld swis lines) ⌝ }
+    ensures { λ _. ⌜ swiQueuesNew swis lines ≡ started i j (swiQueuesOld swis lines) ⌝ }
 {
     let n = basics::wide(i);
     let trigger = rows::swi(swis, n, TRIGGER);
@@ -70,7 +70,7 @@ pub fn start(swis: &mut Swis, lines: &mut Lines, i: u8, j: usize)
 // The first Swi at the highest posted priority starts, if one is due. That is tested here and not by `due::swi_due`, so that the highest
 // priority is searched for once.
 pub fn dispatch_swis(swis: &mut Swis, lines: &mut Lines, state: &State)
-    ensures { λ _. ⌜ postsNew swis lines ≡ swiDispatched (old state) (postsOld swis lines) ⌝ }
+    ensures { λ _. ⌜ swiQueuesNew swis lines ≡ swiDispatched (old state) (swiQueuesOld swis lines) ⌝ }
 {
     if state[DEPTH] != 0 {
         return;

@@ -10,8 +10,8 @@ use lib.Dec.{eqb}
 use Rattle.basics.proofs.Laws.{lt-or-le}
 use Rattle.rules.specs.Answer.{notMet, nowWaiting}
 use Rattle.rules.specs.Tables.{state, DEPTH}
-use Rattle.rules.specs.Swis.{Posts, posts}
-use Rattle.rules.specs.Dispatch.{swiDue, swiDispatched, taskDispatched, dispatchedOf}
+use Rattle.rules.specs.Swis.{SwiQueues, swiQueues}
+use Rattle.rules.specs.Dispatch.{swiDue, swiDispatched, taskDispatched, dispatchTables}
 use Rattle.rules.specs.declared.Answer.{Answer}
 use Rattle.demand_2_soundness.proofs.Waiting.{both}
 use Rattle.demand_2_soundness.proofs.Chosen.{chosen}
@@ -77,21 +77,21 @@ module _ {A : Type 0} (some : Bool) (x y : A) where
   if-left e = rw e
 
 -- no Swi is due at depth above 0
-module _ (some : Bool) (st : List ℕ) (x : Posts) where
-  pub swis-done : (some && eqb (state st DEPTH) 0) ≡ true → {z : Posts} → z ≡ swiDispatched st x → z ≡ if some (swiDispatched st x) x
+module _ (some : Bool) (st : List ℕ) (x : SwiQueues) where
+  pub swis-done : (some && eqb (state st DEPTH) 0) ≡ true → {z : SwiQueues} → z ≡ swiDispatched st x → z ≡ if some (swiDispatched st x) x
   swis-done e p = if-done some (swiDispatched st x) x (both some (eqb (state st DEPTH) 0) e .0) p
 
   pub swis-left : (some && eqb (state st DEPTH) 0) ≡ false → x ≡ if some (swiDispatched st x) x
   unfolding swiDispatched swiDue
-  swis-left e = chosen (λ (y : Posts). x ≡ y) some _ _ (λ q. rw (other-fails some (eqb (state st DEPTH) 0) e q)) (λ _. refl)
+  swis-left e = chosen (λ (y : SwiQueues). x ≡ y) some _ _ (λ q. rw (other-fails some (eqb (state st DEPTH) 0) e q)) (λ _. refl)
 
 module _ (n : ℕ) (r : Answer) (ws ls st : List ℕ) where
-  pub settled-refused : r .code ≢ 0 → dispatchedOf ws ls st ≡ settledAfter n r ws ls st
+  pub settled-refused : r .code ≢ 0 → dispatchTables ws ls st ≡ settledAfter n r ws ls st
   unfolding settledAfter
   settled-refused e = rw (ne-eqb (r .code) 0 e)
 
-  pub settled-accepted : r .code ≡ 0 → {p : Parts} {x : Posts} {st′ : List ℕ} → p ≡ leftBy n (r .outcome) (r .value)
-      → x ≡ if (p .swis) (swiDispatched st (posts ws ls)) (posts ws ls) → st′ ≡ if (p .tasks) (taskDispatched (x .lines) st) st
-      → dispatchedOf (x .swis) (x .lines) st′ ≡ settledAfter n r ws ls st
+  pub settled-accepted : r .code ≡ 0 → {p : Parts} {x : SwiQueues} {st′ : List ℕ} → p ≡ leftBy n (r .outcome) (r .value)
+      → x ≡ if (p .swis) (swiDispatched st (swiQueues ws ls)) (swiQueues ws ls) → st′ ≡ if (p .tasks) (taskDispatched (x .lines) st) st
+      → dispatchTables (x .swis) (x .lines) st′ ≡ settledAfter n r ws ls st
   unfolding settledAfter partsSettled
   settled-accepted z {p} {x} {st′} e f g = rw (eq-eqb (r .code) 0 z, g, f, e)

@@ -5,10 +5,10 @@ use mathlib.Core.Bool.{Bool, true, false, cond as if}
 use mathlib.Core.List.{List}
 use borrow.Author.Tests.{eqb-true}
 use lib.Dec.{eqb}
-use Rattle.rules.specs.Answer.{After, after, CallRule, codeOf, refused, answered}
-use Rattle.rules.specs.Lines.{queued}
-use Rattle.rules.specs.Waits.{served}
-use Rattle.rules.specs.Dispatch.{Dispatched, dispatchedOf, dispatched}
+use Rattle.rules.specs.Answer.{Effect, withAnswer, CallRule, codeOf, refused, answered}
+use Rattle.rules.specs.Lines.{taskQueues}
+use Rattle.rules.specs.Waits.{waitTables}
+use Rattle.rules.specs.Dispatch.{DispatchTables, dispatchTables, dispatched}
 use Rattle.rules.specs.Sound.{Sound}
 use Rattle.rules.specs.Step.{inRange, callOf, settled}
 use Rattle.rules.specs.declared.Answer.{Answer}
@@ -54,38 +54,38 @@ module _ (t : Tables) (s : Sound t) where
         ranged (inRange number 0x00)
         (record {
           rule = λ z.
-              let l = tasks-quiet (queued (t .tasks) (t .lines)) (t .state) (s .tasks) (t .state) x number a b c d .leaves z in
+              let l = tasks-quiet (taskQueues (t .tasks) (t .lines)) (t .state) (s .tasks) (t .state) x number a b c d .leaves z in
               of-tasks _ _ (l .swis) (l .none);
         })
         (ranged (inRange number 0x10) whole
         (ranged (inRange number 0x20)
         (record {
           rule = λ z.
-              let l = semaphores-quiet (served (t .tasks) (t .lines) (t .semaphores)) (t .state) (s .tasks) (task-0-never-waits t s) (t .state) x number a b c d .leaves z in
+              let l = semaphores-quiet (waitTables (t .tasks) (t .lines) (t .semaphores)) (t .state) (s .tasks) (task-0-never-waits t s) (t .state) x number a b c d .leaves z in
               of-tasks _ _ (l .swis) (l .none);
         })
         (ranged (inRange number 0x30)
         (record {
           rule = λ z.
-              let l = events-quiet (served (t .tasks) (t .lines) (t .events)) (t .state) (s .tasks) (task-0-never-waits t s) (t .state) x number a b c d .leaves z in
+              let l = events-quiet (waitTables (t .tasks) (t .lines) (t .events)) (t .state) (s .tasks) (task-0-never-waits t s) (t .state) x number a b c d .leaves z in
               of-tasks _ _ (l .swis) (l .none);
         })
         (ranged (inRange number 0x40)
         (record {
           rule = λ z.
-              let l = mailboxes-quiet (served (t .tasks) (t .lines) (t .mailboxes)) (t .state) (s .tasks) (task-0-never-waits t s) (t .state) x number a b c d .leaves z in
+              let l = mailboxes-quiet (waitTables (t .tasks) (t .lines) (t .mailboxes)) (t .state) (s .tasks) (task-0-never-waits t s) (t .state) x number a b c d .leaves z in
               of-tasks _ _ (l .swis) (l .none);
         })
         (ranged (inRange number 0x50) (record { rule = λ _. nothing })
         (ranged (inRange number 0x60) (record { rule = λ _. nothing }) whole))))))
 
     -- after any call: nothing after a refusal
-    abbrev Same : After Tables → Type 0
+    abbrev Same : Effect Tables → Type 0
     Same e =
         settledAfter number (e .answer) (e .next .swis) (e .next .lines) (e .next .state)
         ≡ settled (e .answer .code) (e .next .swis) (e .next .lines) (e .next .state)
 
-    pub settles-is : {r : Answer} {u : Tables} → after r u ≡ answered t (callOf t x number a b c d)
+    pub settles-is : {r : Answer} {u : Tables} → withAnswer r u ≡ answered t (callOf t x number a b c d)
         → settledAfter number r (u .swis) (u .lines) (u .state) ≡ settled (r .code) (u .swis) (u .lines) (u .state)
     unfolding settledAfter
     settles-is q =
@@ -94,6 +94,6 @@ module _ (t : Tables) (s : Sound t) where
         subst Same (sym q)
         (chosen Same (eqb (codeOf (k .cases)) 0) (k .effect) (refused (codeOf (k .cases)) t)
         (λ e.
-        ap (λ (y : Dispatched). if (eqb (k .effect .answer .code) 0) y (dispatchedOf (u .swis) (u .lines) (u .state)))
+        ap (λ (y : DispatchTables). if (eqb (k .effect .answer .code) 0) y (dispatchTables (u .swis) (u .lines) (u .state)))
         (settles .rule (eqb-true (codeOf (k .cases)) 0 e)))
         (λ e. rw e))

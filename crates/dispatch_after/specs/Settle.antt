@@ -5,8 +5,8 @@ use mathlib.Core.Bool.{Bool, true, false, not, _&&_, _||_, cond as if}
 use lib.Dec.{eqb}
 use Rattle.rules.specs.Tables.{LineTable, SwiTable, StateRow}
 use Rattle.rules.specs.Answer.{notMet, nowWaiting}
-use Rattle.rules.specs.Swis.{Posts, posts}
-use Rattle.rules.specs.Dispatch.{Dispatched, dispatchedOf, swiDispatched, taskDispatched}
+use Rattle.rules.specs.Swis.{SwiQueues, swiQueues}
+use Rattle.rules.specs.Dispatch.{DispatchTables, dispatchTables, swiDispatched, taskDispatched}
 use Rattle.rules.specs.Step.{inRange}
 use Rattle.rules.specs.declared.Answer.{Answer}
 use Rattle.dispatch_after.specs.declared.Parts.{Parts}
@@ -40,11 +40,11 @@ leftBy number o v =
     (if (inRange number 0x60) (tasksOnly false) bothParts))))))
 
 -- these parts of the rule
-unfoldable pub partsSettled : Parts → SwiTable → LineTable → StateRow → Dispatched
+unfoldable pub partsSettled : Parts → SwiTable → LineTable → StateRow → DispatchTables
 partsSettled p ws ls st =
-    let x : Posts = if (p .swis) (swiDispatched st (posts ws ls)) (posts ws ls) in
-    dispatchedOf (x .swis) (x .lines) (if (p .tasks) (taskDispatched (x .lines) st) st)
+    let x : SwiQueues = if (p .swis) (swiDispatched st (swiQueues ws ls)) (swiQueues ws ls) in
+    dispatchTables (x .swis) (x .lines) (if (p .tasks) (taskDispatched (x .lines) st) st)
 
 -- nothing after a refusal
-unfoldable pub settledAfter : ℕ → Answer → SwiTable → LineTable → StateRow → Dispatched
-settledAfter number r ws ls st = if (eqb (r .code) 0) (partsSettled (leftBy number (r .outcome) (r .value)) ws ls st) (dispatchedOf ws ls st)
+unfoldable pub settledAfter : ℕ → Answer → SwiTable → LineTable → StateRow → DispatchTables
+settledAfter number r ws ls st = if (eqb (r .code) 0) (partsSettled (leftBy number (r .outcome) (r .value)) ws ls st) (dispatchTables ws ls st)

@@ -10,7 +10,7 @@ ghost use mathlib.Core.Path.{_≡_};
 ghost use mathlib.Core.Bool.{cond};
 ghost use Rattle.rules.specs.Dispatch.{swiDispatched, taskDispatched};
 ghost use Rattle.dispatch_after.specs.Settle.{tasksOnly, bothParts, waitsOrWakes, mailboxMoves, leftBy, settledAfter};
-ghost use Rattle.tables.specs.Lent.{old, new, postsOld, postsNew, dispatchedNew};
+ghost use Rattle.tables.specs.Lent.{old, new, swiQueuesOld, swiQueuesNew, dispatchTablesNew};
 
 // Which parts of the dispatch rule can have something to do: the Swis', the tasks'.
 struct Parts {
@@ -76,7 +76,7 @@ fn left_by(number: u32, outcome: u32, value: u32) -> Parts
 // The Swis' part of dispatch, where one may be due. None is at depth above 0, as after each tick: there
 // no search begins.
 fn settle_swis(some: bool, swis: &mut Swis, lines: &mut Lines, state: &State)
-    ensures { λ _. ⌜ postsNew swis lines ≡ cond some (swiDispatched (old state) (postsOld swis lines)) (postsOld swis lines) ⌝ }
+    ensures { λ _. ⌜ swiQueuesNew swis lines ≡ cond some (swiDispatched (old state) (swiQueuesOld swis lines)) (swiQueuesOld swis lines) ⌝ }
 {
     if some & (state[DEPTH] == 0) {
         dispatch::dispatch_swis(swis, lines, state);
@@ -94,7 +94,7 @@ fn settle_tasks(some: bool, lines: &Lines, state: &mut State)
 
 // Dispatch, after an accepted call only, as far as it can have something to do.
 pub fn settle(number: u32, answer: Answer, swis: &mut Swis, lines: &mut Lines, state: &mut State)
-    ensures { λ _. ⌜ dispatchedNew swis lines state ≡ settledAfter number answer (old swis) (old lines) (old state) ⌝ }
+    ensures { λ _. ⌜ dispatchTablesNew swis lines state ≡ settledAfter number answer (old swis) (old lines) (old state) ⌝ }
 {
     let code = answer.code;
     if code != 0 {

@@ -8,7 +8,7 @@ use borrow.Author.Tests.{ne-eqb}
 use lib.ListN.{set}
 use Rattle.rules.specs.Answer.{unknown}
 use Rattle.rules.specs.Tables.{eventRow}
-use Rattle.rules.specs.Waits.{Served}
+use Rattle.rules.specs.Waits.{WaitTables}
 use Rattle.rules.specs.Events.{eventCall}
 use Rattle.rules_laws.proofs.Rows.{withRow-in, withRow-out}
 
@@ -21,7 +21,7 @@ module _ (es : List ℕ) (i u b : ℕ) where
   put-none h = sym (withRow-out 2 8 es i (u ∷ b ∷ []) h)
 
 -- ---- no call has the number
-pub no-call : (q : Served) (st : List ℕ) (x number a b c d : ℕ)
+pub no-call : (q : WaitTables) (st : List ℕ) (x number a b c d : ℕ)
     → number ≢ 0x30 → number ≢ 0x31 → number ≢ 0x32 → number ≢ 0x33 → eventCall q st x number a b c d ≡ unknown q
 unfolding eventCall
 no-call q st x number a b c d h i j k =

@@ -10,8 +10,8 @@ use rules::numbers::EVENT_ROWS;
 use rules::numbers::T;
 use rules::numbers::USED;
 ghost use mathlib.Core.Path.{_≡_};
-ghost use Rattle.rules.specs.Answer.{after, answered, codeOf};
-ghost use Rattle.rules.specs.Waits.{served};
+ghost use Rattle.rules.specs.Answer.{withAnswer, answered, codeOf};
+ghost use Rattle.rules.specs.Waits.{waitTables};
 ghost use Rattle.rules.specs.Events.{createCases, createEffect, deleteCases, deleteEffect, createCall, deleteCall};
 ghost use Rattle.tables.specs.Lent.{old, new};
 ghost use Rattle.rules.specs.Tables.{TaskTable, LineTable};
@@ -35,7 +35,7 @@ pub fn create_code(events: &Events, x: u32, a: u32, b: u32, c: u32, d: u32) -> u
 
 // The tasks and the lines stay, whatever they are.
 pub fn create_effect(events: &mut Events) -> Answer
-    ensures { λ r. ⌜ ((ts : TaskTable) (ls : LineTable) → after r (served ts ls (new events)) ≡ createEffect (served ts ls (old events))) ⌝ }
+    ensures { λ r. ⌜ ((ts : TaskTable) (ls : LineTable) → withAnswer r (waitTables ts ls (new events)) ≡ createEffect (waitTables ts ls (old events))) ⌝ }
 {
     let i = free_event(events);
     put_event(events, i, 1, 0);
@@ -43,8 +43,8 @@ pub fn create_effect(events: &mut Events) -> Answer
 }
 
 pub fn create(events: &mut Events, x: u32, a: u32, b: u32, c: u32, d: u32) -> Answer
-    ensures { λ r. ⌜ ((ts : TaskTable) (ls : LineTable) → after r (served ts ls (new events))
-        ≡ answered (served ts ls (old events)) (createCall (served ts ls (old events)) x a b c d)) ⌝ }
+    ensures { λ r. ⌜ ((ts : TaskTable) (ls : LineTable) → withAnswer r (waitTables ts ls (new events))
+        ≡ answered (waitTables ts ls (old events)) (createCall (waitTables ts ls (old events)) x a b c d)) ⌝ }
 {
     let code = create_code(events, x, a, b, c, d);
     if code != 0 {
@@ -76,15 +76,15 @@ pub fn delete_code(lines: &Lines, events: &Events, x: u32, a: u32, b: u32, c: u3
 
 // The row is all 0.
 pub fn delete_effect(events: &mut Events, a: u32) -> Answer
-    ensures { λ r. ⌜ ((ts : TaskTable) (ls : LineTable) → after r (served ts ls (new events)) ≡ deleteEffect (served ts ls (old events)) a) ⌝ }
+    ensures { λ r. ⌜ ((ts : TaskTable) (ls : LineTable) → withAnswer r (waitTables ts ls (new events)) ≡ deleteEffect (waitTables ts ls (old events)) a) ⌝ }
 {
     put_event(events, a as usize, 0, 0);
     answers::accepted(DONE, 0)
 }
 
 pub fn delete(lines: &Lines, events: &mut Events, x: u32, a: u32, b: u32, c: u32, d: u32) -> Answer
-    ensures { λ r. ⌜ ((ts : TaskTable) → after r (served ts (old lines) (new events))
-        ≡ answered (served ts (old lines) (old events)) (deleteCall (served ts (old lines) (old events)) x a b c d)) ⌝ }
+    ensures { λ r. ⌜ ((ts : TaskTable) → withAnswer r (waitTables ts (old lines) (new events))
+        ≡ answered (waitTables ts (old lines) (old events)) (deleteCall (waitTables ts (old lines) (old events)) x a b c d)) ⌝ }
 {
     let code = delete_code(lines, events, x, a, b, c, d);
     if code != 0 {

@@ -10,9 +10,9 @@ use rules::Lines;
 use rules::State;
 use rules::Tasks;
 ghost use mathlib.Core.Path.{_≡_};
-ghost use Rattle.rules.specs.Answer.{after, answered};
+ghost use Rattle.rules.specs.Answer.{withAnswer, answered};
 ghost use Rattle.rules.specs.Events.{eventCall};
-ghost use Rattle.tables.specs.Lent.{old, servedOld, servedNew};
+ghost use Rattle.tables.specs.Lent.{old, waitTablesOld, waitTablesNew};
 
 // The call of this number, made by x: 0 a task, 1 a Swi, 2 an interrupt.
 pub fn event_call(
@@ -27,8 +27,8 @@ pub fn event_call(
     c: u32,
     d: u32,
 ) -> Answer
-    ensures { λ r. ⌜ after r (servedNew tasks lines events)
-        ≡ answered (servedOld tasks lines events) (eventCall (servedOld tasks lines events) (old state) x number a b c d) ⌝ }
+    ensures { λ r. ⌜ withAnswer r (waitTablesNew tasks lines events)
+        ≡ answered (waitTablesOld tasks lines events) (eventCall (waitTablesOld tasks lines events) (old state) x number a b c d) ⌝ }
 {
     match number {
         0x30 => calls::create(events, x, a, b, c, d),

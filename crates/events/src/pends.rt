@@ -12,10 +12,10 @@ use rules::numbers::NOT_MET;
 use rules::numbers::NOW_WAITING;
 use rules::numbers::USED;
 ghost use mathlib.Core.Path.{_≡_};
-ghost use Rattle.rules.specs.Answer.{after, answered, codeOf};
+ghost use Rattle.rules.specs.Answer.{withAnswer, answered, codeOf};
 ghost use Rattle.rules.specs.Tables.{event, BITS};
-ghost use Rattle.rules.specs.Events.{matched, waits, pendCases, pendEffect, pendCall};
-ghost use Rattle.tables.specs.Lent.{old, servedOld, servedNew};
+ghost use Rattle.rules.specs.Events.{matched, pendWaits, pendCases, pendEffect, pendCall};
+ghost use Rattle.tables.specs.Lent.{old, waitTablesOld, waitTablesNew};
 
 // What of event a's posted bits matches these masks.
 pub fn event_match(events: &Events, a: u32, and_mask: u32, or_mask: u32) -> u32
@@ -27,8 +27,8 @@ pub fn event_match(events: &Events, a: u32, and_mask: u32, or_mask: u32) -> u32
 // ---- 32: pend, with an and-mask, an or-mask and a limit
 
 // The call would go on to wait.
-pub fn waits(events: &Events, a: u32, b: u32, c: u32, limit: u32) -> bool
-    ensures { λ r. ⌜ r ≡ waits (old events) a b c limit ⌝ }
+pub fn pend_waits(events: &Events, a: u32, b: u32, c: u32, limit: u32) -> bool
+    ensures { λ r. ⌜ r ≡ pendWaits (old events) a b c limit ⌝ }
 {
     (event_match(events, a, b, c) == 0) & (limit != 0)
 }
@@ -55,7 +55,7 @@ pub fn pend_code(
     if (b == 0) & (c == 0) {
         return 4;
     }
-    let begins = waits(events, a, b, c, d);
+    let begins = pend_waits(events, a, b, c, d);
     if (0 < lines::len(lines, EVENT_LINES + i)) | (begins & moves::begins::idle(state)) {
         return 5;
     }
@@ -76,7 +76,7 @@ pub fn pend_effect(
     c: u32,
     limit: u32,
 ) -> Answer
-    ensures { λ r. ⌜ after r (servedNew tasks lines events) ≡ pendEffect (servedOld tasks lines events) (old state) a b c limit ⌝ }
+    ensures { λ r. ⌜ withAnswer r (waitTablesNew tasks lines events) ≡ pendEffect (waitTablesOld tasks lines events) (old state) a b c limit ⌝ }
 {
     let m = event_match(events, a, b, c);
     if m != 0 {
@@ -103,8 +103,8 @@ pub fn pend(
     c: u32,
     d: u32,
 ) -> Answer
-    ensures { λ r. ⌜ after r (servedNew tasks lines events)
-        ≡ answered (servedOld tasks lines events) (pendCall (servedOld tasks lines events) (old state) x a b c d) ⌝ }
+    ensures { λ r. ⌜ withAnswer r (waitTablesNew tasks lines events)
+        ≡ answered (waitTablesOld tasks lines events) (pendCall (waitTablesOld tasks lines events) (old state) x a b c d) ⌝ }
 {
     let code = pend_code(lines, events, state, x, a, b, c, d);
     if code != 0 {

@@ -8,9 +8,9 @@ use rules::numbers::DONE;
 use rules::numbers::EVENT_LINES;
 use rules::numbers::USED;
 ghost use mathlib.Core.Path.{_≡_};
-ghost use Rattle.rules.specs.Answer.{after, answered, codeOf};
+ghost use Rattle.rules.specs.Answer.{withAnswer, answered, codeOf};
 ghost use Rattle.rules.specs.Events.{waiterMatch, postedBits, postCases, postEffect, postCall};
-ghost use Rattle.tables.specs.Lent.{old, servedOld, servedNew};
+ghost use Rattle.tables.specs.Lent.{old, waitTablesOld, waitTablesNew};
 
 // What of these bits the waiter at event a matches; 0 where nobody waits.
 pub fn waiter_match(tasks: &Tasks, lines: &Lines, a: u32, bits: u32) -> u32
@@ -19,7 +19,7 @@ pub fn waiter_match(tasks: &Tasks, lines: &Lines, a: u32, bits: u32) -> u32
     let j = EVENT_LINES + a as usize;
     if 0 < lines::len(lines, j) {
         let k = rows::task(tasks, basics::wide(lines::first(lines, j)));
-        return rows::readings::matched(bits, k.first, k.second);
+        return rows::readings::matched(bits, k.held, k.mask);
     }
     0
 }
@@ -46,7 +46,7 @@ pub fn post_bits(
     a: u32,
     bits: u32,
 ) -> Answer
-    ensures { λ r. ⌜ after r (servedNew tasks lines events) ≡ postedBits (servedOld tasks lines events) a bits ⌝ }
+    ensures { λ r. ⌜ withAnswer r (waitTablesNew tasks lines events) ≡ postedBits (waitTablesOld tasks lines events) a bits ⌝ }
 {
     let i = a as usize;
     let m = waiter_match(tasks, lines, a, bits);
@@ -65,7 +65,7 @@ pub fn post_effect(
     a: u32,
     mask: u32,
 ) -> Answer
-    ensures { λ r. ⌜ after r (servedNew tasks lines events) ≡ postEffect (servedOld tasks lines events) a mask ⌝ }
+    ensures { λ r. ⌜ withAnswer r (waitTablesNew tasks lines events) ≡ postEffect (waitTablesOld tasks lines events) a mask ⌝ }
 {
     let bits = rows::event(events, a as usize, BITS);
     post_bits(tasks, lines, events, a, bits | mask)
@@ -80,8 +80,8 @@ pub fn post(
     c: u32,
     d: u32,
 ) -> Answer
-    ensures { λ r. ⌜ after r (servedNew tasks lines events)
-        ≡ answered (servedOld tasks lines events) (postCall (servedOld tasks lines events) a b c d) ⌝ }
+    ensures { λ r. ⌜ withAnswer r (waitTablesNew tasks lines events)
+        ≡ answered (waitTablesOld tasks lines events) (postCall (waitTablesOld tasks lines events) a b c d) ⌝ }
 {
     let code = post_code(events, a, c, d);
     if code != 0 {

@@ -13,7 +13,7 @@ use Rattle.basics.specs.Lists.{zeros}
 use Rattle.basics.specs.Find.{firstBelow, firstFrom}
 use Rattle.basics.proofs.Runs.{sets-snoc}
 use Rattle.rules.specs.Heap.{unit, withUnits, unitsOf, lowestRun, blockSize, isBlock, takeEffect, giveEffect}
-use Rattle.rules.specs.Answer.{answer, after}
+use Rattle.rules.specs.Answer.{answer, withAnswer}
 use Rattle.rules.specs.declared.Answer.{Answer}
 use Rattle.heap.specs.Free.{adjacent}
 
@@ -83,7 +83,7 @@ module _ (u n v : ℕ) where
 
 -- ---- the effects
 pub take-is : (h : List ℕ) (a : ℕ) {n u : ℕ} {g : List ℕ} {r : Answer} → n ≡ unitsOf a → u ≡ lowestRun h n
-    → g ≡ withUnits h u (1 ∷ replicate (n - 1) 2) → r ≡ answer 0 0 (u * 8) → after r g ≡ takeEffect h a
+    → g ≡ withUnits h u (1 ∷ replicate (n - 1) 2) → r ≡ answer 0 0 (u * 8) → withAnswer r g ≡ takeEffect h a
 unfolding takeEffect
 take-is h a p q e f = rw (f, e, q, p)
 
@@ -108,7 +108,7 @@ block-is h a b c e =
     (and-eq-true-iff (eqb (a % 8) 0 && eqb (unit h (a / 8)) 1) (eqb (unitsOf b) (blockSize h (a / 8))) .0 (holds (isBlock h a b) c e) .1)
 
 pub give-is : (h : List ℕ) (a : ℕ) {n : ℕ} {g : List ℕ} {r : Answer} → n ≡ blockSize h (a / 8)
-    → g ≡ withUnits h (a / 8) (0 ∷ replicate (n - 1) 0) → r ≡ answer 0 0 0 → after r g ≡ giveEffect h a
+    → g ≡ withUnits h (a / 8) (0 ∷ replicate (n - 1) 0) → r ≡ answer 0 0 0 → withAnswer r g ≡ giveEffect h a
 unfolding giveEffect
 give-is h a q e f =
-    rw (f, e, q) (ap (λ (es : List ℕ). after (answer 0 0 0) (withUnits h (a / 8) es)) (cleared (blockSize h (a / 8)) (some h (a / 8))))
+    rw (f, e, q) (ap (λ (es : List ℕ). withAnswer (answer 0 0 0) (withUnits h (a / 8) es)) (cleared (blockSize h (a / 8)) (some h (a / 8))))

@@ -18,14 +18,14 @@ use rules::numbers::T;
 use rules::numbers::UNIT_BYTES;
 use rules::numbers::UNIT_WIDTH;
 ghost use mathlib.Core.Path.{_≡_};
-ghost use Rattle.rules.specs.Answer.{after, answered};
+ghost use Rattle.rules.specs.Answer.{withAnswer, answered};
 ghost use Rattle.tables.specs.Lent.{old, new};
 ghost use Rattle.rules.specs.Heap.{takeCall, giveCall};
 
 // ---- 60 take (bytes)
 
 pub fn take(heap: &mut Heap, x: u32, a: u32, b: u32, c: u32, d: u32) -> Answer
-    ensures { λ r. ⌜ after r (new heap) ≡ answered (old heap) (takeCall (old heap) x a b c d) ⌝ }
+    ensures { λ r. ⌜ withAnswer r (new heap) ≡ answered (old heap) (takeCall (old heap) x a b c d) ⌝ }
 {
     if x != T {
         return refused(2);
@@ -45,7 +45,7 @@ pub fn take(heap: &mut Heap, x: u32, a: u32, b: u32, c: u32, d: u32) -> Answer
 // ---- 61 give back (offset, bytes)
 
 pub fn give_back(heap: &mut Heap, x: u32, a: u32, b: u32, c: u32, d: u32) -> Answer
-    ensures { λ r. ⌜ after r (new heap) ≡ answered (old heap) (giveCall (old heap) x a b c d) ⌝ }
+    ensures { λ r. ⌜ withAnswer r (new heap) ≡ answered (old heap) (giveCall (old heap) x a b c d) ⌝ }
 {
     if x != T {
         return refused(2);

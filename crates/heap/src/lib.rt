@@ -9,14 +9,14 @@ use calls::take;
 use rules::Answer;
 use rules::Heap;
 ghost use mathlib.Core.Path.{_≡_};
-ghost use Rattle.rules.specs.Answer.{after, answered};
+ghost use Rattle.rules.specs.Answer.{withAnswer, answered};
 ghost use Rattle.rules.specs.Heap.{heapCall};
 ghost use Rattle.tables.specs.Lent.{old, new};
 
 // ---- the calls by number
 
 pub fn heap_call(heap: &mut Heap, x: u32, number: u32, a: u32, b: u32, c: u32, d: u32) -> Answer
-    ensures { λ r. ⌜ after r (new heap) ≡ answered (old heap) (heapCall (old heap) x number a b c d) ⌝ }
+    ensures { λ r. ⌜ withAnswer r (new heap) ≡ answered (old heap) (heapCall (old heap) x number a b c d) ⌝ }
 {
     match number {
         0x60 => take(heap, x, a, b, c, d),

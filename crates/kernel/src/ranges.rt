@@ -18,7 +18,7 @@ use swis::swi_call;
 use switches::switch_call;
 use tasks::task_call;
 ghost use mathlib.Core.Path.{_≡_};
-ghost use Rattle.rules.specs.Answer.{after, answered};
+ghost use Rattle.rules.specs.Answer.{withAnswer, answered};
 ghost use Rattle.rules.specs.Dispatch.{context};
 ghost use Rattle.rules.specs.Step.{callOf};
 ghost use Rattle.tables.specs.Lent.{old, tablesOld, tablesNew};
@@ -40,7 +40,7 @@ pub fn any_call(
     c: u32,
     d: u32,
 ) -> Answer
-    ensures { λ r. ⌜ after r (tablesNew tasks lines semaphores events mailboxes swis clocks heap state)
+    ensures { λ r. ⌜ withAnswer r (tablesNew tasks lines semaphores events mailboxes swis clocks heap state)
         ≡ answered (tablesOld tasks lines semaphores events mailboxes swis clocks heap state)
         (callOf (tablesOld tasks lines semaphores events mailboxes swis clocks heap state) (context (old lines) (old state)) number a b c d) ⌝ }
 {

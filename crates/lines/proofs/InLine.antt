@@ -7,7 +7,7 @@ use lib.ListN.{length, getD, set}
 use Rattle.basics.specs.Lists.{without, putAt}
 use Rattle.basics.proofs.Laws.{putAt-back}
 use Rattle.rules.specs.Rows.{listed, withListed}
-use Rattle.rules.specs.Lines.{line, withLine, left, entered, joined, atBack}
+use Rattle.rules.specs.Lines.{line, withLine, outOf, entered, joined, atBack}
 use Rattle.rules_laws.proofs.Rows.{by-range}
 use Rattle.rules_laws.proofs.Listed.{length-listed, at-listed}
 use Rattle.rules_laws.proofs.InPlace.{Kept, kept-all, Shifted, shifted-all, joined-is}
@@ -37,8 +37,8 @@ module _ (ls : List ℕ) (j : ℕ) where
     listed-len e = e ∙ ap length (line-in ls j h)
 
     pub left-is : (x k : ℕ) {n : ℕ} {now : List ℕ} → Kept 32 ls (j * 33) x k n now → length (listed 32 ls (j * 33)) ≤ k
-        → set now (j * 33) n ≡ left j x ls
-    unfolding left
+        → set now (j * 33) n ≡ outOf j x ls
+    unfolding outOf
     left-is x k inv q =
         kept-all 32 ls (j * 33) x k inv q
         ∙ sym (ap (λ (l : List ℕ). withLine ls j (without x l)) (line-in ls j h) ∙ withLine-in ls j (without x (listed 32 ls (j * 33))) h)
@@ -72,7 +72,7 @@ module _ (ls : List ℕ) (j : ℕ) where
             → set (set now (j * 33 + 1 + k) carry) (j * 33) (n + 1) ≡ entered (λ xs. place) j x ls
         insert-is place x carry k inv q = shifted-all 32 ls (j * 33) place x k inv room-length q ∙ sym (entered-is (λ xs. place) x)
 
-  pub left-past : (x : ℕ) → 81 ≤ j → ls ≡ left j x ls
+  pub left-past : (x : ℕ) → 81 ≤ j → ls ≡ outOf j x ls
   left-past x h = sym (left-out ls j x h)
 
   pub entered-past : (place : List ℕ → ℕ) (x : ℕ) → 81 ≤ j → ls ≡ entered place j x ls

@@ -19,7 +19,7 @@ use rules::numbers::READY_LINES;
 use rules::numbers::WRITING;
 ghost use mathlib.Core.Path.{_≡_};
 ghost use lib.ListN.{length, getD};
-ghost use Rattle.rules.specs.Lines.{line, first, left, entered, joined, homeOf, anyone};
+ghost use Rattle.rules.specs.Lines.{line, frontOf, outOf, entered, joined, homeOf, anyone};
 ghost use Rattle.rules.specs.Swis.{top};
 ghost use Rattle.tables.specs.Lent.{old, new};
 
@@ -45,14 +45,14 @@ pub fn member(lines: &Lines, j: usize, k: usize) -> u8
 
 // The one at the front of line j; 0 where nobody stands there.
 pub fn first(lines: &Lines, j: usize) -> u8
-    ensures { λ r. ⌜ r ≡ first (old lines) j ⌝ }
+    ensures { λ r. ⌜ r ≡ frontOf (old lines) j ⌝ }
 {
     member(lines, j, 0)
 }
 
 // x out of line j wherever it stands, the rest moved up.
 pub fn leave(lines: &mut Lines, j: usize, x: u8)
-    ensures { λ _. ⌜ new lines ≡ left j x (old lines) ⌝ }
+    ensures { λ _. ⌜ new lines ≡ outOf j x (old lines) ⌝ }
 {
     if j < LINE_COUNT {
         let at = j * LINE_WIDTH;

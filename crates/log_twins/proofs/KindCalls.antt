@@ -10,10 +10,10 @@ use lib.ListN.{length}
 use borrow.Author.Tests.{eqb-true, lt-ltb, le-ltb}
 use Rattle.rules.specs.Tables.{fewLevels, mostLevels, levels, state, current, LEVELS, raisedState}
 use Rattle.rules.specs.Answer.{CallRule}
-use Rattle.rules.specs.Lines.{Queued}
-use Rattle.rules.specs.Waits.{Served, switchOff, idle}
+use Rattle.rules.specs.Lines.{TaskQueues}
+use Rattle.rules.specs.Waits.{WaitTables, switchOff, idle}
 use Rattle.rules.specs.Tasks.{isPriority, createCases, setPriorityCases, yieldCases, yieldEffect, endCases, endEffect, sleepCases, sleepEffect, taskCall}
-use Rattle.rules.specs.Swis.{Posts, swiCall}
+use Rattle.rules.specs.Swis.{SwiQueues, swiCall}
 use Rattle.rules.specs.Swis as Swis
 use Rattle.rules.specs.Semaphores.{semaphoreCall}
 use Rattle.rules.specs.Semaphores as Semaphores
@@ -67,21 +67,21 @@ module _ (st : List ℕ) where
   running-same ls = rw (raised-depth st, current-same)
 
   -- ---- the calls of Swis, semaphores, events and mailboxes
-  pub swis-alike : (p : Posts) (cs : List ℕ) (x number a b c d : ℕ)
+  pub swis-alike : (p : SwiQueues) (cs : List ℕ) (x number a b c d : ℕ)
       → swiCall p cs (raisedState st) x number a b c d ≡ swiCall p cs st x number a b c d
   unfolding swiCall Swis.endCases
   swis-alike p cs x number a b c d = rw (raised-swis st)
 
-  pub semaphores-alike : (q : Served) (x number a b c d : ℕ)
+  pub semaphores-alike : (q : WaitTables) (x number a b c d : ℕ)
       → semaphoreCall q (raisedState st) x number a b c d ≡ semaphoreCall q st x number a b c d
   unfolding semaphoreCall Semaphores.pendCases Semaphores.pendEffect
   semaphores-alike q x number a b c d = rw (idle-same, off-same, current-same)
 
-  pub events-alike : (q : Served) (x number a b c d : ℕ) → eventCall q (raisedState st) x number a b c d ≡ eventCall q st x number a b c d
+  pub events-alike : (q : WaitTables) (x number a b c d : ℕ) → eventCall q (raisedState st) x number a b c d ≡ eventCall q st x number a b c d
   unfolding eventCall Events.pendCases Events.pendEffect
   events-alike q x number a b c d = rw (idle-same, off-same, current-same)
 
-  pub mailboxes-alike : (q : Served) (x number a b c d : ℕ)
+  pub mailboxes-alike : (q : WaitTables) (x number a b c d : ℕ)
       → mailboxCall q (raisedState st) x number a b c d ≡ mailboxCall q st x number a b c d
   unfolding mailboxCall Mailboxes.postCases Mailboxes.postEffect Mailboxes.pendCases Mailboxes.pendEffect
   mailboxes-alike q x number a b c d = rw (idle-same, off-same, current-same)
@@ -91,11 +91,11 @@ module _ (st : List ℕ) where
     priority-same : (p : ℕ) → Low p → isPriority (levels (raisedState st)) p ≡ isPriority (levels st) p
     priority-same p low = rw (raised-levels st size, levels-few st few) (low-priority p low)
 
-    pub tasks-alike : (q : Queued) (x number a b c d : ℕ) → LowCall number a b
+    pub tasks-alike : (q : TaskQueues) (x number a b c d : ℕ) → LowCall number a b
         → taskCall q (raisedState st) x number a b c d ≡ taskCall q st x number a b c d
     unfolding taskCall createCases setPriorityCases yieldCases yieldEffect endCases endEffect sleepCases sleepEffect
     tasks-alike q x number a b c d low =
-        let same : CallRule Queued → CallRule Queued = λ k. k in
+        let same : CallRule TaskQueues → CallRule TaskQueues = λ k. k in
         alike same (eqb number 0x00) (λ e. rw (priority-same a (low .create (eqb-true number 0 e))))
         (alike same (eqb number 0x01) (λ _. refl)
         (alike same (eqb number 0x02) (λ e. rw (priority-same b (low .setPriority (eqb-true number 2 e)), current-same))

@@ -33,10 +33,10 @@ module _ (s : List ℕ) (bytes : Bytes s) (start : ℕ) where
       → Words (asked number (argument (argumentBytes s start) 0) (argument (argumentBytes s start) 1) (argument (argumentBytes s start) 2) (argument (argumentBytes s start) 3))
   record-words number =
       record {
-        first = argument-word 0 (omega arith);
-        second = argument-word 1 (omega arith);
-        third = argument-word 2 (omega arith);
-        fourth = argument-word 3 (omega arith);
+        a = argument-word 0 (omega arith);
+        b = argument-word 1 (omega arith);
+        c = argument-word 2 (omega arith);
+        d = argument-word 3 (omega arith);
       }
 
 -- ---- two logs that are twins

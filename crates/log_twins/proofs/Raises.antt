@@ -7,13 +7,13 @@ use mathlib.Core.List.{List}
 use native.Mathlib.Omega.{arith}
 use lib.Dec.{eqb}
 use lib.ListN.{length, length-set}
-use Rattle.rules.specs.Answer.{After, CallRule, codeOf, answered, asked, Words}
+use Rattle.rules.specs.Answer.{Effect, CallRule, codeOf, answered, asked, Words}
 use Rattle.rules.specs.Tables.{Typed, raised, fewLevels, mostLevels, state, CURRENT, LEVELS, raisedState}
-use Rattle.rules.specs.Lines.{queued}
-use Rattle.rules.specs.Waits.{served}
-use Rattle.rules.specs.Swis.{Posts, posts}
-use Rattle.rules.specs.Tick.{tickedOf}
-use Rattle.rules.specs.Dispatch.{context, front, taskDue, swiDispatched, taskDispatched, Dispatched, dispatchedOf, dispatched}
+use Rattle.rules.specs.Lines.{taskQueues}
+use Rattle.rules.specs.Waits.{waitTables}
+use Rattle.rules.specs.Swis.{SwiQueues, swiQueues}
+use Rattle.rules.specs.Tick.{tickTables}
+use Rattle.rules.specs.Dispatch.{context, front, taskDue, swiDispatched, taskDispatched, DispatchTables, dispatchTables, dispatched}
 use Rattle.rules.specs.Sound.{Sound}
 use Rattle.rules.specs.Step.{over, inRange, callOf, settled, stepOf, finished, step, call}
 use Rattle.rules.specs.declared.Tables.{Tables}
@@ -36,19 +36,19 @@ module _ (t : Tables) (typed : Typed t) (few : state (t .state) LEVELS ≡ fewLe
   unfolding callOf
   call-alike x =
       alike raisedCall (inRange number 0x00)
-      (λ _. rw (tasks-alike (t .state) (typed .state) few (queued (t .tasks) (t .lines)) x number a b c d low))
+      (λ _. rw (tasks-alike (t .state) (typed .state) few (taskQueues (t .tasks) (t .lines)) x number a b c d low))
       (alike raisedCall (inRange number 0x10)
-      (λ _. rw (swis-alike (t .state) (posts (t .swis) (t .lines)) (t .clocks) x number a b c d))
+      (λ _. rw (swis-alike (t .state) (swiQueues (t .swis) (t .lines)) (t .clocks) x number a b c d))
       (alike raisedCall (inRange number 0x20)
-      (λ _. rw (semaphores-alike (t .state) (served (t .tasks) (t .lines) (t .semaphores)) x number a b c d))
+      (λ _. rw (semaphores-alike (t .state) (waitTables (t .tasks) (t .lines) (t .semaphores)) x number a b c d))
       (alike raisedCall (inRange number 0x30)
-      (λ _. rw (events-alike (t .state) (served (t .tasks) (t .lines) (t .events)) x number a b c d))
+      (λ _. rw (events-alike (t .state) (waitTables (t .tasks) (t .lines) (t .events)) x number a b c d))
       (alike raisedCall (inRange number 0x40)
-      (λ _. rw (mailboxes-alike (t .state) (served (t .tasks) (t .lines) (t .mailboxes)) x number a b c d))
+      (λ _. rw (mailboxes-alike (t .state) (waitTables (t .tasks) (t .lines) (t .mailboxes)) x number a b c d))
       (alike raisedCall (inRange number 0x50) (λ _. refl)
       (alike raisedCall (inRange number 0x60) (λ _. refl)
       (alike raisedCall (inRange number 0x70)
-      (λ _. rw (switches-alike (tickedOf (t .tasks) (t .lines) (t .swis) (t .clocks) (t .state)) x number a b c d))
+      (λ _. rw (switches-alike (tickTables (t .tasks) (t .lines) (t .swis) (t .clocks) (t .state)) x number a b c d))
       refl)))))))
 
 -- ---- dispatch
@@ -79,24 +79,24 @@ task-alike ls st fits =
     rw (raised-task-due st ls, raised-levels st size, levels-few st few, fits .front)
     (alike raisedState (taskDue ls st) (λ _. store-aside st CURRENT _ (λ e. omega arith)) refl)
 
-swi-alike : (st : List ℕ) (x : Posts) → swiDispatched (raisedState st) x ≡ swiDispatched st x
+swi-alike : (st : List ℕ) (x : SwiQueues) → swiDispatched (raisedState st) x ≡ swiDispatched st x
 unfolding swiDispatched
 swi-alike st x = rw (raised-swi-due st (x .swis) (x .lines))
 
-abbrev raisedDispatched : Dispatched → Dispatched
-raisedDispatched x = dispatchedOf (x .swis) (x .lines) (raisedState (x .state))
+abbrev raisedDispatched : DispatchTables → DispatchTables
+raisedDispatched x = dispatchTables (x .swis) (x .lines) (raisedState (x .state))
 
 dispatched-alike : (ws ls st : List ℕ) → Fits (dispatched ws ls st .lines) (dispatched ws ls st .state)
     → dispatched ws ls (raisedState st) ≡ raisedDispatched (dispatched ws ls st)
 unfolding dispatched
-dispatched-alike ws ls st fits = rw (swi-alike st (posts ws ls), task-alike (swiDispatched st (posts ws ls) .lines) st fits)
+dispatched-alike ws ls st fits = rw (swi-alike st (swiQueues ws ls), task-alike (swiDispatched st (swiQueues ws ls) .lines) st fits)
 
 settled-alike : (code : ℕ) (ws ls st : List ℕ) → Fits (settled code ws ls st .lines) (settled code ws ls st .state)
     → settled code ws ls (raisedState st) ≡ raisedDispatched (settled code ws ls st)
 settled-alike code ws ls st = go (eqb code 0)
   where
-    chosenBy : Bool → List ℕ → Dispatched
-    chosenBy b su = if b (dispatched ws ls su) (dispatchedOf ws ls su)
+    chosenBy : Bool → List ℕ → DispatchTables
+    chosenBy b su = if b (dispatched ws ls su) (dispatchTables ws ls su)
 
     go : (b : Bool) → Fits (chosenBy b st .lines) (chosenBy b st .state) → chosenBy b (raisedState st) ≡ raisedDispatched (chosenBy b st)
     go true fits = dispatched-alike ws ls st fits
@@ -106,11 +106,11 @@ settled-alike code ws ls st = go (eqb code 0)
 abbrev raisedStep : Step → Step
 raisedStep s = stepOf (raised (s .tables)) (s .answer) (s .thread)
 
-finished-alike : (number : ℕ) (r : After Tables) → Fits (finished number r .tables .lines) (finished number r .tables .state)
+finished-alike : (number : ℕ) (r : Effect Tables) → Fits (finished number r .tables .lines) (finished number r .tables .state)
     → finished number (mapped raised r) ≡ raisedStep (finished number r)
 unfolding finished
 finished-alike number r fits =
-    let x : Dispatched = settled (r .answer .code) (r .next .swis) (r .next .lines) (r .next .state) in
+    let x : DispatchTables = settled (r .answer .code) (r .next .swis) (r .next .lines) (r .next .state) in
     rw (settled-alike (r .answer .code) (r .next .swis) (r .next .lines) (r .next .state) fits, running-same (x .state) (x .lines))
 
 module _ (t : Tables) (typed : Typed t) (s : Sound t) (few : state (t .state) LEVELS ≡ fewLevels) (number a b c d : ℕ) (w : Words (asked number a b c d)) (low : LowCall number a b) where
@@ -136,4 +136,4 @@ module _ (t : Tables) (typed : Typed t) (s : Sound t) (few : state (t .state) LE
 pub calls-alike : CallsAlike
 calls-alike t typed s few q w low =
     raised-call t typed s few (q .number) (q .a) (q .b) (q .c) (q .d)
-    (record { first = w .first; second = w .second; third = w .third; fourth = w .fourth }) low
+    (record { a = w .a; b = w .b; c = w .c; d = w .d }) low

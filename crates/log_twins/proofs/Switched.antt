@@ -9,15 +9,15 @@ use lib.Bits.{bitAnd}
 use lib.Dec.{eqb, ltb}
 use lib.Seq.{set-comm}
 use Rattle.rules.specs.Tables.{mostLevels, state, withState, DEPTH, SWIS, TASKS, TICK, LEVELS, raisedState}
-use Rattle.rules.specs.Answer.{after, CallRule, called}
+use Rattle.rules.specs.Answer.{withAnswer, CallRule, called}
 use Rattle.rules.specs.Switches.{swisBit, tasksBit, has, on, off, turned, inCases, offEffect, restoreEffect, inEffect, outEffect}
-use Rattle.rules.specs.Tick.{Ticked, tickedOf, ticked, switchCall}
+use Rattle.rules.specs.Tick.{TickTables, tickTables, ticked, switchCall}
 use Rattle.rules_laws.proofs.Calls.{mapped}
 use Rattle.demand_2_soundness.proofs.Raised.{raised-word, raised-depth, raised-swis, raised-tasks}
 use Rattle.log_twins.proofs.KindCalls.{alike}
 
-abbrev pub raisedTicked : Ticked → Ticked
-raisedTicked t = tickedOf (t .tasks) (t .lines) (t .swis) (t .clocks) (raisedState (t .state))
+abbrev pub raisedTicked : TickTables → TickTables
+raisedTicked t = tickTables (t .tasks) (t .lines) (t .swis) (t .clocks) (raisedState (t .state))
 
 -- ---- the effects on the state
 pub store-aside : (st : List ℕ) (f v : ℕ) → f ≢ LEVELS → withState (raisedState st) f v ≡ raisedState (withState st f v)
@@ -35,7 +35,7 @@ turned-alike st bits v =
 module _ (st : List ℕ) where
   in-alike : inEffect (raisedState st) ≡ mapped raisedState (inEffect st)
   unfolding inEffect
-  in-alike = rw (raised-depth st) (ap (after _) (store-if-aside (ltb (state st DEPTH) 8) st DEPTH _ (λ e. omega arith)))
+  in-alike = rw (raised-depth st) (ap (withAnswer _) (store-if-aside (ltb (state st DEPTH) 8) st DEPTH _ (λ e. omega arith)))
 
   out-alike : outEffect (raisedState st) ≡ mapped raisedState (outEffect st)
   unfolding outEffect
@@ -53,15 +53,15 @@ module _ (st : List ℕ) where
   unfolding inCases
   in-cases-same a b c d = rw (raised-depth st)
 
-tick-alike : (t : Ticked) → ticked (raisedTicked t) ≡ raisedTicked (ticked t)
+tick-alike : (t : TickTables) → ticked (raisedTicked t) ≡ raisedTicked (ticked t)
 unfolding ticked
 tick-alike t = rw (raised-word (t .state) TICK (λ e. omega arith), store-aside (t .state) TICK _ (λ e. omega arith))
 
 -- ---- the calls by number
-abbrev raisedCall : CallRule Ticked → CallRule Ticked
+abbrev raisedCall : CallRule TickTables → CallRule TickTables
 raisedCall k = called (k .cases) (mapped raisedTicked (k .effect))
 
-pub switches-alike : (t : Ticked) (x number a b c d : ℕ)
+pub switches-alike : (t : TickTables) (x number a b c d : ℕ)
     → switchCall (raisedTicked t) x number a b c d ≡ raisedCall (switchCall t x number a b c d)
 unfolding switchCall
 switches-alike t x number a b c d =

@@ -7,7 +7,7 @@ use mathlib.Core.List.{List}
 use borrow.Author.Tests.{ne-eqb, lt-ltb, le-ltb, le-leb, lt-leb}
 use lib.Dec.{eqb, ltb, leb}
 use Rattle.rules.specs.Answer.{unknown}
-use Rattle.rules.specs.Waits.{Served}
+use Rattle.rules.specs.Waits.{WaitTables}
 use Rattle.rules.specs.Mailboxes.{mailboxCall}
 use Rattle.rules_laws.proofs.Rows.{by-range}
 
@@ -20,7 +20,7 @@ pub bad-is : (a : ℕ) {p u t : Bool} → p ≡ u → (eqb a 0 || ltb 8 a || p) 
 bad-is a e f = rw (← e, ← above a 8) f
 
 -- ---- no call has the number
-pub no-call : (q : Served) (st : List ℕ) (x number a b c d : ℕ) → number ≢ 0x40 → number ≢ 0x41 → number ≢ 0x42 → number ≢ 0x43
+pub no-call : (q : WaitTables) (st : List ℕ) (x number a b c d : ℕ) → number ≢ 0x40 → number ≢ 0x41 → number ≢ 0x42 → number ≢ 0x43
     → mailboxCall q st x number a b c d ≡ unknown q
 unfolding mailboxCall
 no-call q st x number a b c d k l m n = rw (ne-eqb number 0x40 k, ne-eqb number 0x41 l, ne-eqb number 0x42 m, ne-eqb number 0x43 n)

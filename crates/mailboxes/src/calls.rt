@@ -12,8 +12,8 @@ use rules::numbers::MAILBOX_ROWS;
 use rules::numbers::MESSAGES;
 use rules::numbers::T;
 ghost use mathlib.Core.Path.{_≡_};
-ghost use Rattle.rules.specs.Answer.{after, answered, codeOf};
-ghost use Rattle.rules.specs.Waits.{served};
+ghost use Rattle.rules.specs.Answer.{withAnswer, answered, codeOf};
+ghost use Rattle.rules.specs.Waits.{waitTables};
 ghost use Rattle.rules.specs.Mailboxes.{createCases, createEffect, deleteCases, deleteEffect, createCall, deleteCall};
 ghost use Rattle.tables.specs.Lent.{old, new};
 ghost use Rattle.rules.specs.Tables.{TaskTable, LineTable};
@@ -38,7 +38,7 @@ pub fn create_code(mailboxes: &Mailboxes, x: u32, a: u32, b: u32, c: u32, d: u32
 
 // The lowest mailbox not in use has this capacity, and no messages.
 pub fn create_effect(mailboxes: &mut Mailboxes, a: u32) -> Answer
-    ensures { λ r. ⌜ ((ts : TaskTable) (ls : LineTable) → after r (served ts ls (new mailboxes)) ≡ createEffect (served ts ls (old mailboxes)) a) ⌝ }
+    ensures { λ r. ⌜ ((ts : TaskTable) (ls : LineTable) → withAnswer r (waitTables ts ls (new mailboxes)) ≡ createEffect (waitTables ts ls (old mailboxes)) a) ⌝ }
 {
     let i = free_mailbox(mailboxes);
     put_mailbox(mailboxes, i, a);
@@ -47,8 +47,8 @@ pub fn create_effect(mailboxes: &mut Mailboxes, a: u32) -> Answer
 
 // Call 40.
 pub fn create(mailboxes: &mut Mailboxes, x: u32, a: u32, b: u32, c: u32, d: u32) -> Answer
-    ensures { λ r. ⌜ ((ts : TaskTable) (ls : LineTable) → after r (served ts ls (new mailboxes))
-        ≡ answered (served ts ls (old mailboxes)) (createCall (served ts ls (old mailboxes)) x a b c d)) ⌝ }
+    ensures { λ r. ⌜ ((ts : TaskTable) (ls : LineTable) → withAnswer r (waitTables ts ls (new mailboxes))
+        ≡ answered (waitTables ts ls (old mailboxes)) (createCall (waitTables ts ls (old mailboxes)) x a b c d)) ⌝ }
 {
     let code = create_code(mailboxes, x, a, b, c, d);
     if code != 0 {
@@ -89,7 +89,7 @@ pub fn delete_code(
 
 // The mailbox's row is all 0.
 pub fn delete_effect(mailboxes: &mut Mailboxes, a: u32) -> Answer
-    ensures { λ r. ⌜ ((ts : TaskTable) (ls : LineTable) → after r (served ts ls (new mailboxes)) ≡ deleteEffect (served ts ls (old mailboxes)) a) ⌝ }
+    ensures { λ r. ⌜ ((ts : TaskTable) (ls : LineTable) → withAnswer r (waitTables ts ls (new mailboxes)) ≡ deleteEffect (waitTables ts ls (old mailboxes)) a) ⌝ }
 {
     put_mailbox(mailboxes, a as usize, 0);
     answers::accepted(DONE, 0)
@@ -105,8 +105,8 @@ pub fn delete(
     c: u32,
     d: u32,
 ) -> Answer
-    ensures { λ r. ⌜ ((ts : TaskTable) → after r (served ts (old lines) (new mailboxes))
-        ≡ answered (served ts (old lines) (old mailboxes)) (deleteCall (served ts (old lines) (old mailboxes)) x a b c d)) ⌝ }
+    ensures { λ r. ⌜ ((ts : TaskTable) → withAnswer r (waitTables ts (old lines) (new mailboxes))
+        ≡ answered (waitTables ts (old lines) (old mailboxes)) (deleteCall (waitTables ts (old lines) (old mailboxes)) x a b c d)) ⌝ }
 {
     let code = delete_code(lines, mailboxes, x, a, b, c, d);
     if code != 0 {

@@ -12,9 +12,9 @@ use rules::Mailboxes;
 use rules::State;
 use rules::Tasks;
 ghost use mathlib.Core.Path.{_≡_};
-ghost use Rattle.rules.specs.Answer.{after, answered};
+ghost use Rattle.rules.specs.Answer.{withAnswer, answered};
 ghost use Rattle.rules.specs.Mailboxes.{mailboxCall};
-ghost use Rattle.tables.specs.Lent.{old, servedOld, servedNew};
+ghost use Rattle.tables.specs.Lent.{old, waitTablesOld, waitTablesNew};
 
 // The call of this number, made by x: 0 a task, 1 a Swi, 2 an interrupt.
 pub fn mailbox_call(
@@ -29,8 +29,8 @@ pub fn mailbox_call(
     c: u32,
     d: u32,
 ) -> Answer
-    ensures { λ r. ⌜ after r (servedNew tasks lines mailboxes)
-        ≡ answered (servedOld tasks lines mailboxes) (mailboxCall (servedOld tasks lines mailboxes) (old state) x number a b c d) ⌝ }
+    ensures { λ r. ⌜ withAnswer r (waitTablesNew tasks lines mailboxes)
+        ≡ answered (waitTablesOld tasks lines mailboxes) (mailboxCall (waitTablesOld tasks lines mailboxes) (old state) x number a b c d) ⌝ }
 {
     match number {
         0x40 => calls::create(mailboxes, x, a, b, c, d),

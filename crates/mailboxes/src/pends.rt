@@ -17,9 +17,9 @@ use rules::numbers::MESSAGES;
 use rules::numbers::READING;
 use rules::numbers::WRITING;
 ghost use mathlib.Core.Path.{_≡_};
-ghost use Rattle.rules.specs.Answer.{after, answered, codeOf};
+ghost use Rattle.rules.specs.Answer.{withAnswer, answered, codeOf};
 ghost use Rattle.rules.specs.Mailboxes.{pendCases, oldestTaken, pendEffect, pendCall};
-ghost use Rattle.tables.specs.Lent.{old, servedOld, servedNew};
+ghost use Rattle.tables.specs.Lent.{old, waitTablesOld, waitTablesNew};
 
 // ---- 43 pend (mailbox, limit): value the oldest word
 
@@ -56,12 +56,12 @@ pub fn pend_code(
 
 // The oldest message goes; the first waiting writer's word joins the back, that writer is ready.
 pub fn take(tasks: &mut Tasks, lines: &mut Lines, mailboxes: &mut Mailboxes, a: u32)
-    ensures { λ _. ⌜ servedNew tasks lines mailboxes ≡ oldestTaken (servedOld tasks lines mailboxes) a ⌝ }
+    ensures { λ _. ⌜ waitTablesNew tasks lines mailboxes ≡ oldestTaken (waitTablesOld tasks lines mailboxes) a ⌝ }
 {
     if waits_first(tasks, lines, a, WRITING) {
         let i = first(lines, a);
         let writer = rows::task(tasks, i as usize);
-        shift(mailboxes, a as usize, writer.first);
+        shift(mailboxes, a as usize, writer.held);
         moves::wake(tasks, lines, i, DONE, 0);
     } else {
         take_word(mailboxes, a as usize);
@@ -77,7 +77,7 @@ pub fn pend_effect(
     a: u32,
     limit: u32,
 ) -> Answer
-    ensures { λ r. ⌜ after r (servedNew tasks lines mailboxes) ≡ pendEffect (servedOld tasks lines mailboxes) (old state) a limit ⌝ }
+    ensures { λ r. ⌜ withAnswer r (waitTablesNew tasks lines mailboxes) ≡ pendEffect (waitTablesOld tasks lines mailboxes) (old state) a limit ⌝ }
 {
     if rows::mailbox(mailboxes, a as usize, MESSAGES) == 0 {
         return not_done(tasks, lines, state, READING, a, limit, 0);
@@ -99,8 +99,8 @@ pub fn pend(
     c: u32,
     d: u32,
 ) -> Answer
-    ensures { λ r. ⌜ after r (servedNew tasks lines mailboxes)
-        ≡ answered (servedOld tasks lines mailboxes) (pendCall (servedOld tasks lines mailboxes) (old state) x a b c d) ⌝ }
+    ensures { λ r. ⌜ withAnswer r (waitTablesNew tasks lines mailboxes)
+        ≡ answered (waitTablesOld tasks lines mailboxes) (pendCall (waitTablesOld tasks lines mailboxes) (old state) x a b c d) ⌝ }
 {
     let code = pend_code(mailboxes, state, x, a, b, c, d);
     if code != 0 {

@@ -15,9 +15,9 @@ use rules::numbers::MAILBOX_LINES;
 use rules::numbers::READING;
 use rules::numbers::WRITING;
 ghost use mathlib.Core.Path.{_≡_};
-ghost use Rattle.rules.specs.Answer.{after, answered, codeOf};
+ghost use Rattle.rules.specs.Answer.{withAnswer, answered, codeOf};
 ghost use Rattle.rules.specs.Mailboxes.{postCases, postEffect, postCall};
-ghost use Rattle.tables.specs.Lent.{old, servedOld, servedNew};
+ghost use Rattle.tables.specs.Lent.{old, waitTablesOld, waitTablesNew};
 
 // ---- 42 post (mailbox, word, limit): to the first waiting reader, else to the back, else wait
 
@@ -63,7 +63,7 @@ pub fn post_effect(
     word: u32,
     limit: u32,
 ) -> Answer
-    ensures { λ r. ⌜ after r (servedNew tasks lines mailboxes) ≡ postEffect (servedOld tasks lines mailboxes) (old state) a word limit ⌝ }
+    ensures { λ r. ⌜ withAnswer r (waitTablesNew tasks lines mailboxes) ≡ postEffect (waitTablesOld tasks lines mailboxes) (old state) a word limit ⌝ }
 {
     if waits_first(tasks, lines, a, READING) {
         return moves::wake_first(tasks, lines, MAILBOX_LINES + a as usize, word);
@@ -87,8 +87,8 @@ pub fn post(
     c: u32,
     d: u32,
 ) -> Answer
-    ensures { λ r. ⌜ after r (servedNew tasks lines mailboxes)
-        ≡ answered (servedOld tasks lines mailboxes) (postCall (servedOld tasks lines mailboxes) (old state) x a b c d) ⌝ }
+    ensures { λ r. ⌜ withAnswer r (waitTablesNew tasks lines mailboxes)
+        ≡ answered (waitTablesOld tasks lines mailboxes) (postCall (waitTablesOld tasks lines mailboxes) (old state) x a b c d) ⌝ }
 {
     let code = post_code(tasks, lines, mailboxes, state, x, a, c, d);
     if code != 0 {

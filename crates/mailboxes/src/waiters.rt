@@ -11,12 +11,12 @@ use rules::numbers::NOT_MET;
 use rules::numbers::NOW_WAITING;
 use rules::numbers::READING;
 ghost use mathlib.Core.Path.{_≡_};
-ghost use Rattle.rules.specs.Lines.{mailboxLine, anyone, first};
+ghost use Rattle.rules.specs.Lines.{mailboxLine, anyone, frontOf};
 ghost use Rattle.rules.specs.Mailboxes.{waitsFirst, isFull, postWaits, pendWaits};
 ghost use mathlib.Core.List.{List};
 ghost use Prim.Native.Nat.{ℕ};
-ghost use Rattle.rules.specs.Answer.{after};
-ghost use Rattle.rules.specs.Waits.{served};
+ghost use Rattle.rules.specs.Answer.{withAnswer};
+ghost use Rattle.rules.specs.Waits.{waitTables};
 ghost use Rattle.mailboxes.specs.Wait.{notDone};
 ghost use Rattle.tables.specs.Lent.{old, new};
 
@@ -29,7 +29,7 @@ pub fn anyone(lines: &Lines, a: u32) -> bool
 
 // The first who waits at mailbox a; 0 where nobody does.
 pub fn first(lines: &Lines, a: u32) -> u32
-    ensures { λ r. ⌜ r ≡ first (old lines) (mailboxLine a) ⌝ }
+    ensures { λ r. ⌜ r ≡ frontOf (old lines) (mailboxLine a) ⌝ }
 {
     lines::first(lines, MAILBOX_LINES + a as usize) as u32
 }
@@ -79,8 +79,8 @@ pub fn not_done(
     limit: u32,
     word: u32,
 ) -> Answer
-    ensures { λ r. ⌜ ((ms : List ℕ) → after r (served (new tasks) (new lines) ms)
-        ≡ notDone (served (old tasks) (old lines) ms) (old state) mode a limit word) ⌝ }
+    ensures { λ r. ⌜ ((ms : List ℕ) → withAnswer r (waitTables (new tasks) (new lines) ms)
+        ≡ notDone (waitTables (old tasks) (old lines) ms) (old state) mode a limit word) ⌝ }
 {
     if limit == 0 {
         return answers::accepted(NOT_MET, 0);

@@ -8,7 +8,7 @@ use Rattle.rules.specs.Sound.{Sound}
 use Rattle.rules.specs.declared.Answer.{Answer}
 use Rattle.rules.specs.declared.Tables.{Tables}
 use Rattle.runs.specs.Run.{ByType, made, next, after, Each, AllWords}
-use Rattle.runs.specs.Turn.{posts}
+use Rattle.runs.specs.Turn.{postsOn}
 use Rattle.demands.specs.Three.{ArrivalOrder, Turn, pend}
 use Rattle.demands.proofs.Three.{demand-3}
 use Rattle.demands.proofs.Lists.{kept-along}
@@ -79,13 +79,13 @@ module _ (t : Tables) (sound : Sound t) (ps : List Piece) (m : Mixture t ps) (s 
   now-is =
       mixtures-are-calls t sound ps m .tables ∙ ap (after t) (place .calls) ∙ after-append t (asks (b .before)) (pend s ∷ asks (b .since))
 
-  posts-are : howMany (isPost s) (b .since) ≡ posts s (next v (pend s)) (asks (b .since))
+  posts-are : howMany (isPost s) (b .since) ≡ postsOn s (next v (pend s)) (asks (b .since))
   posts-are = ap (howMany (isPost s)) (place .since-is) ∙ posts-of-demand-3 s (next v (pend s)) (asks (b .since))
 
   has-turn : Turn s (current (v .state)) (line (v .lines) (semaphoreLine s)) (next v (pend s))
   has-turn =
       let (typed, words) = begins in
-      demand-3 v typed (kept-along t sound (asks (b .before)) (types .0) .1) s (words .first) arrival
+      demand-3 v typed (kept-along t sound (asks (b .before)) (types .0) .1) s (words .a) arrival
       (ap (λ (r : Answer). r .outcome) (sym (place .answer)) ∙ b .waits)
 
   pub turn-since : TurnSince s (b .since) v (tablesAfter t ps)

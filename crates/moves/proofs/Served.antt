@@ -7,38 +7,38 @@ use mathlib.Core.List.{List}
 use native.Mathlib.Omega.{arith}
 use borrow.Author.Tests.{eq-eqb, ne-eqb, lt-ltb, le-ltb}
 use lib.Dec.{eqb, ltb}
-use Rattle.rules.specs.Answer.{after, accepted, answer}
-use Rattle.rules.specs.Lines.{Queued, queued, first}
-use Rattle.rules.specs.Waits.{Served, served, requeued, woken, wakesFirst}
+use Rattle.rules.specs.Answer.{withAnswer, accepted, answer}
+use Rattle.rules.specs.Lines.{TaskQueues, taskQueues, frontOf}
+use Rattle.rules.specs.Waits.{WaitTables, waitTables, withQueues, woken, wakesFirst}
 use Rattle.rules.specs.declared.Answer.{Answer}
 
 -- an answer and the tables, each equal to what is said of it
-pub accepted-is : {A : Type 0} (o v : ℕ) {r : Answer} {t u : A} → r ≡ answer 0 o v → t ≡ u → after r t ≡ accepted o v u
-accepted-is o v a e = λ z. after (a z) (e z)
+pub accepted-is : {A : Type 0} (o v : ℕ) {r : Answer} {t u : A} → r ≡ answer 0 o v → t ≡ u → withAnswer r t ≡ accepted o v u
+accepted-is o v a e = λ z. withAnswer (a z) (e z)
 
-module _ (q : Served) (o v : ℕ) {r : Answer} (is : r ≡ answer 0 o v) where
+module _ (q : WaitTables) (o v : ℕ) {r : Answer} (is : r ≡ answer 0 o v) where
   -- nothing changed
-  pub kept-is : after r q ≡ accepted o v q
-  kept-is = ap (λ (x : Answer). after x q) is
+  pub kept-is : withAnswer r q ≡ accepted o v q
+  kept-is = ap (λ (x : Answer). withAnswer x q) is
 
   -- the objects changed
-  pub objects-is : {os₁ os : List ℕ} → os₁ ≡ os → after r (served (q .tasks) (q .lines) os₁) ≡ accepted o v (served (q .tasks) (q .lines) os)
-  objects-is e = accepted-is o v is (ap (served (q .tasks) (q .lines)) e)
+  pub objects-is : {os₁ os : List ℕ} → os₁ ≡ os → withAnswer r (waitTables (q .tasks) (q .lines) os₁) ≡ accepted o v (waitTables (q .tasks) (q .lines) os)
+  objects-is e = accepted-is o v is (ap (waitTables (q .tasks) (q .lines)) e)
 
   -- a task moved
-  pub requeued-is : {ts₁ ls₁ : List ℕ} {x : Queued} → queued ts₁ ls₁ ≡ x → after r (served ts₁ ls₁ (q .objects)) ≡ accepted o v (requeued q x)
-  requeued-is e = accepted-is o v is (ap (requeued q) e)
+  pub requeued-is : {ts₁ ls₁ : List ℕ} {x : TaskQueues} → taskQueues ts₁ ls₁ ≡ x → withAnswer r (waitTables ts₁ ls₁ (q .objects)) ≡ accepted o v (withQueues q x)
+  requeued-is e = accepted-is o v is (ap (withQueues q) e)
 
 -- a new object: its number is the value, and its row is stored
-pub made-is : (q : Served) (row : ℕ → List ℕ) (n : ℕ) {i : ℕ} {os₁ : List ℕ} {r : Answer} → i ≡ n → os₁ ≡ row i → r ≡ answer 0 0 i
-    → after r (served (q .tasks) (q .lines) os₁) ≡ accepted 0 n (served (q .tasks) (q .lines) (row n))
+pub made-is : (q : WaitTables) (row : ℕ → List ℕ) (n : ℕ) {i : ℕ} {os₁ : List ℕ} {r : Answer} → i ≡ n → os₁ ≡ row i → r ≡ answer 0 0 i
+    → withAnswer r (waitTables (q .tasks) (q .lines) os₁) ≡ accepted 0 n (waitTables (q .tasks) (q .lines) (row n))
 made-is q row n a e f = objects-is q 0 n (f ∙ ap (answer 0 0) a) (e ∙ ap row a)
 
 -- a post wakes the first in line j, and its number is the value
-pub first-woken : (j v : ℕ) (ts ls : List ℕ) {i : ℕ} {ts₁ ls₁ : List ℕ} {r : Answer} → i ≡ first ls j
-    → queued ts₁ ls₁ ≡ woken i 0 v (queued ts ls) → r ≡ answer 0 0 i → (os : List ℕ) → after r (served ts₁ ls₁ os) ≡ wakesFirst j v (served ts ls os)
+pub first-woken : (j v : ℕ) (ts ls : List ℕ) {i : ℕ} {ts₁ ls₁ : List ℕ} {r : Answer} → i ≡ frontOf ls j
+    → taskQueues ts₁ ls₁ ≡ woken i 0 v (taskQueues ts ls) → r ≡ answer 0 0 i → (os : List ℕ) → withAnswer r (waitTables ts₁ ls₁ os) ≡ wakesFirst j v (waitTables ts ls os)
 first-woken j v ts ls f w a os =
-    requeued-is (served ts ls os) 0 (first ls j) (a ∙ ap (answer 0 0) f) (w ∙ ap (λ (i : ℕ). woken i 0 v (queued ts ls)) f)
+    requeued-is (waitTables ts ls os) 0 (frontOf ls j) (a ∙ ap (answer 0 0) f) (w ∙ ap (λ (i : ℕ). woken i 0 v (taskQueues ts ls)) f)
 
 -- ---- a number that was read, tested against n
 module _ (n : ℕ) {v w : ℕ} (is : v ≡ w) where

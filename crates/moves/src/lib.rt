@@ -12,11 +12,11 @@ use rules::numbers::TASK_PRIORITY;
 ghost use mathlib.Core.Path.{_≡_};
 ghost use mathlib.Core.List.{List};
 ghost use Prim.Native.Nat.{ℕ};
-ghost use Rattle.rules.specs.Answer.{after};
+ghost use Rattle.rules.specs.Answer.{withAnswer};
 ghost use Rattle.rules.specs.Tables.{task};
 ghost use Rattle.rules.specs.Lines.{line, moved, atBack, byPriority, entered};
-ghost use Rattle.rules.specs.Waits.{waiting, woken, served, wakesFirst};
-ghost use Rattle.tables.specs.Lent.{old, new, queuedOld, queuedNew};
+ghost use Rattle.rules.specs.Waits.{waiting, woken, waitTables, wakesFirst};
+ghost use Rattle.tables.specs.Lent.{old, new, taskQueuesOld, taskQueuesNew};
 
 // How many stand in line j before the first of a priority lower than p.
 pub fn place(tasks: &Tasks, lines: &Lines, j: usize, p: u32) -> usize
@@ -44,7 +44,7 @@ pub fn enter_by_priority(tasks: &Tasks, lines: &mut Lines, j: usize, x: u8, p: u
 
 // Task i, with the row k, goes to k's line, at the back.
 pub fn move_back(tasks: &mut Tasks, lines: &mut Lines, i: u32, k: Task)
-    ensures { λ _. ⌜ queuedNew tasks lines ≡ moved atBack i k (queuedOld tasks lines) ⌝ }
+    ensures { λ _. ⌜ taskQueuesNew tasks lines ≡ moved atBack i k (taskQueuesOld tasks lines) ⌝ }
 {
     if i < TASK_COUNT {
         let old = rows::task(tasks, i as usize);
@@ -56,7 +56,7 @@ pub fn move_back(tasks: &mut Tasks, lines: &mut Lines, i: u32, k: Task)
 
 // The same, before the first of a priority lower than p.
 pub fn move_by_priority(tasks: &mut Tasks, lines: &mut Lines, i: u32, k: Task, p: u32)
-    ensures { λ _. ⌜ queuedNew tasks lines ≡ moved (byPriority (old tasks) p) i k (queuedOld tasks lines) ⌝ }
+    ensures { λ _. ⌜ taskQueuesNew tasks lines ≡ moved (byPriority (old tasks) p) i k (taskQueuesOld tasks lines) ⌝ }
 {
     if i < TASK_COUNT {
         let was = rows::task(tasks, i as usize);
@@ -68,7 +68,7 @@ pub fn move_by_priority(tasks: &mut Tasks, lines: &mut Lines, i: u32, k: Task, p
 
 // Task i's wait ends with an outcome and a value: it is ready, at the back of its queue.
 pub fn wake(tasks: &mut Tasks, lines: &mut Lines, i: u32, outcome: u32, value: u32)
-    ensures { λ _. ⌜ queuedNew tasks lines ≡ woken i outcome value (queuedOld tasks lines) ⌝ }
+    ensures { λ _. ⌜ taskQueuesNew tasks lines ≡ woken i outcome value (taskQueuesOld tasks lines) ⌝ }
 {
     let old = rows::task(tasks, i as usize);
     let k = Task {
@@ -76,8 +76,8 @@ pub fn wake(tasks: &mut Tasks, lines: &mut Lines, i: u32, outcome: u32, value: u
         priority: old.priority,
         object: 0,
         left: 0,
-        first: 0,
-        second: 0,
+        held: 0,
+        mask: 0,
         outcome,
         value,
     };
@@ -86,24 +86,24 @@ pub fn wake(tasks: &mut Tasks, lines: &mut Lines, i: u32, outcome: u32, value: u
 
 // The first in line j is woken by a post, its wait done with this value. The answer's value is its number.
 pub fn wake_first(tasks: &mut Tasks, lines: &mut Lines, j: usize, value: u32) -> Answer
-    ensures { λ r. ⌜ ((os : List ℕ) → after r (served (new tasks) (new lines) os) ≡ wakesFirst j value (served (old tasks) (old lines) os)) ⌝ }
+    ensures { λ r. ⌜ ((os : List ℕ) → withAnswer r (waitTables (new tasks) (new lines) os) ≡ wakesFirst j value (waitTables (old tasks) (old lines) os)) ⌝ }
 {
     let i = lines::first(lines, j) as u32;
     wake(tasks, lines, i, DONE, value);
     answers::accepted(DONE, i)
 }
 
-// A task's row once it waits in this mode, at this object, with this limit, holding first and second.
-pub fn waiting(k: Task, mode: u32, object: u32, limit: u32, first: u32, second: u32) -> Task
-    ensures { λ r. ⌜ r ≡ waiting k mode object limit first second ⌝ }
+// A task's row once it waits in this mode, at this object, with this limit, holding a word or two masks.
+pub fn waiting(k: Task, mode: u32, object: u32, limit: u32, held: u32, mask: u32) -> Task
+    ensures { λ r. ⌜ r ≡ waiting k mode object limit held mask ⌝ }
 {
     Task {
         mode,
         priority: k.priority,
         object,
         left: begins::ticks_for(limit),
-        first,
-        second,
+        held,
+        mask,
         outcome: k.outcome,
         value: k.value,
     }
@@ -117,16 +117,16 @@ pub fn wait(
     mode: u32,
     object: u32,
     limit: u32,
-    first: u32,
-    second: u32,
+    held: u32,
+    mask: u32,
 )
-    ensures { λ _. ⌜ queuedNew tasks lines ≡ moved atBack i (waiting (task (old tasks) i) mode object limit first second) (queuedOld tasks lines) ⌝ }
+    ensures { λ _. ⌜ taskQueuesNew tasks lines ≡ moved atBack i (waiting (task (old tasks) i) mode object limit held mask) (taskQueuesOld tasks lines) ⌝ }
 {
     let old = rows::task(tasks, i as usize);
     move_back(
         tasks,
         lines,
         i,
-        waiting(old, mode, object, limit, first, second),
+        waiting(old, mode, object, limit, held, mask),
     );
 }

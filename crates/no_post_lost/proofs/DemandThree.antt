@@ -17,8 +17,8 @@ other-order true false true = refl
 other-order true false false = refl
 other-order false b c = refl
 
-pub posts-of-demand-3 : (s : ℕ) (t : Tables) (qs : List Call) → howMany (isPost s) (history t qs) ≡ Turn.posts s t qs
-unfolding history howMany Turn.posts
+pub posts-of-demand-3 : (s : ℕ) (t : Tables) (qs : List Call) → howMany (isPost s) (history t qs) ≡ Turn.postsOn s t qs
+unfolding history howMany Turn.postsOn
 posts-of-demand-3 s t [] = refl
 posts-of-demand-3 s t (q ∷ qs) =
     rw (other-order (eqb (q .number) 0x23) (eqb (made t q .answer .code) 0) (eqb (q .a) s), posts-of-demand-3 s (next t q) qs)

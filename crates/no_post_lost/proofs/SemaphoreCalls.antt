@@ -11,10 +11,10 @@ use lib.ListN.{length}
 use borrow.Author.Tests.{eq-eqb, ne-eqb, eqb-true, eqb-false, lt-ltb, ltb-true, leb-false}
 use Rattle.basics.specs.Lists.{bit, zeros}
 use Rattle.basics.proofs.Laws.{same?}
-use Rattle.rules.specs.Answer.{After, CallRule, answer, codeOf, done, notMet, nowWaiting, asked}
+use Rattle.rules.specs.Answer.{Effect, CallRule, answer, codeOf, done, notMet, nowWaiting, asked}
 use Rattle.rules.specs.Tables.{Typed, semaphoreCount, semaphoreWidth, semaphore, withSemaphore, semaphoreRow, USED, KIND, COUNT}
-use Rattle.rules.specs.Lines.{anyone, first, semaphoreLine}
-use Rattle.rules.specs.Waits.{Served, served}
+use Rattle.rules.specs.Lines.{anyone, frontOf, semaphoreLine}
+use Rattle.rules.specs.Waits.{WaitTables, waitTables}
 use Rattle.rules.specs.Semaphores.{isBinary, most, freeSemaphore, createCases, createEffect, deleteEffect, pendEffect}
 use Rattle.rules.specs.Semaphores.{postCases, postEffect, countUp, resetCases, resetEffect, semaphoreCall}
 use Rattle.rules.specs.Dispatch.{context}
@@ -81,7 +81,7 @@ module _ (t : Tables) (typed : Typed t) (never : NeverWaits 0 (t .lines)) (s a b
   abbrev pub Evenly : ℕ → List ℕ → Answer → Type 0
   Evenly n us r = setsCount s (withAnswer n r) ≡ false → CountingIn s us → Even n us r
 
-  abbrev Leaves : ℕ → After Served → Type 0
+  abbrev Leaves : ℕ → Effect WaitTables → Type 0
   Leaves n r = Evenly n (r .next .objects) (r .answer)
 
   -- s has the same row, and the call takes a unit exactly if it is a post
@@ -118,7 +118,7 @@ module _ (t : Tables) (typed : Typed t) (never : NeverWaits 0 (t .lines)) (s a b
           (λ past. field-out semaphoreWidth semaphoreCount _ a USED past)
 
   -- 22 takes one where the count is above 0; not met or waiting it takes nothing
-  pend-even : Leaves 0x22 (pendEffect (served (t .tasks) (t .lines) ss) (t .state) a b)
+  pend-even : Leaves 0x22 (pendEffect (waitTables (t .tasks) (t .lines) ss) (t .state) a b)
   unfolding pendEffect
   pend-even =
       chosen (Leaves 0x22) (ltb 0 (countIn a ss)) _ _
@@ -152,12 +152,12 @@ module _ (t : Tables) (typed : Typed t) (never : NeverWaits 0 (t .lines)) (s a b
         let room : countIn a ss < 65535 = leb-false 65535 (countIn a ss) (rw counting at not-full) in
         rw (counting, lt-ltb (countIn a ss) 65535 room)
 
-    post-even : Leaves 0x23 (postEffect (served (t .tasks) (t .lines) ss) a)
+    post-even : Leaves 0x23 (postEffect (waitTables (t .tasks) (t .lines) ss) a)
     unfolding postEffect
     post-even =
         chosen (Leaves 0x23) (anyone (t .lines) (semaphoreLine a)) _ _
         (λ some.
-        let woken : ℕ = first (t .lines) (semaphoreLine a) in
+        let woken : ℕ = frontOf (t .lines) (semaphoreLine a) in
         still 0x23 ss (answer 0 done woken) (λ f. refl)
         (readied (isPost s (withAnswer 0x23 (answer 0 done woken))) woken (first-not 0 (t .lines) never (semaphoreLine a) (omega arith) some)))
         (λ _.

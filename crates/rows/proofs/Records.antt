@@ -13,10 +13,10 @@ use Rattle.rules_laws.proofs.Rows.{withRow-in, withRow-out}
 pub task-is : (ts : List ℕ) (i : ℕ) {m p o l f s u v : ℕ}
     → m ≡ field 8 32 ts i 0 → p ≡ field 8 32 ts i 1 → o ≡ field 8 32 ts i 2 → l ≡ field 8 32 ts i 3
     → f ≡ field 8 32 ts i 4 → s ≡ field 8 32 ts i 5 → u ≡ field 8 32 ts i 6 → v ≡ field 8 32 ts i 7
-    → _≡_ {A = Task} (record { mode = m; priority = p; object = o; left = l; first = f; second = s; outcome = u; value = v }) (task ts i)
+    → _≡_ {A = Task} (record { mode = m; priority = p; object = o; left = l; held = f; mask = s; outcome = u; value = v }) (task ts i)
 unfolding task
 task-is ts i a b c d e f g h =
-    λ z. record { mode = a z; priority = b z; object = c z; left = d z; first = e z; second = f z; outcome = g z; value = h z }
+    λ z. record { mode = a z; priority = b z; object = c z; left = d z; held = e z; mask = f z; outcome = g z; value = h z }
 
 pub clock-is : (cs : List ℕ) (i : ℕ) {u s f p l : ℕ}
     → u ≡ field 5 16 cs i 0 → s ≡ field 5 16 cs i 1 → f ≡ field 5 16 cs i 2 → p ≡ field 5 16 cs i 3 → l ≡ field 5 16 cs i 4
@@ -26,7 +26,7 @@ clock-is cs i a b c d e = λ z. record { used = a z; swi = b z; first = c z; per
 
 -- the eight stores, and the five
 pub put-task : (ts : List ℕ) (i : ℕ) (k : Task) → i < 32
-    → set (set (set (set (set (set (set (set ts (i * 8) (k .mode)) (i * 8 + 1) (k .priority)) (i * 8 + 2) (k .object)) (i * 8 + 3) (k .left)) (i * 8 + 4) (k .first)) (i * 8 + 5) (k .second)) (i * 8 + 6) (k .outcome)) (i * 8 + 7) (k .value)
+    → set (set (set (set (set (set (set (set ts (i * 8) (k .mode)) (i * 8 + 1) (k .priority)) (i * 8 + 2) (k .object)) (i * 8 + 3) (k .left)) (i * 8 + 4) (k .held)) (i * 8 + 5) (k .mask)) (i * 8 + 6) (k .outcome)) (i * 8 + 7) (k .value)
     ≡ withTask ts i k
 unfolding withTask
 put-task ts i k h =

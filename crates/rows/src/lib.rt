@@ -16,18 +16,18 @@ use rules::numbers::CLOCK_SWI;
 use rules::numbers::CLOCK_WIDTH;
 use rules::numbers::EVENT_ROWS;
 use rules::numbers::EVENT_WIDTH;
+use rules::numbers::HELD;
 use rules::numbers::MAILBOX_ROWS;
 use rules::numbers::MAILBOX_WIDTH;
+use rules::numbers::MASK;
 use rules::numbers::MODE;
 use rules::numbers::OBJECT;
 use rules::numbers::OUTCOME;
 use rules::numbers::PERIOD;
-use rules::numbers::SECOND;
 use rules::numbers::SEMAPHORE_ROWS;
 use rules::numbers::SEMAPHORE_WIDTH;
 use rules::numbers::SWI_ROWS;
 use rules::numbers::SWI_WIDTH;
-use rules::numbers::TASK_FIRST;
 use rules::numbers::TASK_LEFT;
 use rules::numbers::TASK_PRIORITY;
 use rules::numbers::TASK_ROWS;
@@ -73,8 +73,8 @@ pub fn task(tasks: &Tasks, i: usize) -> Task
         priority: task_word(tasks, i, TASK_PRIORITY),
         object: task_word(tasks, i, OBJECT),
         left: task_word(tasks, i, TASK_LEFT),
-        first: task_word(tasks, i, TASK_FIRST),
-        second: task_word(tasks, i, SECOND),
+        held: task_word(tasks, i, HELD),
+        mask: task_word(tasks, i, MASK),
         outcome: task_word(tasks, i, OUTCOME),
         value: task_word(tasks, i, VALUE),
     }
@@ -89,8 +89,8 @@ pub fn set_task(tasks: &mut Tasks, i: usize, k: Task)
         tasks[at + TASK_PRIORITY] = k.priority;
         tasks[at + OBJECT] = k.object;
         tasks[at + TASK_LEFT] = k.left;
-        tasks[at + TASK_FIRST] = k.first;
-        tasks[at + SECOND] = k.second;
+        tasks[at + HELD] = k.held;
+        tasks[at + MASK] = k.mask;
         tasks[at + OUTCOME] = k.outcome;
         tasks[at + VALUE] = k.value;
     }

@@ -5,17 +5,17 @@ use mathlib.Core.Bool.{true, false}
 use mathlib.Core.List.{List, [], _∷_, _++_, map}
 use Rattle.basics.specs.Lists.{zeros}
 use Rattle.basics.specs.Rule.{holds}
-use Rattle.rules.specs.Answer.{After, answer, accepted, refused, called, answered, named, codeOf, given, onObject, never, done, T, S, I}
+use Rattle.rules.specs.Answer.{Effect, answer, accepted, refused, called, answered, named, codeOf, given, onObject, never, done, T, S, I}
 use Rattle.rules.specs.Tables.{task, forever, ready, sleeping, atSemaphore, atEvent, reading, writing}
-use Rattle.rules.specs.Lines.{line, joined, queued, semaphoreLine, mailboxLine, eventLine, postedLine, activeLine, readyLine}
-use Rattle.rules.specs.Waits.{ticksFor, served}
+use Rattle.rules.specs.Lines.{line, joined, taskQueues, semaphoreLine, mailboxLine, eventLine, postedLine, activeLine, readyLine}
+use Rattle.rules.specs.Waits.{ticksFor, waitTables}
 use Rattle.rules.specs.Tasks.{reprioritized}
-use Rattle.rules.specs.Swis.{posts, endEffect}
+use Rattle.rules.specs.Swis.{swiQueues, endEffect}
 use Rattle.rules.specs.Semaphores.{placeIn, postEffect}
 use Rattle.rules.specs.Events.{freeEvent, matched, postCases, postEffect as postEvent}
 use Rattle.rules.specs.Mailboxes.{postEffect as postMailbox, pendEffect as pendMailbox}
 use Rattle.rules.specs.Switches.{offCases, offEffect, restoreCases, restoreEffect}
-use Rattle.rules.specs.Tick.{Ticked, taskTick, tickedOf, ticked, switchCall}
+use Rattle.rules.specs.Tick.{TickTables, taskTick, tickTables, ticked, switchCall}
 use Rattle.rules.specs.Dispatch.{started}
 use Rattle.rules.specs.Sound.{otherRule}
 use Rattle.rules.specs.Step.{settled, finished}
@@ -80,22 +80,22 @@ restoreCodes x which = map (λ key. codeOf (restoreCases x which key 0 0)) (0 �
 
 -- the codes of the numbers that the switches had before No. 10
 abbrev pub oldCodes : List ℕ
-oldCodes = map (λ number. codeOf (switchCall (tickedOf [] [] [] [] (switched 1 1)) T number 0 0 0 0 .cases)) (0x70 ∷ 0x71 ∷ 0x72 ∷ 0x73 ∷ [])
+oldCodes = map (λ number. codeOf (switchCall (tickTables [] [] [] [] (switched 1 1)) T number 0 0 0 0 .cases)) (0x70 ∷ 0x71 ∷ 0x72 ∷ 0x73 ∷ [])
 
 -- a clock comes to 0 and posts Swi 3, and task 1's sleep ends, at priority 0. Nobody can tell the order on sound tables, since Swis and tasks stand
 -- in lines of their own; the Swi's priority is 17, and that line is the ready queue of 0
-abbrev pub together : Ticked
+abbrev pub together : TickTables
 unfolding linesWith
 together =
-    tickedOf ((ready ∷ zeros 7) ++ (sleeping ∷ 0 ∷ 0 ∷ 1 ∷ zeros 244)) (linesWith []) (zeros 18 ++ (1 ∷ 17 ∷ zeros 76))
+    tickTables ((ready ∷ zeros 7) ++ (sleeping ∷ 0 ∷ 0 ∷ 1 ∷ zeros 244)) (linesWith []) (zeros 18 ++ (1 ∷ 17 ∷ zeros 76))
     (1 ∷ 3 ∷ 1 ∷ 0 ∷ 1 ∷ zeros 75)
     (currently 0)
 
 pub record Sentences : Type 0 where
   -- "a code is given exactly in its case": where no case holds the call has its effect
-  pub accepts : (t : List ℕ) (e : After (List ℕ)) → answered t (called never e) ≡ e
+  pub accepts : (t : List ℕ) (e : Effect (List ℕ)) → answered t (called never e) ≡ e
   -- "A refusal has outcome 0, value 0 and no change"
-  pub refuses : (t : List ℕ) (e : After (List ℕ)) → answered t (called (given 5 true never) e) ≡ refused 5 t
+  pub refuses : (t : List ℕ) (e : Effect (List ℕ)) → answered t (called (given 5 true never) e) ≡ refused 5 t
   -- No. 2: "Code 3 stays for a number outside its table. A number inside the table whose object is not in use gets a new code"
   pub outside : codeOf (onObject 16 16 0 never) ≡ 3
   pub inside : codeOf (onObject 16 15 0 never) ≡ 11
@@ -105,7 +105,7 @@ pub record Sentences : Type 0 where
   pub names-a-swi : named 0x50 (answer 11 0 0) ≡ answer 11 0 2
   pub names-none : named 0x23 (answer 7 0 0) ≡ answer 7 0 0
   -- 'The answer': what the call answered is given, whoever runs next; a refused number's table is named
-  pub answers : (n : ℕ) (r : After Tables) → finished n r .answer ≡ named n (r .answer)
+  pub answers : (n : ℕ) (r : Effect Tables) → finished n r .answer ≡ named n (r .answer)
   -- event 7 is the last of its table, and not in use; event 8 is outside
   pub not-in-use : codeOf (postCases (zeros 16) 7 0 0) ≡ 11
   pub not-there : codeOf (postCases (zeros 16) 8 0 0) ≡ 3
@@ -116,38 +116,38 @@ pub record Sentences : Type 0 where
   -- "After each accepted call .. the current task becomes the front of the highest non-empty ready queue": from task 1, blocked, to task 0
   pub dispatches : settled 0 [] waiting (currently 1) .state ≡ currently 0
   -- "its trigger is kept as taken and set back to its initial value" where it starts
-  pub starts : started 0 (postedLine 3) (posts (postedWith 7) []) .swis ≡ taking 7
+  pub starts : started 0 (postedLine 3) (swiQueues (postedWith 7) []) .swis ≡ taking 7
   -- "Tasks join queues at the back."
   pub joins : line (joined (readyLine 0) 3 waiting) (readyLine 0) ≡ 0 ∷ 3 ∷ []
   -- "02 set priority: .. a blocked task keeps its place in line"
-  pub keeps-place : reprioritized (queued (waiters 5 0) waiting) 1 6 ≡ queued (waiters 6 0) waiting
+  pub keeps-place : reprioritized (taskQueues (waiters 5 0) waiting) 1 6 ≡ taskQueues (waiters 6 0) waiting
   -- "Limit 4,294,967,295 is without end.", and any other is its ticks
   pub without-end : ticksFor forever ≡ 0
   pub limited : ticksFor 7 ≡ 7
   -- "Kinds 0 and 1 wait in arrival order"
   pub arrival : placeIn 0 (waiters 5 0) 5 (1 ∷ 2 ∷ []) ≡ 2
   -- "23 post: .. the first waiter ready": the second waits on
-  pub wakes : line (postEffect (served (waiters 5 0) waiting (counting 0)) 0 .next .lines) (semaphoreLine 0) ≡ 2 ∷ []
+  pub wakes : line (postEffect (waitTables (waiters 5 0) waiting (counting 0)) 0 .next .lines) (semaphoreLine 0) ≡ 2 ∷ []
   -- "or value 0 and count one up", where nobody waits
-  pub counts : postEffect (served [] [] (counting 0)) 0 ≡ accepted done 0 (served [] [] (counting 1))
+  pub counts : postEffect (waitTables [] [] (counting 0)) 0 ≡ accepted done 0 (waitTables [] [] (counting 1))
   -- a waiter ready, "or" the count: not both
-  pub wakes-only : postEffect (served (waiters 5 0) waiting (counting 0)) 0 .next .objects ≡ counting 0
+  pub wakes-only : postEffect (waitTables (waiters 5 0) waiting (counting 0)) 0 .next .objects ≡ counting 0
   -- "33 post: sets bits", value 0: nobody was served
-  pub unserved : postEvent (served [] [] (bits 0)) 0 1 ≡ accepted done 0 (served [] [] (bits 1))
+  pub unserved : postEvent (waitTables [] [] (bits 0)) 0 1 ≡ accepted done 0 (waitTables [] [] (bits 1))
   -- No. 8: "Let the value be the woken task's number": the first in line, at each of the three kinds
-  pub names-waiter : postEffect (served (blocked atSemaphore 0) (twoAt (semaphoreLine 0)) (counting 0)) 0 .answer ≡ answer 0 done 2
-  pub names-served : postEvent (served (blocked atEvent 1) (twoAt (eventLine 0)) (bits 0)) 0 1 .answer ≡ answer 0 done 2
-  pub names-reader : postMailbox (served (blocked reading 0) (twoAt (mailboxLine 0)) empty) [] 0 9 0 .answer ≡ answer 0 done 2
+  pub names-waiter : postEffect (waitTables (blocked atSemaphore 0) (twoAt (semaphoreLine 0)) (counting 0)) 0 .answer ≡ answer 0 done 2
+  pub names-served : postEvent (waitTables (blocked atEvent 1) (twoAt (eventLine 0)) (bits 0)) 0 1 .answer ≡ answer 0 done 2
+  pub names-reader : postMailbox (waitTables (blocked reading 0) (twoAt (mailboxLine 0)) empty) [] 0 9 0 .answer ≡ answer 0 done 2
   -- "and 0 if none was woken": a word that is stored
-  pub stores : postMailbox (served [] [] empty) [] 0 9 0 ≡ accepted done 0 (served [] [] (full 9))
+  pub stores : postMailbox (waitTables [] [] empty) [] 0 9 0 ≡ accepted done 0 (waitTables [] [] (full 9))
   -- "43 pend: value the oldest word", also where a writer is let in
-  pub lets-in : pendMailbox (served (blocked writing 8) (twoAt (mailboxLine 0)) (full 9)) [] 0 0 .answer ≡ answer 0 done 9
+  pub lets-in : pendMailbox (waitTables (blocked writing 8) (twoAt (mailboxLine 0)) (full 9)) [] 0 0 .answer ≡ answer 0 done 9
   -- "the whole and-mask if all its bits are posted", and no part of it
   pub no-part : matched 1 3 0 ≡ 0
   pub whole-mask : matched 3 3 0 ≡ 3
   -- "at 0 the task leaves its line and is ready"
-  pub leaves : line (taskTick (queued (waiters 5 1) waiting) 1 .lines) (semaphoreLine 0) ≡ 2 ∷ []
-  pub is-ready : line (taskTick (queued (waiters 5 1) waiting) 1 .lines) (readyLine 5) ≡ 1 ∷ []
+  pub leaves : line (taskTick (taskQueues (waiters 5 1) waiting) 1 .lines) (semaphoreLine 0) ≡ 2 ∷ []
+  pub is-ready : line (taskTick (taskQueues (waiters 5 1) waiting) 1 .lines) (readyLine 5) ≡ 1 ∷ []
   -- "Then running clocks ..": they come before the tasks
   pub clocks-first : line (ticked together .lines) (readyLine 0) ≡ 3 ∷ 1 ∷ []
   -- No. 10: "77 (which; T S) turns off Swis (1), tasks (2) or both (3) and answers the named ones' old settings in the same bits"
@@ -180,7 +180,7 @@ pub record Sentences : Type 0 where
   pub restore-both-by-S : _≡_ {A = List ℕ} (restoreCodes S 3) (2 ∷ 2 ∷ 2 ∷ 2 ∷ 2 ∷ [])
   pub restore-swis-by-I : _≡_ {A = List ℕ} (restoreCodes I 1) (2 ∷ 2 ∷ 2 ∷ 2 ∷ 2 ∷ [])
   -- "fields without meaning at the time (.., the taken trigger of a Swi not active)" are 0: a Swi that ends has none
-  pub ends : endEffect (posts (taking 2) (linesWith (activeLine has (0 ∷ []) ∷ []))) .next .swis ≡ taking 0
+  pub ends : endEffect (swiQueues (taking 2) (linesWith (activeLine has (0 ∷ []) ∷ []))) .next .swis ≡ taking 0
   -- "fields without meaning at the time (.., an ended wait's data, ..)" are 0: a ready task has no ticks left
   pub ended-wait : holds (otherRule 16 (task (ready ∷ 5 ∷ 0 ∷ 1 ∷ zeros 4) 0)) ≡ false
   pub no-wait : holds (otherRule 16 (task (ready ∷ 5 ∷ zeros 6) 0)) ≡ true

@@ -14,10 +14,10 @@ asked number a b c d = record { number = number; a = a; b = b; c = c; d = d }
 
 -- "All arguments are unsigned 32-bit"
 pub record Words (q : Call) : Type 0 where
-  pub first : q .a < wordEnd
-  pub second : q .b < wordEnd
-  pub third : q .c < wordEnd
-  pub fourth : q .d < wordEnd
+  pub a : q .a < wordEnd
+  pub b : q .b < wordEnd
+  pub c : q .c < wordEnd
+  pub d : q .d < wordEnd
 
 abbrev pub answer : ℕ → ℕ → ℕ → Answer
 answer k o v = record { code = k; outcome = o; value = v }
@@ -68,20 +68,20 @@ abbrev pub codeOf : Cases → ℕ
 codeOf c = firstGiven order c
 
 -- ---- what a call leaves: its answer, and the tables that calls of its kind may change
-pub record After (A : Type 0) : Type 0 where
+pub record Effect (A : Type 0) : Type 0 where
   pub answer : Answer
   pub next : A
 
-abbrev pub after : {A : Type 0} → Answer → A → After A
-after r t = record { answer = r; next = t }
+abbrev pub withAnswer : {A : Type 0} → Answer → A → Effect A
+withAnswer r t = record { answer = r; next = t }
 
 -- accepted, with an outcome and a value
-abbrev pub accepted : {A : Type 0} → ℕ → ℕ → A → After A
-accepted o v t = after (answer 0 o v) t
+abbrev pub accepted : {A : Type 0} → ℕ → ℕ → A → Effect A
+accepted o v t = withAnswer (answer 0 o v) t
 
 -- "A refusal has outcome 0, value 0 and no change"; with codes 3 and 11 the value is put in by `named`
-abbrev pub refused : {A : Type 0} → ℕ → A → After A
-refused k t = after (answer k 0 0) t
+abbrev pub refused : {A : Type 0} → ℕ → A → Effect A
+refused k t = withAnswer (answer k 0 0) t
 
 -- No. 2: "The answer's value names the table: 1 tasks, 2 Swis, 3 semaphores, 4 events, 5 mailboxes, 6 clocks.": of a call
 -- that takes an object's number, and so can be refused with code 3 or 11: its kind's, by the ranges of sixteen; call 50 takes a Swi's
@@ -95,19 +95,19 @@ named number r = if (eqb (r .code) 3 || eqb (r .code) 11) (answer (r .code) (r .
 -- the rule of a call: when each code is given, and what it does where none is
 pub record CallRule (A : Type 0) : Type 0 where
   pub cases : Cases
-  pub effect : After A
+  pub effect : Effect A
 
-abbrev pub called : {A : Type 0} → Cases → After A → CallRule A
+abbrev pub called : {A : Type 0} → Cases → Effect A → CallRule A
 called c e = record { cases = c; effect = e }
 
 abbrev pub unknown : {A : Type 0} → A → CallRule A
 unknown t = called (given 1 true never) (accepted done 0 t)
 
 -- what a call on these tables leaves
-abbrev pub guarded : {A : Type 0} → ℕ → A → After A → After A
+abbrev pub guarded : {A : Type 0} → ℕ → A → Effect A → Effect A
 guarded k t e = if (eqb k 0) e (refused k t)
 
-abbrev pub answered : {A : Type 0} → A → CallRule A → After A
+abbrev pub answered : {A : Type 0} → A → CallRule A → Effect A
 answered t c = guarded (codeOf (c .cases)) t (c .effect)
 
 -- ---- tests that many calls share

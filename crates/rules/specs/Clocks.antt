@@ -4,7 +4,7 @@ use mathlib.Core.Bool.{_||_, cond as if}
 use lib.Dec.{eqb}
 use Rattle.rules.specs.Tables.{SwiTable, ClockTable, swiCount, clockCount, clock, withClock, noClock, swi, USED}
 use Rattle.basics.specs.Find.{firstBelow}
-use Rattle.rules.specs.Answer.{Cases, given, onObject, never, CallRule, called, After, accepted, unknown, done, notT, unused}
+use Rattle.rules.specs.Answer.{Cases, given, onObject, never, CallRule, called, Effect, accepted, unknown, done, notT, unused}
 use Rattle.rules.specs.declared.Clock.{Clock}
 
 unfoldable pub freeClock : ClockTable → ℕ
@@ -22,7 +22,7 @@ createCases cs ws x i ticks d =
     (given 4 (eqb ticks 0 || unused 0 0 0 d)
     (given 6 (eqb (freeClock cs) clockCount) never)))
 
-unfoldable pub createEffect : ClockTable → ℕ → ℕ → ℕ → After ClockTable
+unfoldable pub createEffect : ClockTable → ℕ → ℕ → ℕ → Effect ClockTable
 createEffect cs i ticks period =
     accepted done (freeClock cs) (withClock cs (freeClock cs) (record { used = 1; swi = i; first = ticks; period = period; left = 0 }))
 
@@ -33,7 +33,7 @@ createCall cs ws x a b c d = called (createCases cs ws x a b d) (createEffect cs
 unfoldable pub deleteCases : ClockTable → ℕ → ℕ → ℕ → ℕ → ℕ → Cases
 deleteCases cs x a b c d = given 2 (notT x) (onObject clockCount a (clock cs a .used) (given 4 (unused 0 b c d) never))
 
-unfoldable pub deleteEffect : ClockTable → ℕ → After ClockTable
+unfoldable pub deleteEffect : ClockTable → ℕ → Effect ClockTable
 deleteEffect cs a = accepted done 0 (withClock cs a noClock)
 
 abbrev pub deleteCall : ClockTable → ℕ → ℕ → ℕ → ℕ → ℕ → CallRule ClockTable
@@ -43,14 +43,14 @@ deleteCall cs x a b c d = called (deleteCases cs x a b c d) (deleteEffect cs a)
 unfoldable pub startStopCases : ClockTable → ℕ → ℕ → ℕ → ℕ → Cases
 startStopCases cs a b c d = onObject clockCount a (clock cs a .used) (given 4 (unused 0 b c d) never)
 
-unfoldable pub startEffect : ClockTable → ℕ → After ClockTable
+unfoldable pub startEffect : ClockTable → ℕ → Effect ClockTable
 startEffect cs a = accepted done 0 (withClock cs a (withLeft (clock cs a) (clock cs a .first)))
 
 abbrev pub startCall : ClockTable → ℕ → ℕ → ℕ → ℕ → CallRule ClockTable
 startCall cs a b c d = called (startStopCases cs a b c d) (startEffect cs a)
 
 -- "a stopped clock's ticks" are 0
-unfoldable pub stopEffect : ClockTable → ℕ → After ClockTable
+unfoldable pub stopEffect : ClockTable → ℕ → Effect ClockTable
 stopEffect cs a = accepted done 0 (withClock cs a (withLeft (clock cs a) 0))
 
 abbrev pub stopCall : ClockTable → ℕ → ℕ → ℕ → ℕ → CallRule ClockTable

@@ -6,8 +6,8 @@ use Rattle.rules.specs.Tables.{LineTable, SwiTable, StateRow, swiLevels,
 use Rattle.rules.specs.Tables.{POSTED, TAKEN, DEPTH, SWIS, TASKS, CURRENT}
 use Rattle.basics.specs.Find.{highestBelow}
 use Rattle.rules.specs.Answer.{T, S, I}
-use Rattle.rules.specs.Lines.{anyone, first, left, joined, postedLine, activeLine, readyLine}
-use Rattle.rules.specs.Swis.{Posts, posts, top}
+use Rattle.rules.specs.Lines.{anyone, frontOf, outOf, joined, postedLine, activeLine, readyLine}
+use Rattle.rules.specs.Swis.{SwiQueues, swiQueues, top}
 use Rattle.rules.specs.declared.Thread.{Thread}
 use Rattle.rules.specs.declared.Thread.the-variants.{Task, Swi, Interrupt}
 
@@ -32,20 +32,20 @@ unfoldable pub swiDue : SwiTable → LineTable → StateRow → Bool
 swiDue ws ls st = eqb (state st DEPTH) 0 && not (eqb (state st SWIS) 0) && ltb (activeLevel ws ls) (highestPosted ls)
 
 -- "its trigger is kept as taken and set back to its initial value"; it leaves the line j in which it is posted and is the top active one
-unfoldable pub started : ℕ → ℕ → Posts → Posts
+unfoldable pub started : ℕ → ℕ → SwiQueues → SwiQueues
 started i j x =
-    posts
+    swiQueues
     (withSwi (withSwi (withSwi (x .swis) i TAKEN (swi (x .swis) i TRIGGER)) i TRIGGER (swi (x .swis) i INITIAL)) i POSTED 0)
-    (joined activeLine i (left j i (x .lines)))
+    (joined activeLine i (outOf j i (x .lines)))
 
 -- the line of the highest posted Swi
 abbrev pub nextLine : LineTable → ℕ
 nextLine ls = postedLine (highestPosted ls - 1)
 
-unfoldable pub swiDispatched : StateRow → Posts → Posts
+unfoldable pub swiDispatched : StateRow → SwiQueues → SwiQueues
 swiDispatched st x =
     if (swiDue (x .swis) (x .lines) st)
-    (started (first (x .lines) (nextLine (x .lines))) (nextLine (x .lines)) x)
+    (started (frontOf (x .lines) (nextLine (x .lines))) (nextLine (x .lines)) x)
     x
 
 -- ---- tasks: "Then, at depth 0 with no Swi active and both switches on, the current task becomes the front of the highest non-empty ready queue."
@@ -54,7 +54,7 @@ unfoldable pub highestReady : ℕ → LineTable → ℕ
 highestReady n ls = highestBelow n (λ p. anyone ls (readyLine p))
 
 unfoldable pub front : ℕ → LineTable → ℕ
-front n ls = first ls (readyLine (highestReady n ls - 1))
+front n ls = frontOf ls (readyLine (highestReady n ls - 1))
 
 unfoldable pub taskDue : LineTable → StateRow → Bool
 taskDue ls st = eqb (state st DEPTH) 0 && not (anyone ls activeLine) && not (eqb (state st SWIS) 0) && not (eqb (state st TASKS) 0)
@@ -63,15 +63,15 @@ unfoldable pub taskDispatched : LineTable → StateRow → StateRow
 taskDispatched ls st = if (taskDue ls st) (withState st CURRENT (front (levels st) ls)) st
 
 -- ---- the whole rule
-pub record Dispatched : Type 0 where
+pub record DispatchTables : Type 0 where
   pub swis : SwiTable
   pub lines : LineTable
   pub state : StateRow
 
-abbrev pub dispatchedOf : SwiTable → LineTable → StateRow → Dispatched
-dispatchedOf ws ls st = record { swis = ws; lines = ls; state = st }
+abbrev pub dispatchTables : SwiTable → LineTable → StateRow → DispatchTables
+dispatchTables ws ls st = record { swis = ws; lines = ls; state = st }
 
-unfoldable pub dispatched : SwiTable → LineTable → StateRow → Dispatched
+unfoldable pub dispatched : SwiTable → LineTable → StateRow → DispatchTables
 dispatched ws ls st =
-    let x : Posts = swiDispatched st (posts ws ls) in
-    dispatchedOf (x .swis) (x .lines) (taskDispatched (x .lines) st)
+    let x : SwiQueues = swiDispatched st (swiQueues ws ls) in
+    dispatchTables (x .swis) (x .lines) (taskDispatched (x .lines) st)

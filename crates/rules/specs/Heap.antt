@@ -8,7 +8,7 @@ use lib.Seq.{sets}
 use Rattle.rules.specs.Tables.{HeapMap, heapUnits, unitBytes}
 use Rattle.basics.specs.Lists.{zeros}
 use Rattle.basics.specs.Find.{allBelow, firstBelow}
-use Rattle.rules.specs.Answer.{Cases, given, never, CallRule, called, After, accepted, unknown, done, notT, unused}
+use Rattle.rules.specs.Answer.{Cases, given, never, CallRule, called, Effect, accepted, unknown, done, notT, unused}
 
 -- "A heap entry is free, first of a block or later in one"
 abbrev pub free : ℕ
@@ -51,7 +51,7 @@ takeCases h x bytes b c d =
     (given 4 (eqb bytes 0 || not (leb bytes (heapUnits * unitBytes)) || unused 0 b c d)
     (given 8 (eqb (lowestRun h (unitsOf bytes)) heapUnits) never))
 
-unfoldable pub takeEffect : HeapMap → ℕ → After HeapMap
+unfoldable pub takeEffect : HeapMap → ℕ → Effect HeapMap
 takeEffect h bytes =
     accepted done (lowestRun h (unitsOf bytes) * unitBytes)
     (withUnits h (lowestRun h (unitsOf bytes)) (firstOf ∷ replicate (unitsOf bytes - 1) laterIn))
@@ -67,7 +67,7 @@ isBlock h offset bytes =
 unfoldable pub giveCases : HeapMap → ℕ → ℕ → ℕ → ℕ → ℕ → Cases
 giveCases h x offset bytes c d = given 2 (notT x) (given 4 (not (isBlock h offset bytes) || unused 0 0 c d) never)
 
-unfoldable pub giveEffect : HeapMap → ℕ → After HeapMap
+unfoldable pub giveEffect : HeapMap → ℕ → Effect HeapMap
 giveEffect h offset = accepted done 0 (withUnits h (offset / unitBytes) (zeros (blockSize h (offset / unitBytes))))
 
 abbrev pub giveCall : HeapMap → ℕ → ℕ → ℕ → ℕ → ℕ → CallRule HeapMap

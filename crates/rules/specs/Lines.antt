@@ -60,11 +60,11 @@ withLine ls j xs = if (ltb j lineCount) (withListed lineMost ls (j * lineWidth) 
 abbrev pub anyone : LineTable → ℕ → Bool
 anyone ls j = ltb 0 (length (line ls j))
 
-abbrev pub first : LineTable → ℕ → ℕ
-first ls j = getD (line ls j) 0 0
+abbrev pub frontOf : LineTable → ℕ → ℕ
+frontOf ls j = getD (line ls j) 0 0
 
-unfoldable pub left : ℕ → ℕ → LineTable → LineTable
-left j x ls = withLine ls j (without x (line ls j))
+unfoldable pub outOf : ℕ → ℕ → LineTable → LineTable
+outOf j x ls = withLine ls j (without x (line ls j))
 
 -- x behind as many as `place` says of those who stand there; a full line stays as it is
 unfoldable pub entered : (List ℕ → ℕ) → ℕ → ℕ → LineTable → LineTable
@@ -105,15 +105,15 @@ unfoldable pub swiHome : SwiTable → ℕ → ℕ
 swiHome ws i = if (eqb (swi ws i POSTED) 1) (postedLine (swi ws i PRIORITY)) nowhere
 
 -- ---- a task moves: out of its line if it has one, its row becomes k, and into the line that k has, if any; no task i, no change
-pub record Queued : Type 0 where
+pub record TaskQueues : Type 0 where
   pub tasks : TaskTable
   pub lines : LineTable
 
-abbrev pub queued : TaskTable → LineTable → Queued
-queued ts ls = record { tasks = ts; lines = ls }
+abbrev pub taskQueues : TaskTable → LineTable → TaskQueues
+taskQueues ts ls = record { tasks = ts; lines = ls }
 
-unfoldable pub moved : (List ℕ → ℕ) → ℕ → Task → Queued → Queued
+unfoldable pub moved : (List ℕ → ℕ) → ℕ → Task → TaskQueues → TaskQueues
 moved place i k x =
     if (ltb i taskCount)
-    (queued (withTask (x .tasks) i k) (entered place (homeOf k) i (left (taskHome (x .tasks) i) i (x .lines))))
+    (taskQueues (withTask (x .tasks) i k) (entered place (homeOf k) i (outOf (taskHome (x .tasks) i) i (x .lines))))
     x

@@ -11,7 +11,7 @@ use Rattle.rules.specs.Tables.{PRIORITY, INITIAL, TRIGGER, POSTED, TAKEN
 use Rattle.basics.specs.Lists.{count}
 use Rattle.basics.specs.Rule.{Rule, _is_, _isnt_, _under_, test, _and_, _or_, _gives_, each, every, holds, Means}
 use Rattle.rules.specs.Rows.{behind}
-use Rattle.rules.specs.Lines.{lineCount, lineMost, lineWidth, semaphoreLine, mailboxLine, eventLine, postedLine, activeLine, line, first, taskHome}
+use Rattle.rules.specs.Lines.{lineCount, lineMost, lineWidth, semaphoreLine, mailboxLine, eventLine, postedLine, activeLine, line, frontOf, taskHome}
 use Rattle.rules.specs.Lines.{swiHome}
 use Rattle.rules.specs.Semaphores.{most}
 use Rattle.rules.specs.Events.{matched}
@@ -24,7 +24,7 @@ use Rattle.rules.specs.declared.Clock.{Clock}
 -- ---- tasks: "All numbers are in this page's ranges, and what a call stored .. is as that call allows; task 0 is as said."
 -- "Records not in use are all 0, and so are fields without meaning at the time (.., an ended wait's data, ..)"
 abbrev pub noWait : Task → Rule
-noWait k = (k .object is 0) and (k .left is 0) and (k .first is 0) and (k .second is 0)
+noWait k = (k .object is 0) and (k .left is 0) and (k .held is 0) and (k .mask is 0)
 
 -- "Task 0 is the idle task, priority 0, always ready."
 abbrev pub idleRule : Task → Rule
@@ -42,11 +42,11 @@ otherRule n k =
     and (k .outcome is 1 gives k .value is 0)
     and (k .mode is notInUse gives (k .priority is 0) and noWait k and (k .outcome is 0) and (k .value is 0))
     and (k .mode is ready gives noWait k)
-    and (k .mode is sleeping gives (k .object is 0) and (k .left isnt 0) and (k .left under forever) and (k .first is 0) and (k .second is 0))
-    and (k .mode is atSemaphore gives waitRule k semaphoreCount and (k .first is 0) and (k .second is 0))
-    and (k .mode is atEvent gives waitRule k eventCount and (k .first isnt 0 or k .second isnt 0))
-    and (k .mode is reading gives waitRule k mailboxCount and (k .first is 0) and (k .second is 0))
-    and (k .mode is writing gives waitRule k mailboxCount and (k .second is 0))
+    and (k .mode is sleeping gives (k .object is 0) and (k .left isnt 0) and (k .left under forever) and (k .held is 0) and (k .mask is 0))
+    and (k .mode is atSemaphore gives waitRule k semaphoreCount and (k .held is 0) and (k .mask is 0))
+    and (k .mode is atEvent gives waitRule k eventCount and (k .held isnt 0 or k .mask isnt 0))
+    and (k .mode is reading gives waitRule k mailboxCount and (k .held is 0) and (k .mask is 0))
+    and (k .mode is writing gives waitRule k mailboxCount and (k .mask is 0))
     and (k .mode is terminated gives noWait k)
     and (k .mode is inactive gives (k .priority is minusOne) and noWait k)
     and (k .mode isnt notInUse and k .mode isnt inactive gives (0 under k .priority) and (k .priority under n))
@@ -96,7 +96,7 @@ eventRule ts es ls e =
     and (event es e USED is 0 gives (event es e BITS is 0) and (length (line ls (eventLine e)) is 0))
     and (length (line ls (eventLine e)) under 2)
     and (length (line ls (eventLine e)) isnt 0
-    gives matched (event es e BITS) (task ts (first ls (eventLine e)) .first) (task ts (first ls (eventLine e)) .second) is 0)
+    gives matched (event es e BITS) (task ts (frontOf ls (eventLine e)) .held) (task ts (frontOf ls (eventLine e)) .mask) is 0)
 
 abbrev pub eventsRule : TaskTable → EventTable → LineTable → Rule
 eventsRule ts es ls = each eventCount (eventRule ts es ls)

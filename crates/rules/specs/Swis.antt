@@ -9,16 +9,16 @@ use Rattle.rules.specs.Tables.{LineTable, SwiTable, ClockTable, StateRow
 use Rattle.rules.specs.Tables.{state, USED, PRIORITY, TRIGGER, POSTED, TAKEN, SWIS}
 use Rattle.basics.specs.Lists.{zeros, count}
 use Rattle.basics.specs.Find.{allBelow, firstBelow}
-use Rattle.rules.specs.Answer.{Cases, given, onObject, never, CallRule, called, After, accepted, unknown, done, notT, notS, unused}
-use Rattle.rules.specs.Lines.{line, left, joined, postedLine, activeLine}
+use Rattle.rules.specs.Answer.{Cases, given, onObject, never, CallRule, called, Effect, accepted, unknown, done, notT, notS, unused}
+use Rattle.rules.specs.Lines.{line, outOf, joined, postedLine, activeLine}
 
 -- what a Swi's calls may change
-pub record Posts : Type 0 where
+pub record SwiQueues : Type 0 where
   pub swis : SwiTable
   pub lines : LineTable
 
-abbrev pub posts : SwiTable → LineTable → Posts
-posts ws ls = record { swis = ws; lines = ls }
+abbrev pub swiQueues : SwiTable → LineTable → SwiQueues
+swiQueues ws ls = record { swis = ws; lines = ls }
 
 -- the top active Swi: the last to start
 unfoldable pub top : LineTable → ℕ
@@ -35,15 +35,15 @@ unfoldable pub freeSwi : SwiTable → ℕ
 freeSwi ws = firstBelow swiCount (λ i. eqb (swi ws i USED) 0)
 
 -- "A Swi already posted is not queued again"; it joins its priority's queue at the back; no Swi i, no change
-unfoldable pub posted : ℕ → Posts → Posts
+unfoldable pub posted : ℕ → SwiQueues → SwiQueues
 posted i p =
     if (ltb i swiCount && eqb (swi (p .swis) i POSTED) 0)
-    (posts (withSwi (p .swis) i POSTED 1) (joined (postedLine (swi (p .swis) i PRIORITY)) i (p .lines)))
+    (swiQueues (withSwi (p .swis) i POSTED 1) (joined (postedLine (swi (p .swis) i PRIORITY)) i (p .lines)))
     p
 
 -- Swi i's trigger is this now
-abbrev pub triggered : ℕ → ℕ → Posts → Posts
-triggered i v p = posts (withSwi (p .swis) i TRIGGER v) (p .lines)
+abbrev pub triggered : ℕ → ℕ → SwiQueues → SwiQueues
+triggered i v p = swiQueues (withSwi (p .swis) i TRIGGER v) (p .lines)
 
 -- "The tick count and the triggers go round at 4,294,967,296."
 abbrev pub oneUp : ℕ → ℕ
@@ -61,12 +61,12 @@ unfoldable pub createCases : SwiTable → ℕ → ℕ → ℕ → ℕ → ℕ �
 createCases ws x priority initial c d =
     given 2 (notT x) (given 4 (not (ltb priority swiLevels) || unused 0 0 c d) (given 6 (eqb (freeSwi ws) swiCount) never))
 
-unfoldable pub createEffect : Posts → ℕ → ℕ → After Posts
+unfoldable pub createEffect : SwiQueues → ℕ → ℕ → Effect SwiQueues
 createEffect p priority initial =
     accepted done (freeSwi (p .swis))
-    (posts (swiRow (p .swis) (freeSwi (p .swis)) (1 ∷ priority ∷ initial ∷ initial ∷ 0 ∷ 0 ∷ [])) (p .lines))
+    (swiQueues (swiRow (p .swis) (freeSwi (p .swis)) (1 ∷ priority ∷ initial ∷ initial ∷ 0 ∷ 0 ∷ [])) (p .lines))
 
-abbrev pub createCall : Posts → ℕ → ℕ → ℕ → ℕ → ℕ → CallRule Posts
+abbrev pub createCall : SwiQueues → ℕ → ℕ → ℕ → ℕ → ℕ → CallRule SwiQueues
 createCall p x a b c d = called (createCases (p .swis) x a b c d) (createEffect p a b)
 
 -- ---- "11 delete (T): 5 if posted, active or named by a clock."
@@ -77,10 +77,10 @@ deleteCases ws ls cs x a b c d =
     (given 4 (unused 0 b c d)
     (given 5 (not (eqb (swi ws a POSTED) 0) || isActive ls a || isNamed cs a) never)))
 
-unfoldable pub deleteEffect : Posts → ℕ → After Posts
-deleteEffect p a = accepted done 0 (posts (swiRow (p .swis) a (zeros swiWidth)) (p .lines))
+unfoldable pub deleteEffect : SwiQueues → ℕ → Effect SwiQueues
+deleteEffect p a = accepted done 0 (swiQueues (swiRow (p .swis) a (zeros swiWidth)) (p .lines))
 
-abbrev pub deleteCall : Posts → ClockTable → ℕ → ℕ → ℕ → ℕ → ℕ → CallRule Posts
+abbrev pub deleteCall : SwiQueues → ClockTable → ℕ → ℕ → ℕ → ℕ → ℕ → CallRule SwiQueues
 deleteCall p cs x a b c d = called (deleteCases (p .swis) (p .lines) cs x a b c d) (deleteEffect p a)
 
 -- ---- "T S I: 12 post; 13 add one and post; 14 take one and post if now 0; 15 set mask bits and post; 16 clear mask bits and post if now 0."
@@ -92,30 +92,30 @@ postCases ws a b c d = onObject swiCount a (swi ws a USED) (given 4 (unused 0 b 
 unfoldable pub maskCases : SwiTable → ℕ → ℕ → ℕ → Cases
 maskCases ws a c d = onObject swiCount a (swi ws a USED) (given 4 (unused 0 0 c d) never)
 
-unfoldable pub postEffect : Posts → ℕ → After Posts
+unfoldable pub postEffect : SwiQueues → ℕ → Effect SwiQueues
 postEffect p a = accepted done 0 (posted a p)
 
 -- the trigger is v now, and the Swi posted
-unfoldable pub changeEffect : Posts → ℕ → ℕ → After Posts
+unfoldable pub changeEffect : SwiQueues → ℕ → ℕ → Effect SwiQueues
 changeEffect p a v = accepted done 0 (posted a (triggered a v p))
 
 -- the trigger is v now, and the Swi posted if that is 0
-unfoldable pub zeroEffect : Posts → ℕ → ℕ → After Posts
+unfoldable pub zeroEffect : SwiQueues → ℕ → ℕ → Effect SwiQueues
 zeroEffect p a v = accepted done 0 (if (eqb v 0) (posted a (triggered a v p)) (triggered a v p))
 
-abbrev pub postCall : Posts → ℕ → ℕ → ℕ → ℕ → CallRule Posts
+abbrev pub postCall : SwiQueues → ℕ → ℕ → ℕ → ℕ → CallRule SwiQueues
 postCall p a b c d = called (postCases (p .swis) a b c d) (postEffect p a)
 
-abbrev pub addCall : Posts → ℕ → ℕ → ℕ → ℕ → CallRule Posts
+abbrev pub addCall : SwiQueues → ℕ → ℕ → ℕ → ℕ → CallRule SwiQueues
 addCall p a b c d = called (postCases (p .swis) a b c d) (changeEffect p a (oneUp (swi (p .swis) a TRIGGER)))
 
-abbrev pub takeCall : Posts → ℕ → ℕ → ℕ → ℕ → CallRule Posts
+abbrev pub takeCall : SwiQueues → ℕ → ℕ → ℕ → ℕ → CallRule SwiQueues
 takeCall p a b c d = called (postCases (p .swis) a b c d) (zeroEffect p a (oneDown (swi (p .swis) a TRIGGER)))
 
-abbrev pub setBitsCall : Posts → ℕ → ℕ → ℕ → ℕ → CallRule Posts
+abbrev pub setBitsCall : SwiQueues → ℕ → ℕ → ℕ → ℕ → CallRule SwiQueues
 setBitsCall p a mask c d = called (maskCases (p .swis) a c d) (changeEffect p a (bitOr (swi (p .swis) a TRIGGER) mask))
 
-abbrev pub clearBitsCall : Posts → ℕ → ℕ → ℕ → ℕ → CallRule Posts
+abbrev pub clearBitsCall : SwiQueues → ℕ → ℕ → ℕ → ℕ → CallRule SwiQueues
 clearBitsCall p a mask c d = called (maskCases (p .swis) a c d) (zeroEffect p a (cleared (swi (p .swis) a TRIGGER) mask))
 
 -- ---- "17 end (S): 9 while Swis are off."
@@ -123,24 +123,24 @@ unfoldable pub endCases : StateRow → ℕ → ℕ → ℕ → ℕ → ℕ → C
 endCases st x a b c d = given 2 (notS x) (given 4 (unused a b c d) (given 9 (eqb (state st SWIS) 0) never))
 
 -- "the taken trigger of a Swi not active" is 0
-unfoldable pub endEffect : Posts → After Posts
-endEffect p = accepted done 0 (posts (withSwi (p .swis) (top (p .lines)) TAKEN 0) (left activeLine (top (p .lines)) (p .lines)))
+unfoldable pub endEffect : SwiQueues → Effect SwiQueues
+endEffect p = accepted done 0 (swiQueues (withSwi (p .swis) (top (p .lines)) TAKEN 0) (outOf activeLine (top (p .lines)) (p .lines)))
 
-abbrev pub endCall : Posts → StateRow → ℕ → ℕ → ℕ → ℕ → ℕ → CallRule Posts
+abbrev pub endCall : SwiQueues → StateRow → ℕ → ℕ → ℕ → ℕ → ℕ → CallRule SwiQueues
 endCall p st x a b c d = called (endCases st x a b c d) (endEffect p)
 
 -- ---- "18 taken trigger (S): value."
 unfoldable pub takenCases : ℕ → ℕ → ℕ → ℕ → ℕ → Cases
 takenCases x a b c d = given 2 (notS x) (given 4 (unused a b c d) never)
 
-unfoldable pub takenEffect : Posts → After Posts
+unfoldable pub takenEffect : SwiQueues → Effect SwiQueues
 takenEffect p = accepted done (swi (p .swis) (top (p .lines)) TAKEN) p
 
-abbrev pub takenCall : Posts → ℕ → ℕ → ℕ → ℕ → ℕ → CallRule Posts
+abbrev pub takenCall : SwiQueues → ℕ → ℕ → ℕ → ℕ → ℕ → CallRule SwiQueues
 takenCall p x a b c d = called (takenCases x a b c d) (takenEffect p)
 
 -- ---- the calls by number
-unfoldable pub swiCall : Posts → ClockTable → StateRow → ℕ → ℕ → ℕ → ℕ → ℕ → ℕ → CallRule Posts
+unfoldable pub swiCall : SwiQueues → ClockTable → StateRow → ℕ → ℕ → ℕ → ℕ → ℕ → ℕ → CallRule SwiQueues
 swiCall p cs st x number a b c d =
     if (eqb number 0x10) (createCall p x a b c d)
     (if (eqb number 0x11) (deleteCall p cs x a b c d)

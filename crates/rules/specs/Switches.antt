@@ -4,7 +4,7 @@ use mathlib.Core.Bool.{Bool, not, _&&_, _||_, cond as if}
 use lib.Bits.{bitAnd, bitOr}
 use lib.Dec.{eqb, ltb}
 use Rattle.rules.specs.Tables.{StateRow, mostDepth, state, withState, DEPTH, SWIS, TASKS}
-use Rattle.rules.specs.Answer.{Cases, given, never, CallRule, called, After, accepted, done, S, notI, notTS, unused}
+use Rattle.rules.specs.Answer.{Cases, given, never, CallRule, called, Effect, accepted, done, S, notI, notTS, unused}
 
 -- ---- No. 10: "77 (which; T S) turns off Swis (1), tasks (2) or both (3)": the bits by which a call names the switches
 abbrev pub swisBit : ℕ
@@ -58,14 +58,14 @@ unfoldable pub restoreCases : ℕ → ℕ → ℕ → ℕ → ℕ → Cases
 restoreCases x which key c d = given 2 (mayNotName x which) (given 4 (badWhich which || badKey which key || unused 0 0 c d) never)
 
 -- "turns off Swis (1), tasks (2) or both (3) and answers the named ones' old settings in the same bits"
-unfoldable pub offEffect : StateRow → ℕ → After StateRow
+unfoldable pub offEffect : StateRow → ℕ → Effect StateRow
 offEffect st which = accepted done (bitAnd (settings st) which) (turned which off st)
 
 abbrev pub offCall : StateRow → ℕ → ℕ → ℕ → ℕ → ℕ → CallRule StateRow
 offCall st x a b c d = called (offCases x a b c d) (offEffect st a)
 
 -- "78 (which, key; T S) turns on those of the named switches whose bit in the key is set and changes no other"
-unfoldable pub restoreEffect : StateRow → ℕ → ℕ → After StateRow
+unfoldable pub restoreEffect : StateRow → ℕ → ℕ → Effect StateRow
 restoreEffect st which key = accepted done 0 (turned (bitAnd which key) on st)
 
 abbrev pub restoreCall : StateRow → ℕ → ℕ → ℕ → ℕ → ℕ → CallRule StateRow
@@ -75,7 +75,7 @@ restoreCall st x a b c d = called (restoreCases x a b c d) (restoreEffect st a b
 unfoldable pub inCases : StateRow → ℕ → ℕ → ℕ → ℕ → Cases
 inCases st a b c d = given 4 (unused a b c d) (given 7 (not (ltb (state st DEPTH) mostDepth)) never)
 
-unfoldable pub inEffect : StateRow → After StateRow
+unfoldable pub inEffect : StateRow → Effect StateRow
 inEffect st = accepted done 0 (if (ltb (state st DEPTH) mostDepth) (withState st DEPTH (state st DEPTH + 1)) st)
 
 abbrev pub inCall : StateRow → ℕ → ℕ → ℕ → ℕ → CallRule StateRow
@@ -85,7 +85,7 @@ inCall st a b c d = called (inCases st a b c d) (inEffect st)
 unfoldable pub interruptCases : ℕ → ℕ → ℕ → ℕ → ℕ → Cases
 interruptCases x a b c d = given 2 (notI x) (given 4 (unused a b c d) never)
 
-unfoldable pub outEffect : StateRow → After StateRow
+unfoldable pub outEffect : StateRow → Effect StateRow
 outEffect st = accepted done 0 (withState st DEPTH (state st DEPTH - 1))
 
 abbrev pub outCall : StateRow → ℕ → ℕ → ℕ → ℕ → ℕ → CallRule StateRow

@@ -145,7 +145,7 @@ abbrev pub inactive : ℕ
 inactive = 8
 
 -- task i's row; all 0 where there is none. `object` is the semaphore, event or mailbox at which it waits, by its mode; `left` the ticks left of a
--- limited wait or sleep, 0 without end; `first` and `second` are an event waiter's and-mask and or-mask, and `first` a writer's word
+-- limited wait or sleep, 0 without end; `held` is a writer's word or an event waiter's and-mask, `mask` its or-mask
 unfoldable pub task : TaskTable → ℕ → Task
 task ts i =
     record {
@@ -153,20 +153,20 @@ task ts i =
       priority = field taskWidth taskCount ts i 1;
       object = field taskWidth taskCount ts i 2;
       left = field taskWidth taskCount ts i 3;
-      first = field taskWidth taskCount ts i 4;
-      second = field taskWidth taskCount ts i 5;
+      held = field taskWidth taskCount ts i 4;
+      mask = field taskWidth taskCount ts i 5;
       outcome = field taskWidth taskCount ts i 6;
       value = field taskWidth taskCount ts i 7;
     }
 
 abbrev pub taskWords : Task → List ℕ
-taskWords k = k .mode ∷ k .priority ∷ k .object ∷ k .left ∷ k .first ∷ k .second ∷ k .outcome ∷ k .value ∷ []
+taskWords k = k .mode ∷ k .priority ∷ k .object ∷ k .left ∷ k .held ∷ k .mask ∷ k .outcome ∷ k .value ∷ []
 
 unfoldable pub withTask : TaskTable → ℕ → Task → TaskTable
 withTask ts i k = withRow taskWidth taskCount ts i (taskWords k)
 
 abbrev pub noTask : Task
-noTask = record { mode = notInUse; priority = 0; object = 0; left = 0; first = 0; second = 0; outcome = 0; value = 0 }
+noTask = record { mode = notInUse; priority = 0; object = 0; left = 0; held = 0; mask = 0; outcome = 0; value = 0 }
 
 -- ---- semaphores
 abbrev pub semaphore : SemaphoreTable → ℕ → ℕ → ℕ

@@ -5,8 +5,8 @@ use lib.Dec.{eqb, ltb, leb}
 use Rattle.rules.specs.Tables.{TaskTable, StateRow, taskCount, levels, minusOne, forever, notInUse, ready, sleeping, writing, terminated, inactive, task}
 use Rattle.rules.specs.Tables.{withTask, noTask, current}
 use Rattle.basics.specs.Find.{firstBelow}
-use Rattle.rules.specs.Answer.{Cases, given, onObject, never, CallRule, called, After, accepted, unknown, done, nowWaiting, notT, notTS, unused}
-use Rattle.rules.specs.Lines.{Queued, queued, moved, atBack}
+use Rattle.rules.specs.Answer.{Cases, given, onObject, never, CallRule, called, Effect, accepted, unknown, done, nowWaiting, notT, notTS, unused}
+use Rattle.rules.specs.Lines.{TaskQueues, taskQueues, moved, atBack}
 use Rattle.rules.specs.Waits.{switchOff, idle, waiting}
 use Rattle.rules.specs.declared.Task.{Task}
 
@@ -29,8 +29,8 @@ placedAt k p =
       priority = p;
       object = k .object;
       left = k .left;
-      first = k .first;
-      second = k .second;
+      held = k .held;
+      mask = k .mask;
       outcome = k .outcome;
       value = k .value;
     }
@@ -42,10 +42,10 @@ createCases ts st x priority b c d =
     (given 4 (not (isPriority (levels st) priority) || unused 0 b c d)
     (given 6 (eqb (freeTask ts) taskCount) never))
 
-unfoldable pub createEffect : Queued → ℕ → After Queued
+unfoldable pub createEffect : TaskQueues → ℕ → Effect TaskQueues
 createEffect q priority = accepted done (freeTask (q .tasks)) (moved atBack (freeTask (q .tasks)) (placedAt noTask priority) q)
 
-abbrev pub createCall : Queued → StateRow → ℕ → ℕ → ℕ → ℕ → ℕ → CallRule Queued
+abbrev pub createCall : TaskQueues → StateRow → ℕ → ℕ → ℕ → ℕ → ℕ → CallRule TaskQueues
 createCall q st x a b c d = called (createCases (q .tasks) st x a b c d) (createEffect q a)
 
 -- ---- "01 delete (T): terminated or inactive only, else 5."
@@ -56,10 +56,10 @@ deleteCases ts x a b c d =
     (given 4 (unused 0 b c d)
     (given 5 (not (eqb (task ts a .mode) terminated || eqb (task ts a .mode) inactive)) never)))
 
-unfoldable pub deleteEffect : Queued → ℕ → After Queued
-deleteEffect q a = accepted done 0 (queued (withTask (q .tasks) a noTask) (q .lines))
+unfoldable pub deleteEffect : TaskQueues → ℕ → Effect TaskQueues
+deleteEffect q a = accepted done 0 (taskQueues (withTask (q .tasks) a noTask) (q .lines))
 
-abbrev pub deleteCall : Queued → ℕ → ℕ → ℕ → ℕ → ℕ → CallRule Queued
+abbrev pub deleteCall : TaskQueues → ℕ → ℕ → ℕ → ℕ → ℕ → CallRule TaskQueues
 deleteCall q x a b c d = called (deleteCases (q .tasks) x a b c d) (deleteEffect q a)
 
 -- ---- "02 set priority (task, priority; T S): value the old one; 5 for task 0, a terminated task, or -1 for the current or a blocked task"
@@ -79,34 +79,34 @@ withPriority k p =
       priority = p;
       object = k .object;
       left = k .left;
-      first = k .first;
-      second = k .second;
+      held = k .held;
+      mask = k .mask;
       outcome = k .outcome;
       value = k .value;
     }
 
 -- "the same priority changes nothing; a ready or inactive task joins the new queue at the back (-1: made inactive); a blocked task keeps its
 -- place in line (house)"
-unfoldable pub reprioritized : Queued → ℕ → ℕ → Queued
+unfoldable pub reprioritized : TaskQueues → ℕ → ℕ → TaskQueues
 reprioritized q a p =
     if (eqb p (task (q .tasks) a .priority)) q
-    (if (blocked (task (q .tasks) a .mode)) (queued (withTask (q .tasks) a (withPriority (task (q .tasks) a) p)) (q .lines))
+    (if (blocked (task (q .tasks) a .mode)) (taskQueues (withTask (q .tasks) a (withPriority (task (q .tasks) a) p)) (q .lines))
     (moved atBack a (placedAt (task (q .tasks) a) p) q))
 
-unfoldable pub setPriorityEffect : Queued → ℕ → ℕ → After Queued
+unfoldable pub setPriorityEffect : TaskQueues → ℕ → ℕ → Effect TaskQueues
 setPriorityEffect q a p = accepted done (task (q .tasks) a .priority) (reprioritized q a p)
 
-abbrev pub setPriorityCall : Queued → StateRow → ℕ → ℕ → ℕ → ℕ → ℕ → CallRule Queued
+abbrev pub setPriorityCall : TaskQueues → StateRow → ℕ → ℕ → ℕ → ℕ → ℕ → CallRule TaskQueues
 setPriorityCall q st x a b c d = called (setPriorityCases (q .tasks) st x a b c d) (setPriorityEffect q a b)
 
 -- ---- "03 yield (T): to the back of its queue."
 unfoldable pub yieldCases : StateRow → ℕ → ℕ → ℕ → ℕ → ℕ → Cases
 yieldCases st x a b c d = given 2 (notT x) (given 4 (unused a b c d) (given 9 (switchOff st) never))
 
-unfoldable pub yieldEffect : Queued → StateRow → After Queued
+unfoldable pub yieldEffect : TaskQueues → StateRow → Effect TaskQueues
 yieldEffect q st = accepted done 0 (moved atBack (current st) (task (q .tasks) (current st)) q)
 
-abbrev pub yieldCall : Queued → StateRow → ℕ → ℕ → ℕ → ℕ → ℕ → CallRule Queued
+abbrev pub yieldCall : TaskQueues → StateRow → ℕ → ℕ → ℕ → ℕ → ℕ → CallRule TaskQueues
 yieldCall q st x a b c d = called (yieldCases st x a b c d) (yieldEffect q st)
 
 -- ---- "04 end (T): terminated, priority and last result kept."
@@ -115,12 +115,12 @@ endCases st x a b c d = given 2 (notT x) (given 4 (unused a b c d) (given 5 (idl
 
 abbrev pub ended : Task → Task
 ended k =
-    record { mode = terminated; priority = k .priority; object = 0; left = 0; first = 0; second = 0; outcome = k .outcome; value = k .value }
+    record { mode = terminated; priority = k .priority; object = 0; left = 0; held = 0; mask = 0; outcome = k .outcome; value = k .value }
 
-unfoldable pub endEffect : Queued → StateRow → After Queued
+unfoldable pub endEffect : TaskQueues → StateRow → Effect TaskQueues
 endEffect q st = accepted done 0 (moved atBack (current st) (ended (task (q .tasks) (current st))) q)
 
-abbrev pub endCall : Queued → StateRow → ℕ → ℕ → ℕ → ℕ → ℕ → CallRule Queued
+abbrev pub endCall : TaskQueues → StateRow → ℕ → ℕ → ℕ → ℕ → ℕ → CallRule TaskQueues
 endCall q st x a b c d = called (endCases st x a b c d) (endEffect q st)
 
 -- ---- "05 sleep (n; T): n = 0 does nothing, n = 4,294,967,295 is 4, else outcome 2."
@@ -131,26 +131,26 @@ sleepCases st x n b c d =
     (given 5 (ltb 0 n && idle st)
     (given 9 (ltb 0 n && switchOff st) never)))
 
-unfoldable pub sleepEffect : Queued → StateRow → ℕ → After Queued
+unfoldable pub sleepEffect : TaskQueues → StateRow → ℕ → Effect TaskQueues
 sleepEffect q st n =
     if (eqb n 0) (accepted done 0 q)
     (accepted nowWaiting 0 (moved atBack (current st) (waiting (task (q .tasks) (current st)) sleeping 0 n 0 0) q))
 
-abbrev pub sleepCall : Queued → StateRow → ℕ → ℕ → ℕ → ℕ → ℕ → CallRule Queued
+abbrev pub sleepCall : TaskQueues → StateRow → ℕ → ℕ → ℕ → ℕ → ℕ → CallRule TaskQueues
 sleepCall q st x a b c d = called (sleepCases st x a b c d) (sleepEffect q st a)
 
 -- ---- "06 last result (task; T S I): outcome and value of its last ended wait or sleep (a call done at once is none)."
 unfoldable pub lastResultCases : TaskTable → ℕ → ℕ → ℕ → ℕ → Cases
 lastResultCases ts a b c d = onObject taskCount a (task ts a .mode) (given 4 (unused 0 b c d) never)
 
-unfoldable pub lastResultEffect : Queued → ℕ → After Queued
+unfoldable pub lastResultEffect : TaskQueues → ℕ → Effect TaskQueues
 lastResultEffect q a = accepted (task (q .tasks) a .outcome) (task (q .tasks) a .value) q
 
-abbrev pub lastResultCall : Queued → ℕ → ℕ → ℕ → ℕ → CallRule Queued
+abbrev pub lastResultCall : TaskQueues → ℕ → ℕ → ℕ → ℕ → CallRule TaskQueues
 lastResultCall q a b c d = called (lastResultCases (q .tasks) a b c d) (lastResultEffect q a)
 
 -- ---- the calls by number
-unfoldable pub taskCall : Queued → StateRow → ℕ → ℕ → ℕ → ℕ → ℕ → ℕ → CallRule Queued
+unfoldable pub taskCall : TaskQueues → StateRow → ℕ → ℕ → ℕ → ℕ → ℕ → ℕ → CallRule TaskQueues
 taskCall q st x number a b c d =
     if (eqb number 0x00) (createCall q st x a b c d)
     (if (eqb number 0x01) (deleteCall q x a b c d)

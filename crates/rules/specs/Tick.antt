@@ -5,10 +5,10 @@ use lib.Dec.{eqb}
 use Rattle.rules.specs.Tables.{TaskTable, LineTable, SwiTable, ClockTable, StateRow, taskCount, clockCount, wordEnd, task, withTask, clock, withClock}
 use Rattle.rules.specs.Tables.{state, withState, sleeping, TICK}
 use Rattle.basics.specs.Find.{rising}
-use Rattle.rules.specs.Answer.{CallRule, called, After, after, accepted, unknown, done}
-use Rattle.rules.specs.Lines.{Queued, queued}
+use Rattle.rules.specs.Answer.{CallRule, called, Effect, withAnswer, accepted, unknown, done}
+use Rattle.rules.specs.Lines.{TaskQueues, taskQueues}
 use Rattle.rules.specs.Waits.{woken}
-use Rattle.rules.specs.Swis.{Posts, posts, posted}
+use Rattle.rules.specs.Swis.{SwiQueues, swiQueues, posted}
 use Rattle.rules.specs.Clocks.{withLeft}
 use Rattle.rules.specs.Switches.{offCall, restoreCall, inCall, outCall, interruptCases}
 use Rattle.rules.specs.declared.Task.{Task}
@@ -24,22 +24,22 @@ aged k =
     (record { clock = withLeft k (k .left - 1); fired = false }))
 
 -- the clocks, and the Swis that they post
-pub record Clocked : Type 0 where
+pub record ClockTables : Type 0 where
   pub clocks : ClockTable
   pub swis : SwiTable
   pub lines : LineTable
 
-abbrev pub clockedOf : ClockTable → SwiTable → LineTable → Clocked
-clockedOf cs ws ls = record { clocks = cs; swis = ws; lines = ls }
+abbrev pub clockTables : ClockTable → SwiTable → LineTable → ClockTables
+clockTables cs ws ls = record { clocks = cs; swis = ws; lines = ls }
 
-abbrev pub postedIf : Bool → ℕ → Posts → Posts
+abbrev pub postedIf : Bool → ℕ → SwiQueues → SwiQueues
 postedIf fired i p = if fired (posted i p) p
 
-unfoldable pub clockTick : Clocked → ℕ → Clocked
+unfoldable pub clockTick : ClockTables → ℕ → ClockTables
 clockTick x n =
     let k : AgedClock = aged (clock (x .clocks) n) in
-    let p : Posts = postedIf (k .fired) (clock (x .clocks) n .swi) (posts (x .swis) (x .lines)) in
-    clockedOf (withClock (x .clocks) n (k .clock)) (p .swis) (p .lines)
+    let p : SwiQueues = postedIf (k .fired) (clock (x .clocks) n .swi) (swiQueues (x .swis) (x .lines)) in
+    clockTables (withClock (x .clocks) n (k .clock)) (p .swis) (p .lines)
 
 -- ---- "Then limited waits and sleeps in rising task number: one tick less; at 0 the task leaves its line and is ready. A sleep that ends has
 -- outcome 0." An expired wait leaves "outcome 1, value 0".
@@ -50,8 +50,8 @@ oneLess k =
       priority = k .priority;
       object = k .object;
       left = k .left - 1;
-      first = k .first;
-      second = k .second;
+      held = k .held;
+      mask = k .mask;
       outcome = k .outcome;
       value = k .value;
     }
@@ -59,51 +59,51 @@ oneLess k =
 abbrev pub endedWith : ℕ → ℕ
 endedWith mode = if (eqb mode sleeping) 0 1
 
-unfoldable pub taskTick : Queued → ℕ → Queued
+unfoldable pub taskTick : TaskQueues → ℕ → TaskQueues
 taskTick q i =
     if (eqb (task (q .tasks) i .left) 0) q
     (if (eqb (task (q .tasks) i .left) 1) (woken i (endedWith (task (q .tasks) i .mode)) 0 q)
-    (queued (withTask (q .tasks) i (oneLess (task (q .tasks) i))) (q .lines)))
+    (taskQueues (withTask (q .tasks) i (oneLess (task (q .tasks) i))) (q .lines)))
 
 -- ---- what a tick may change
-pub record Ticked : Type 0 where
+pub record TickTables : Type 0 where
   pub tasks : TaskTable
   pub lines : LineTable
   pub swis : SwiTable
   pub clocks : ClockTable
   pub state : StateRow
 
-abbrev pub tickedOf : TaskTable → LineTable → SwiTable → ClockTable → StateRow → Ticked
-tickedOf ts ls ws cs st = record { tasks = ts; lines = ls; swis = ws; clocks = cs; state = st }
+abbrev pub tickTables : TaskTable → LineTable → SwiTable → ClockTable → StateRow → TickTables
+tickTables ts ls ws cs st = record { tasks = ts; lines = ls; swis = ws; clocks = cs; state = st }
 
 -- "The count goes up by one." "The tick count .. go round at 4,294,967,296."
 abbrev pub countedUp : StateRow → StateRow
 countedUp st = withState st TICK ((state st TICK + 1) % wordEnd)
 
-abbrev pub clocksTicked : ClockTable → SwiTable → LineTable → Clocked
-clocksTicked cs ws ls = rising clockCount clockTick (clockedOf cs ws ls)
+abbrev pub clocksTicked : ClockTable → SwiTable → LineTable → ClockTables
+clocksTicked cs ws ls = rising clockCount clockTick (clockTables cs ws ls)
 
-abbrev pub tasksTicked : TaskTable → LineTable → Queued
-tasksTicked ts ls = rising taskCount taskTick (queued ts ls)
+abbrev pub tasksTicked : TaskTable → LineTable → TaskQueues
+tasksTicked ts ls = rising taskCount taskTick (taskQueues ts ls)
 
-unfoldable pub ticked : Ticked → Ticked
+unfoldable pub ticked : TickTables → TickTables
 ticked t =
-    let x : Clocked = clocksTicked (t .clocks) (t .swis) (t .lines) in
-    let q : Queued = tasksTicked (t .tasks) (x .lines) in
-    tickedOf (q .tasks) (q .lines) (x .swis) (x .clocks) (countedUp (t .state))
+    let x : ClockTables = clocksTicked (t .clocks) (t .swis) (t .lines) in
+    let q : TaskQueues = tasksTicked (t .tasks) (x .lines) in
+    tickTables (q .tasks) (q .lines) (x .swis) (x .clocks) (countedUp (t .state))
 
 -- ---- the calls by number
 -- the calls 74, 75, 77 and 78 change the state alone
-abbrev pub onState : Ticked → CallRule StateRow → CallRule Ticked
+abbrev pub onState : TickTables → CallRule StateRow → CallRule TickTables
 onState t r =
-    called (r .cases) (after (r .effect .answer) (tickedOf (t .tasks) (t .lines) (t .swis) (t .clocks) (r .effect .next)))
+    called (r .cases) (withAnswer (r .effect .answer) (tickTables (t .tasks) (t .lines) (t .swis) (t .clocks) (r .effect .next)))
 
 -- "76 tick (I)"
-abbrev pub tickCall : Ticked → ℕ → ℕ → ℕ → ℕ → ℕ → CallRule Ticked
+abbrev pub tickCall : TickTables → ℕ → ℕ → ℕ → ℕ → ℕ → CallRule TickTables
 tickCall t x a b c d = called (interruptCases x a b c d) (accepted done 0 (ticked t))
 
 -- No. 10: "70 to 73 become unknown numbers."
-unfoldable pub switchCall : Ticked → ℕ → ℕ → ℕ → ℕ → ℕ → ℕ → CallRule Ticked
+unfoldable pub switchCall : TickTables → ℕ → ℕ → ℕ → ℕ → ℕ → ℕ → CallRule TickTables
 switchCall t x number a b c d =
     if (eqb number 0x74) (onState t (inCall (t .state) a b c d))
     (if (eqb number 0x75) (onState t (outCall (t .state) x a b c d))

@@ -2,7 +2,7 @@
 // mean, and what each call does to them, is said in specs/, a file for each section of the document, and Rows, Lines, Waits and Step for what the sections share.
 pub mod numbers;
 
-// 32 rows of 8: mode, priority, object, left, first, second, outcome, value.
+// 32 rows of 8: mode, priority, object, left, held, mask, outcome, value.
 pub type Tasks = [u32; numbers::TASK_WORDS];
 
 // 81 rows of 33: how many stand in the line, who, the one at the front first, and zeros.
@@ -48,8 +48,8 @@ pub struct Task {
     pub priority: u32,
     pub object: u32,
     pub left: u32,
-    pub first: u32,
-    pub second: u32,
+    pub held: u32,
+    pub mask: u32,
     pub outcome: u32,
     pub value: u32,
 }

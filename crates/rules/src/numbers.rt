@@ -88,9 +88,9 @@ pub const OBJECT: usize = 2;
 
 pub const TASK_LEFT: usize = 3;
 
-pub const TASK_FIRST: usize = 4;
+pub const HELD: usize = 4;
 
-pub const SECOND: usize = 5;
+pub const MASK: usize = 5;
 
 pub const OUTCOME: usize = 6;
 

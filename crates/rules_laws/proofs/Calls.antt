@@ -5,14 +5,14 @@ use mathlib.Core.Bool.{Bool, true, false, not, cond as if}
 use lib.Dec.{eqb, ltb}
 use mathlib.Core.Logic.{_≢_}
 use borrow.Author.Tests.{eq-eqb, ne-eqb}
-use Rattle.rules.specs.Answer.{After, after, answer, absentCode, answered, CallRule, unknown, firstGiven, refused, guarded}
+use Rattle.rules.specs.Answer.{Effect, withAnswer, answer, absentCode, answered, CallRule, unknown, firstGiven, refused, guarded}
 use Rattle.rules.specs.declared.Answer.{Answer}
 
-module _ {A : Type 0} (t : A) (e : After A) (k : ℕ) {code : ℕ} (is : code ≡ k) where
-  pub refusal : code ≢ 0 → {r : Answer} → r ≡ answer code 0 0 → after r t ≡ guarded k t e
-  refusal n q = ap (λ (r : Answer). after r t) q ∙ ap (λ (c : ℕ). after (answer c 0 0) t) is ∙ rw (ne-eqb k 0 (λ (z : k ≡ 0). n (is ∙ z)))
+module _ {A : Type 0} (t : A) (e : Effect A) (k : ℕ) {code : ℕ} (is : code ≡ k) where
+  pub refusal : code ≢ 0 → {r : Answer} → r ≡ answer code 0 0 → withAnswer r t ≡ guarded k t e
+  refusal n q = ap (λ (r : Answer). withAnswer r t) q ∙ ap (λ (c : ℕ). withAnswer (answer c 0 0) t) is ∙ rw (ne-eqb k 0 (λ (z : k ≡ 0). n (is ∙ z)))
 
-  pub effected : code ≡ 0 → {u : After A} → u ≡ e → u ≡ guarded k t e
+  pub effected : code ≡ 0 → {u : Effect A} → u ≡ e → u ≡ guarded k t e
   effected z q = rw (eq-eqb k 0 (sym is ∙ z)) q
 
 -- the code of an object number that names nothing in use
@@ -31,17 +31,17 @@ chosen P false x y p q = q refl
 
 -- ---- a call on some tables as a call on more: `put` says where they stand
 module _ {A B : Type 0} (put : A → B) where
-  abbrev pub mapped : After A → After B
-  mapped r = after (r .answer) (put (r .next))
+  abbrev pub mapped : Effect A → Effect B
+  mapped r = withAnswer (r .answer) (put (r .next))
 
-  by-case : (b : Bool) (k : ℕ) (t : A) (e : After A) → mapped (if b e (refused k t)) ≡ if b (mapped e) (refused k (put t))
+  by-case : (b : Bool) (k : ℕ) (t : A) (e : Effect A) → mapped (if b e (refused k t)) ≡ if b (mapped e) (refused k (put t))
   by-case true k t e = refl
   by-case false k t e = refl
 
-  pub mapped-guarded : (k : ℕ) (t : A) (e : After A) → mapped (guarded k t e) ≡ guarded k (put t) (mapped e)
+  pub mapped-guarded : (k : ℕ) (t : A) (e : Effect A) → mapped (guarded k t e) ≡ guarded k (put t) (mapped e)
   mapped-guarded k t e = by-case (eqb k 0) k t e
 
 -- ---- an unknown number
-pub unknown-is : {A : Type 0} (t : A) (k : CallRule A) → k ≡ unknown t → {r : Answer} → r ≡ answer 1 0 0 → after r t ≡ answered t k
+pub unknown-is : {A : Type 0} (t : A) (k : CallRule A) → k ≡ unknown t → {r : Answer} → r ≡ answer 1 0 0 → withAnswer r t ≡ answered t k
 unfolding firstGiven
-unknown-is t k e q = ap (λ (r : Answer). after r t) q ∙ ap (answered t) (sym e)
+unknown-is t k e q = ap (λ (r : Answer). withAnswer r t) q ∙ ap (answered t) (sym e)

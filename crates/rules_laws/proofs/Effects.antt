@@ -4,12 +4,12 @@ use mathlib.Core.Path.{_≡_, refl}
 use mathlib.Core.Bool.{Bool, cond as if}
 use mathlib.Core.List.{List}
 use lib.Dec.{eqb, ltb}
-use Rattle.rules.specs.Answer.{Cases, After, CallRule, called, accepted}
+use Rattle.rules.specs.Answer.{Cases, Effect, CallRule, called, accepted}
 use Rattle.rules.specs.Tables.{semaphore, event, mailbox, reading, COUNT, BITS, MESSAGES}
-use Rattle.rules.specs.Lines.{Queued, anyone, semaphoreLine}
-use Rattle.rules.specs.Waits.{Served}
-use Rattle.rules.specs.Swis.{Posts}
-use Rattle.rules.specs.Tick.{Ticked}
+use Rattle.rules.specs.Lines.{TaskQueues, anyone, semaphoreLine}
+use Rattle.rules.specs.Waits.{WaitTables}
+use Rattle.rules.specs.Swis.{SwiQueues}
+use Rattle.rules.specs.Tick.{TickTables}
 use Rattle.rules.specs.Tasks as Tasks
 use Rattle.rules.specs.Swis as Swis
 use Rattle.rules.specs.Semaphores as Semaphores
@@ -23,7 +23,7 @@ use Rattle.rules.specs.Step.{withQueued, withPosts, withSemaphores, withEvents,
 use Rattle.rules.specs.declared.Tables.{Tables}
 use Rattle.rules_laws.proofs.Calls.{chosen}
 
-record Coded {A : Type 0} (e : After A) : Type 0 where
+record Coded {A : Type 0} (e : Effect A) : Type 0 where
   code : e .answer .code ≡ 0
 
 record Accepts {A : Type 0} (c : CallRule A) : Type 0 where
@@ -33,11 +33,11 @@ module _ {A : Type 0} where
   plain : (o v : ℕ) (t : A) → Coded (accepted o v t)
   plain o v t = record { code = refl }
 
-  tested : (b : Bool) {x y : After A} → Coded x → Coded y → Coded (if b x y)
-  tested b {x} {y} p q = chosen (λ (e : After A). Coded e) b x y (λ _. p) (λ _. q)
+  tested : (b : Bool) {x y : Effect A} → Coded x → Coded y → Coded (if b x y)
+  tested b {x} {y} p q = chosen (λ (e : Effect A). Coded e) b x y (λ _. p) (λ _. q)
 
   -- a call, and a choice of calls
-  does : (c : Cases) {e : After A} → Coded e → Accepts (called c e)
+  does : (c : Cases) {e : Effect A} → Coded e → Accepts (called c e)
   does c p = record { effect = p }
 
   one : (c : Cases) (o v : ℕ) (t : A) → Accepts (called c (accepted o v t))
@@ -51,7 +51,7 @@ module _ {A : Type 0} where
   all put c p = record { effect = record { code = p .effect .code } }
 
 -- ---- the effects that go by a test
-module _ (q : Served) (st : List ℕ) (a b c d : ℕ) where
+module _ (q : WaitTables) (st : List ℕ) (a b c d : ℕ) where
   pend-code : Coded (Semaphores.pendEffect q st a b)
   unfolding Semaphores.pendEffect
   pend-code = tested (ltb 0 (semaphore (q .objects) a COUNT)) (plain _ _ _) (tested (eqb b 0) (plain _ _ _) (plain _ _ _))
@@ -81,7 +81,7 @@ module _ (q : Served) (st : List ℕ) (a b c d : ℕ) where
 
 -- ---- each kind
 module _ (x number a b c d : ℕ) where
-  task-code : (q : Queued) (st : List ℕ) → Accepts (Tasks.taskCall q st x number a b c d)
+  task-code : (q : TaskQueues) (st : List ℕ) → Accepts (Tasks.taskCall q st x number a b c d)
   unfolding Tasks.taskCall Tasks.createEffect Tasks.deleteEffect Tasks.setPriorityEffect Tasks.yieldEffect Tasks.endEffect Tasks.sleepEffect Tasks.lastResultEffect
   task-code q st =
       numbered (eqb number 0x00) (one _ _ _ _)
@@ -92,7 +92,7 @@ module _ (x number a b c d : ℕ) where
       (numbered (eqb number 0x05) (does _ (tested (eqb a 0) (plain _ _ _) (plain _ _ _)))
       (numbered (eqb number 0x06) (one _ _ _ _) (one _ _ _ _)))))))
 
-  swi-code : (p : Posts) (cs st : List ℕ) → Accepts (Swis.swiCall p cs st x number a b c d)
+  swi-code : (p : SwiQueues) (cs st : List ℕ) → Accepts (Swis.swiCall p cs st x number a b c d)
   unfolding Swis.swiCall Swis.createEffect Swis.deleteEffect Swis.postEffect Swis.changeEffect Swis.zeroEffect Swis.endEffect Swis.takenEffect
   swi-code p cs st =
       numbered (eqb number 0x10) (one _ _ _ _)
@@ -105,7 +105,7 @@ module _ (x number a b c d : ℕ) where
       (numbered (eqb number 0x17) (one _ _ _ _)
       (numbered (eqb number 0x18) (one _ _ _ _) (one _ _ _ _)))))))))
 
-  semaphore-code : (q : Served) (st : List ℕ) → Accepts (Semaphores.semaphoreCall q st x number a b c d)
+  semaphore-code : (q : WaitTables) (st : List ℕ) → Accepts (Semaphores.semaphoreCall q st x number a b c d)
   unfolding Semaphores.semaphoreCall Semaphores.createEffect Semaphores.deleteEffect Semaphores.resetEffect
   semaphore-code q st =
       numbered (eqb number 0x20) (one _ _ _ _)
@@ -114,7 +114,7 @@ module _ (x number a b c d : ℕ) where
       (numbered (eqb number 0x23) (does _ (post-code q st a b c d))
       (numbered (eqb number 0x24) (one _ _ _ _) (one _ _ _ _)))))
 
-  event-code : (q : Served) (st : List ℕ) → Accepts (Events.eventCall q st x number a b c d)
+  event-code : (q : WaitTables) (st : List ℕ) → Accepts (Events.eventCall q st x number a b c d)
   unfolding Events.eventCall Events.createEffect Events.deleteEffect
   event-code q st =
       numbered (eqb number 0x30) (one _ _ _ _)
@@ -122,7 +122,7 @@ module _ (x number a b c d : ℕ) where
       (numbered (eqb number 0x32) (does _ (event-pend-code q st a b c d))
       (numbered (eqb number 0x33) (does _ (event-post-code q st a _ c d)) (one _ _ _ _))))
 
-  mailbox-code : (q : Served) (st : List ℕ) → Accepts (Mailboxes.mailboxCall q st x number a b c d)
+  mailbox-code : (q : WaitTables) (st : List ℕ) → Accepts (Mailboxes.mailboxCall q st x number a b c d)
   unfolding Mailboxes.mailboxCall Mailboxes.createEffect Mailboxes.deleteEffect
   mailbox-code q st =
       numbered (eqb number 0x40) (one _ _ _ _)
@@ -142,7 +142,7 @@ module _ (x number a b c d : ℕ) where
   unfolding Heap.heapCall Heap.takeEffect Heap.giveEffect
   heap-code h = numbered (eqb number 0x60) (one _ _ _ _) (numbered (eqb number 0x61) (one _ _ _ _) (one _ _ _ _))
 
-  switch-code : (t : Ticked) → Accepts (Tick.switchCall t x number a b c d)
+  switch-code : (t : TickTables) → Accepts (Tick.switchCall t x number a b c d)
   unfolding Tick.switchCall Switches.offEffect Switches.restoreEffect Switches.inEffect Switches.outEffect
   switch-code t =
       numbered (eqb number 0x74) (one _ _ _ _)

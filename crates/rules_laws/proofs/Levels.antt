@@ -8,14 +8,14 @@ use native.Mathlib.Omega.{arith}
 use lib.Bits.{bitAnd}
 use lib.Dec.{eqb, ltb}
 use lib.Seq.{getD-set-other}
-use Rattle.rules.specs.Answer.{CallRule, After, codeOf, refused, answered, unknown}
+use Rattle.rules.specs.Answer.{CallRule, Effect, codeOf, refused, answered, unknown}
 use Rattle.rules.specs.Tables.{fewLevels, mostLevels, state, withState, DEPTH, SWIS, TASKS, TICK, CURRENT, LEVELS, levels}
-use Rattle.rules.specs.Lines.{queued}
-use Rattle.rules.specs.Waits.{served}
-use Rattle.rules.specs.Swis.{posts}
+use Rattle.rules.specs.Lines.{taskQueues}
+use Rattle.rules.specs.Waits.{waitTables}
+use Rattle.rules.specs.Swis.{swiQueues}
 use Rattle.rules.specs.Switches.{swisBit, tasksBit, has, on, off, turned, offEffect, restoreEffect, inEffect, outEffect}
-use Rattle.rules.specs.Tick.{Ticked, tickedOf, ticked, switchCall}
-use Rattle.rules.specs.Dispatch.{Dispatched, dispatchedOf, swiDispatched, taskDue, taskDispatched, dispatched}
+use Rattle.rules.specs.Tick.{TickTables, tickTables, ticked, switchCall}
+use Rattle.rules.specs.Dispatch.{DispatchTables, dispatchTables, swiDispatched, taskDue, taskDispatched, dispatched}
 use Rattle.rules.specs.Sound.{sound}
 use Rattle.rules.specs.Step.{inRange, callOf, withTicked, finished, step, call}
 use Rattle.rules.specs.declared.Tables.{Tables}
@@ -72,10 +72,10 @@ module _ (st : List ℕ) where
   unfolding taskDispatched
   dispatch-keeps ls = chosen Same (taskDue ls st) _ st (λ _. word-stays st CURRENT _ (λ e. omega arith)) (λ _. refl)
 
-switch-keeps : (t : Ticked) (x number a b c d : ℕ) → Same (t .state) (switchCall t x number a b c d .effect .next .state)
+switch-keeps : (t : TickTables) (x number a b c d : ℕ) → Same (t .state) (switchCall t x number a b c d .effect .next .state)
 unfolding switchCall ticked
 switch-keeps t x number a b c d =
-    let P : CallRule Ticked → Type 0 = λ k. Same (t .state) (k .effect .next .state) in
+    let P : CallRule TickTables → Type 0 = λ k. Same (t .state) (k .effect .next .state) in
     chosen P (eqb number 0x74) _ _ (λ _. in-keeps (t .state)) (λ _.
     chosen P (eqb number 0x75) _ _ (λ _. out-keeps (t .state)) (λ _.
     chosen P (eqb number 0x76) _ _ (λ _. word-stays (t .state) TICK _ (λ e. omega arith)) (λ _.
@@ -96,20 +96,20 @@ module _ (t : Tables) (number a b c d : ℕ) where
       chosen P (inRange number 0x50) _ _ (λ _. refl) (λ _.
       chosen P (inRange number 0x60) _ _ (λ _. refl) (λ _.
       chosen P (inRange number 0x70) _ _
-      (λ _. switch-keeps (tickedOf (t .tasks) (t .lines) (t .swis) (t .clocks) (t .state)) x number a b c d)
+      (λ _. switch-keeps (tickTables (t .tasks) (t .lines) (t .swis) (t .clocks) (t .state)) x number a b c d)
       (λ _. refl))))))))
 
-finished-keeps : (number : ℕ) (r : After Tables) → Same (r .next .state) (finished number r .tables .state)
+finished-keeps : (number : ℕ) (r : Effect Tables) → Same (r .next .state) (finished number r .tables .state)
 unfolding finished dispatched
 finished-keeps number r =
-    chosen (λ (x : Dispatched). Same (r .next .state) (x .state)) (eqb (r .answer .code) 0) _ _
+    chosen (λ (x : DispatchTables). Same (r .next .state) (x .state)) (eqb (r .answer .code) 0) _ _
     (λ _. dispatch-keeps (r .next .state) _) (λ _. refl)
 
 pub step-keeps : (t : Tables) (number a b c d : ℕ) → Same (t .state) (step t number a b c d .tables .state)
 unfolding step
 step-keeps t number a b c d =
     finished-keeps number (answered t (callOf t _ number a b c d))
-    ∙ chosen (λ (r : After Tables). Same (t .state) (r .next .state)) (eqb (codeOf (callOf t _ number a b c d .cases)) 0) _ (refused _ t)
+    ∙ chosen (λ (r : Effect Tables). Same (t .state) (r .next .state)) (eqb (codeOf (callOf t _ number a b c d .cases)) 0) _ (refused _ t)
     (λ _. call-keeps t number a b c d _) (λ _. refl)
 
 -- "set when they are made fresh": no call changes the word

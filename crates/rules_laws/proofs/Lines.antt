@@ -9,7 +9,7 @@ use lib.ListN.{length}
 use Rattle.basics.specs.Lists.{without, putAt}
 use Rattle.basics.proofs.Laws.{lt-or-le, length-putAt, length-without}
 use Rattle.rules.specs.Rows.{listed, withListed}
-use Rattle.rules.specs.Lines.{line, withLine, left, entered, lineCount, lineMost, lineWidth}
+use Rattle.rules.specs.Lines.{line, withLine, outOf, entered, lineCount, lineMost, lineWidth}
 use Rattle.rules_laws.proofs.Rows.{by-range, row-end}
 use Rattle.rules_laws.proofs.Listed.{listed-le, length-withListed, listed-other, listed-same}
 
@@ -77,20 +77,20 @@ pub left-length : (ls : List ℕ) (j x : ℕ) → length (without x (line ls j))
 left-length ls j x = omega (arith, length-without x (line ls j), line-le ls j)
 
 module _ (ls : List ℕ) (j x : ℕ) where
-  pub length-left : length (left j x ls) ≡ length ls
-  unfolding left
+  pub length-left : length (outOf j x ls) ≡ length ls
+  unfolding outOf
   length-left = length-withLine ls j (without x (line ls j))
 
-  pub left-same : j < lineCount → length ls ≡ lineCount * lineWidth → line (left j x ls) j ≡ without x (line ls j)
-  unfolding left
+  pub left-same : j < lineCount → length ls ≡ lineCount * lineWidth → line (outOf j x ls) j ≡ without x (line ls j)
+  unfolding outOf
   left-same h all = line-same ls j (without x (line ls j)) (left-length ls j x) h all
 
-  pub left-other : (k : ℕ) → k ≢ j → line (left j x ls) k ≡ line ls k
-  unfolding left
+  pub left-other : (k : ℕ) → k ≢ j → line (outOf j x ls) k ≡ line ls k
+  unfolding outOf
   left-other k n = line-other ls j (without x (line ls j)) (left-length ls j x) k n
 
-  pub left-out : lineCount ≤ j → left j x ls ≡ ls
-  unfolding left
+  pub left-out : lineCount ≤ j → outOf j x ls ≡ ls
+  unfolding outOf
   left-out h = withLine-out ls j (without x (line ls j)) h
 
 -- ---- going in at a place

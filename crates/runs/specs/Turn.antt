@@ -27,9 +27,9 @@ abbrev pub isPost : ℕ → Tables → Call → Bool
 isPost s t q = eqb (q .number) 0x23 && eqb (q .a) s && eqb (made t q .answer .code) 0
 
 -- how many of these calls are accepted posts on s
-unfoldable pub posts : ℕ → Tables → List Call → ℕ
-posts s t [] = 0
-posts s t (q ∷ qs) = bit (isPost s t q) + posts s (next t q) qs
+unfoldable pub postsOn : ℕ → Tables → List Call → ℕ
+postsOn s t [] = 0
+postsOn s t (q ∷ qs) = bit (isPost s t q) + postsOn s (next t q) qs
 
 -- among these calls is the one that served task i: all along before it i waited, it is an accepted post on s after at most k others, and it
 -- leaves i ready with outcome 0 and value 0
@@ -39,7 +39,7 @@ pub record ServedIn (s i k : ℕ) (u : Tables) (qs : List Call) : Type 0 where
   pub rest : List Call
   pub split : qs ≡ before ++ (post ∷ rest)
   pub waits : Always (BlockedOn s i) u before
-  pub few : posts s u before ≤ k
+  pub few : postsOn s u before ≤ k
   pub posted : isPost s (after u before) post ≡ true
   -- the tables right after that post
   pub moment : Tables
@@ -52,13 +52,13 @@ pub record ServedIn (s i k : ℕ) (u : Tables) (qs : List Call) : Type 0 where
 abbrev pub ReadyAt : ℕ → ℕ → Tables → Type 0
 ReadyAt p i t = (task (t .tasks) i .mode ≡ ready) × (task (t .tasks) i .priority ≡ p)
 
-abbrev pub queue : ℕ → Tables → List ℕ
-queue p t = line (t .lines) (readyLine p)
+abbrev pub queueAt : ℕ → Tables → List ℕ
+queueAt p t = line (t .lines) (readyLine p)
 
 -- "it is at the front": it stands in the queue, and nobody before it
 pub record AtFront (p i : ℕ) (t : Tables) : Type 0 where
   pub behind : List ℕ
-  pub is : queue p t ≡ i ∷ behind
+  pub is : queueAt p t ≡ i ∷ behind
 
 -- it does not run when the call is made, and the call leaves it its priority
 abbrev pub Undisturbed : ℕ → ℕ → Tables → Call → Type 0
@@ -70,12 +70,12 @@ Yields x t q = (running (t .lines) (t .state) ≡ Task x) × (q .number ≡ 0x03
 
 -- x has left the queue of priority p (it stood there no more at some time) or yielded since
 unfoldable pub Gone : ℕ → ℕ → Tables → List Call → Type 0
-Gone p x t [] = count x (queue p t) ≡ 0
-Gone p x t (q ∷ qs) = (count x (queue p t) ≡ 0) ⊎ (Yields x t q ⊎ Gone p x (next t q) qs)
+Gone p x t [] = count x (queueAt p t) ≡ 0
+Gone p x t (q ∷ qs) = (count x (queueAt p t) ≡ 0) ⊎ (Yields x t q ⊎ Gone p x (next t q) qs)
 
 -- ---- it may run: no task of a higher priority is ready, no interrupt is open, no Swi active, and both switches are on
 pub record Unhindered (p : ℕ) (t : Tables) : Type 0 where
-  pub higher : (r : ℕ) → p < r → r < levels (t .state) → queue r t ≡ []
+  pub higher : (r : ℕ) → p < r → r < levels (t .state) → queueAt r t ≡ []
   pub depth : state (t .state) DEPTH ≡ 0
   pub active : line (t .lines) activeLine ≡ []
   pub swis : state (t .state) SWIS ≢ 0

@@ -8,7 +8,7 @@ use borrow.Author.Tests.{ne-eqb}
 use lib.ListN.{set}
 use Rattle.rules.specs.Answer.{unknown}
 use Rattle.rules.specs.Tables.{semaphoreRow}
-use Rattle.rules.specs.Waits.{Served}
+use Rattle.rules.specs.Waits.{WaitTables}
 use Rattle.rules.specs.Semaphores.{semaphoreCall}
 use Rattle.rules_laws.proofs.Rows.{withRow-in, withRow-out}
 
@@ -24,7 +24,7 @@ module _ (ss : List ℕ) (i u k n : ℕ) where
   put-none h = sym (withRow-out 3 16 ss i (u ∷ k ∷ n ∷ []) h)
 
 -- ---- no call has the number
-pub no-call : (q : Served) (st : List ℕ) (x number a b c d : ℕ)
+pub no-call : (q : WaitTables) (st : List ℕ) (x number a b c d : ℕ)
     → number ≢ 0x20 → number ≢ 0x21 → number ≢ 0x22 → number ≢ 0x23 → number ≢ 0x24 → semaphoreCall q st x number a b c d ≡ unknown q
 unfolding semaphoreCall
 no-call q st x number a b c d h i j k l =

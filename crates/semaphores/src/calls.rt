@@ -14,8 +14,8 @@ use rules::numbers::USED;
 ghost use mathlib.Core.Path.{_≡_};
 ghost use mathlib.Core.Bool.{not, _||_};
 ghost use lib.Dec.{ltb, leb};
-ghost use Rattle.rules.specs.Answer.{after, answered, codeOf, unused};
-ghost use Rattle.rules.specs.Waits.{served};
+ghost use Rattle.rules.specs.Answer.{withAnswer, answered, codeOf, unused};
+ghost use Rattle.rules.specs.Waits.{waitTables};
 ghost use Rattle.rules.specs.Semaphores.{most, createCases, createEffect, deleteCases, deleteEffect, resetCases, resetEffect, createCall, deleteCall};
 ghost use Rattle.rules.specs.Semaphores.{resetCall};
 ghost use Rattle.tables.specs.Lent.{old, new};
@@ -47,7 +47,7 @@ pub fn create_code(semaphores: &Semaphores, x: u32, a: u32, b: u32, c: u32, d: u
 
 // The tasks and the lines stay, whatever they are.
 pub fn create_effect(semaphores: &mut Semaphores, a: u32, b: u32) -> Answer
-    ensures { λ r. ⌜ ((ts : TaskTable) (ls : LineTable) → after r (served ts ls (new semaphores)) ≡ createEffect (served ts ls (old semaphores)) a b) ⌝ }
+    ensures { λ r. ⌜ ((ts : TaskTable) (ls : LineTable) → withAnswer r (waitTables ts ls (new semaphores)) ≡ createEffect (waitTables ts ls (old semaphores)) a b) ⌝ }
 {
     let i = free_semaphore(semaphores);
     put_semaphore(semaphores, i, 1, a, b);
@@ -55,8 +55,8 @@ pub fn create_effect(semaphores: &mut Semaphores, a: u32, b: u32) -> Answer
 }
 
 pub fn create(semaphores: &mut Semaphores, x: u32, a: u32, b: u32, c: u32, d: u32) -> Answer
-    ensures { λ r. ⌜ ((ts : TaskTable) (ls : LineTable) → after r (served ts ls (new semaphores))
-        ≡ answered (served ts ls (old semaphores)) (createCall (served ts ls (old semaphores)) x a b c d)) ⌝ }
+    ensures { λ r. ⌜ ((ts : TaskTable) (ls : LineTable) → withAnswer r (waitTables ts ls (new semaphores))
+        ≡ answered (waitTables ts ls (old semaphores)) (createCall (waitTables ts ls (old semaphores)) x a b c d)) ⌝ }
 {
     let code = create_code(semaphores, x, a, b, c, d);
     if code != 0 {
@@ -96,7 +96,7 @@ pub fn delete_code(
 
 // The row is all 0.
 pub fn delete_effect(semaphores: &mut Semaphores, a: u32) -> Answer
-    ensures { λ r. ⌜ ((ts : TaskTable) (ls : LineTable) → after r (served ts ls (new semaphores)) ≡ deleteEffect (served ts ls (old semaphores)) a) ⌝ }
+    ensures { λ r. ⌜ ((ts : TaskTable) (ls : LineTable) → withAnswer r (waitTables ts ls (new semaphores)) ≡ deleteEffect (waitTables ts ls (old semaphores)) a) ⌝ }
 {
     put_semaphore(semaphores, a as usize, 0, 0, 0);
     answers::accepted(DONE, 0)
@@ -111,8 +111,8 @@ pub fn delete(
     c: u32,
     d: u32,
 ) -> Answer
-    ensures { λ r. ⌜ ((ts : TaskTable) → after r (served ts (old lines) (new semaphores))
-        ≡ answered (served ts (old lines) (old semaphores)) (deleteCall (served ts (old lines) (old semaphores)) x a b c d)) ⌝ }
+    ensures { λ r. ⌜ ((ts : TaskTable) → withAnswer r (waitTables ts (old lines) (new semaphores))
+        ≡ answered (waitTables ts (old lines) (old semaphores)) (deleteCall (waitTables ts (old lines) (old semaphores)) x a b c d)) ⌝ }
 {
     let code = delete_code(lines, semaphores, x, a, b, c, d);
     if code != 0 {
@@ -158,7 +158,7 @@ pub fn reset_code(
 }
 
 pub fn reset_effect(semaphores: &mut Semaphores, a: u32, b: u32) -> Answer
-    ensures { λ r. ⌜ ((ts : TaskTable) (ls : LineTable) → after r (served ts ls (new semaphores)) ≡ resetEffect (served ts ls (old semaphores)) a b) ⌝ }
+    ensures { λ r. ⌜ ((ts : TaskTable) (ls : LineTable) → withAnswer r (waitTables ts ls (new semaphores)) ≡ resetEffect (waitTables ts ls (old semaphores)) a b) ⌝ }
 {
     rows::set_semaphore(semaphores, a as usize, COUNT, b);
     answers::accepted(DONE, 0)
@@ -173,8 +173,8 @@ pub fn reset(
     c: u32,
     d: u32,
 ) -> Answer
-    ensures { λ r. ⌜ ((ts : TaskTable) → after r (served ts (old lines) (new semaphores))
-        ≡ answered (served ts (old lines) (old semaphores)) (resetCall (served ts (old lines) (old semaphores)) x a b c d)) ⌝ }
+    ensures { λ r. ⌜ ((ts : TaskTable) → withAnswer r (waitTables ts (old lines) (new semaphores))
+        ≡ answered (waitTables ts (old lines) (old semaphores)) (resetCall (waitTables ts (old lines) (old semaphores)) x a b c d)) ⌝ }
 {
     let code = reset_code(lines, semaphores, x, a, b, c, d);
     if code != 0 {

@@ -10,9 +10,9 @@ use rules::Semaphores;
 use rules::State;
 use rules::Tasks;
 ghost use mathlib.Core.Path.{_≡_};
-ghost use Rattle.rules.specs.Answer.{after, answered};
+ghost use Rattle.rules.specs.Answer.{withAnswer, answered};
 ghost use Rattle.rules.specs.Semaphores.{semaphoreCall};
-ghost use Rattle.tables.specs.Lent.{old, servedOld, servedNew};
+ghost use Rattle.tables.specs.Lent.{old, waitTablesOld, waitTablesNew};
 
 // The call of this number, made by x: 0 a task, 1 a Swi, 2 an interrupt.
 pub fn semaphore_call(
@@ -27,8 +27,8 @@ pub fn semaphore_call(
     c: u32,
     d: u32,
 ) -> Answer
-    ensures { λ r. ⌜ after r (servedNew tasks lines semaphores)
-        ≡ answered (servedOld tasks lines semaphores) (semaphoreCall (servedOld tasks lines semaphores) (old state) x number a b c d) ⌝ }
+    ensures { λ r. ⌜ withAnswer r (waitTablesNew tasks lines semaphores)
+        ≡ answered (waitTablesOld tasks lines semaphores) (semaphoreCall (waitTablesOld tasks lines semaphores) (old state) x number a b c d) ⌝ }
 {
     match number {
         0x20 => calls::create(semaphores, x, a, b, c, d),

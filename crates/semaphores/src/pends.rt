@@ -13,18 +13,18 @@ use rules::numbers::NOT_MET;
 use rules::numbers::NOW_WAITING;
 use rules::numbers::USED;
 ghost use mathlib.Core.Path.{_≡_};
-ghost use Rattle.rules.specs.Answer.{after, answered, codeOf};
+ghost use Rattle.rules.specs.Answer.{withAnswer, answered, codeOf};
 ghost use Rattle.rules.specs.Tables.{task, atSemaphore};
 ghost use Rattle.rules.specs.Lines.{moved};
 ghost use Rattle.rules.specs.Waits.{waiting};
-ghost use Rattle.rules.specs.Semaphores.{waits, placeIn, pendCases, pendEffect, pendCall};
-ghost use Rattle.tables.specs.Lent.{old, queuedOld, queuedNew, servedOld, servedNew};
+ghost use Rattle.rules.specs.Semaphores.{pendWaits, placeIn, pendCases, pendEffect, pendCall};
+ghost use Rattle.tables.specs.Lent.{old, taskQueuesOld, taskQueuesNew, waitTablesOld, waitTablesNew};
 
 // ---- 22: pend, with a limit
 
 // The call would go on to wait.
-pub fn waits(semaphores: &Semaphores, a: u32, limit: u32) -> bool
-    ensures { λ r. ⌜ r ≡ waits (old semaphores) a limit ⌝ }
+pub fn pend_waits(semaphores: &Semaphores, a: u32, limit: u32) -> bool
+    ensures { λ r. ⌜ r ≡ pendWaits (old semaphores) a limit ⌝ }
 {
     (rows::semaphore(semaphores, a as usize, COUNT) == 0) & (limit != 0)
 }
@@ -49,7 +49,7 @@ pub fn pend_code(
     if answers::unused(0, 0, c, d) {
         return 4;
     }
-    let begins = waits(semaphores, a, b);
+    let begins = pend_waits(semaphores, a, b);
     if begins & moves::begins::idle(state) {
         return 5;
     }
@@ -61,9 +61,9 @@ pub fn pend_code(
 
 // Task i waits at semaphore a: in arrival order, or before the first waiter of lower priority.
 pub fn begin(tasks: &mut Tasks, lines: &mut Lines, kind: u32, i: u32, a: u32, limit: u32)
-    ensures { λ _. ⌜ queuedNew tasks lines
+    ensures { λ _. ⌜ taskQueuesNew tasks lines
         ≡ moved (placeIn kind (old tasks) (task (old tasks) i .priority)) i (waiting (task (old tasks) i) atSemaphore a limit 0 0)
-        (queuedOld tasks lines) ⌝ }
+        (taskQueuesOld tasks lines) ⌝ }
 {
     let old = rows::task(tasks, i as usize);
     let k = moves::waiting(old, AT_SEMAPHORE, a, limit, 0, 0);
@@ -83,7 +83,7 @@ pub fn pend_effect(
     a: u32,
     limit: u32,
 ) -> Answer
-    ensures { λ r. ⌜ after r (servedNew tasks lines semaphores) ≡ pendEffect (servedOld tasks lines semaphores) (old state) a limit ⌝ }
+    ensures { λ r. ⌜ withAnswer r (waitTablesNew tasks lines semaphores) ≡ pendEffect (waitTablesOld tasks lines semaphores) (old state) a limit ⌝ }
 {
     let n = rows::semaphore(semaphores, a as usize, COUNT);
     if 0 < n {
@@ -116,8 +116,8 @@ pub fn pend(
     c: u32,
     d: u32,
 ) -> Answer
-    ensures { λ r. ⌜ after r (servedNew tasks lines semaphores)
-        ≡ answered (servedOld tasks lines semaphores) (pendCall (servedOld tasks lines semaphores) (old state) x a b c d) ⌝ }
+    ensures { λ r. ⌜ withAnswer r (waitTablesNew tasks lines semaphores)
+        ≡ answered (waitTablesOld tasks lines semaphores) (pendCall (waitTablesOld tasks lines semaphores) (old state) x a b c d) ⌝ }
 {
     let code = pend_code(semaphores, state, x, a, b, c, d);
     if code != 0 {

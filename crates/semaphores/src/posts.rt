@@ -11,10 +11,10 @@ use rules::numbers::USED;
 ghost use mathlib.Core.Path.{_≡_};
 ghost use mathlib.Core.Bool.{not, _&&_};
 ghost use lib.Dec.{leb};
-ghost use Rattle.rules.specs.Answer.{after, answered, codeOf};
+ghost use Rattle.rules.specs.Answer.{withAnswer, answered, codeOf};
 ghost use Rattle.rules.specs.Tables.{semaphore, KIND, COUNT};
 ghost use Rattle.rules.specs.Semaphores.{countUp, isBinary, postCases, postEffect, postCall};
-ghost use Rattle.tables.specs.Lent.{old, servedOld, servedNew};
+ghost use Rattle.tables.specs.Lent.{old, waitTablesOld, waitTablesNew};
 
 // One up, and no more than the kind's most.
 pub fn count_up(kind: u32, n: u32) -> u32
@@ -59,7 +59,7 @@ pub fn post_effect(
     semaphores: &mut Semaphores,
     a: u32,
 ) -> Answer
-    ensures { λ r. ⌜ after r (servedNew tasks lines semaphores) ≡ postEffect (servedOld tasks lines semaphores) a ⌝ }
+    ensures { λ r. ⌜ withAnswer r (waitTablesNew tasks lines semaphores) ≡ postEffect (waitTablesOld tasks lines semaphores) a ⌝ }
 {
     let i = a as usize;
     if 0 < lines::len(lines, i) {
@@ -80,8 +80,8 @@ pub fn post(
     c: u32,
     d: u32,
 ) -> Answer
-    ensures { λ r. ⌜ after r (servedNew tasks lines semaphores)
-        ≡ answered (servedOld tasks lines semaphores) (postCall (servedOld tasks lines semaphores) a b c d) ⌝ }
+    ensures { λ r. ⌜ withAnswer r (waitTablesNew tasks lines semaphores)
+        ≡ answered (waitTablesOld tasks lines semaphores) (postCall (waitTablesOld tasks lines semaphores) a b c d) ⌝ }
 {
     let code = post_code(semaphores, a, b, c, d);
     if code != 0 {

@@ -85,7 +85,7 @@ fn event_sound(tasks: &Tasks, events: &Events, lines: &Lines, e: usize) -> bool
         let bits = rows::event(events, e, BITS);
         let waiters = lines::len(lines, EVENT_LINES + e);
         let waiter = rows::task(tasks, basics::wide(lines::first(lines, EVENT_LINES + e)));
-        let met = rows::readings::matched(bits, waiter.first, waiter.second);
+        let met = rows::readings::matched(bits, waiter.held, waiter.mask);
         return (used < 2)
             & ((used != 0) | ((bits == 0) & (waiters == 0)))
             & (waiters < 2)

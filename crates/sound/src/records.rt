@@ -114,7 +114,7 @@ pub fn clocks_sound(clocks: &Clocks, swis: &Swis) -> bool
 fn no_wait(k: Task) -> bool
     ensures { λ r. ⌜ r ≡ holds (noWait k) ⌝ }
 {
-    (k.object == 0) & (k.left == 0) & (k.first == 0) & (k.second == 0)
+    (k.object == 0) & (k.left == 0) & (k.held == 0) & (k.mask == 0)
 }
 
 // Task 0: ready, priority 0, and all else 0.
@@ -162,21 +162,18 @@ fn other_sound(k: Task, n: u32) -> bool
                 & (k.object == 0)
                 & (k.left != 0)
                 & (k.left < FOREVER)
-                & (k.first == 0)
-                & (k.second == 0)
+                & (k.held == 0)
+                & (k.mask == 0)
                 & level
         }
         AT_SEMAPHORE => result
             & wait_sound(k, SEMAPHORE_COUNT)
-            & (k.first == 0)
-            & (k.second == 0)
+            & (k.held == 0)
+            & (k.mask == 0)
             & level,
-        AT_EVENT => result
-            & wait_sound(k, EVENT_COUNT)
-            & ((k.first != 0) | (k.second != 0))
-            & level,
-        READING => result & wait_sound(k, MAILBOX_COUNT) & (k.first == 0) & (k.second == 0) & level,
-        WRITING => result & wait_sound(k, MAILBOX_COUNT) & (k.second == 0) & level,
+        AT_EVENT => result & wait_sound(k, EVENT_COUNT) & ((k.held != 0) | (k.mask != 0)) & level,
+        READING => result & wait_sound(k, MAILBOX_COUNT) & (k.held == 0) & (k.mask == 0) & level,
+        WRITING => result & wait_sound(k, MAILBOX_COUNT) & (k.mask == 0) & level,
         TERMINATED => result & clear & level,
         INACTIVE => result & (k.priority == MINUS_ONE) & clear,
         _ => false,

@@ -6,14 +6,14 @@ use mathlib.Core.Bool.{true, false}
 use mathlib.Core.List.{List}
 use borrow.Author.Tests.{eq-eqb, ne-eqb, lt-ltb, le-ltb}
 use lib.Dec.{eqb}
-use Rattle.rules.specs.Answer.{after}
+use Rattle.rules.specs.Answer.{withAnswer}
 use Rattle.rules.specs.Tables.{swi, withSwi, PRIORITY, POSTED}
 use Rattle.rules.specs.Lines.{joined}
-use Rattle.rules.specs.Swis.{posts, posted}
+use Rattle.rules.specs.Swis.{swiQueues, posted}
 use Rattle.rules.specs.declared.Answer.{Answer}
 
 -- ---- what a call leaves: its answer and its tables
-pub leaves : {A : Type 0} {r s : Answer} {t u : A} → r ≡ s → t ≡ u → after r t ≡ after s u
+pub leaves : {A : Type 0} {r s : Answer} {t u : A} → r ≡ s → t ≡ u → withAnswer r t ≡ withAnswer s u
 leaves p q = λ z. record { answer = p z; next = q z }
 
 -- ---- a word that was read is 0, or is not
@@ -27,14 +27,14 @@ zero-not {x = x} e f = ne-eqb x 0 (λ (z : x ≡ 0). f (e ∙ z))
 module _ (i : ℕ) (ws ls : List ℕ) where
   module _ (h : i < 16) {q : ℕ} (a : q ≡ swi ws i POSTED) where
     pub posted-now : q ≡ 0 → {p : ℕ} {ws₁ ls₁ : List ℕ}
-        → p ≡ swi ws i PRIORITY → ws₁ ≡ withSwi ws i POSTED 1 → ls₁ ≡ joined (32 + p) i ls → posts ws₁ ls₁ ≡ posted i (posts ws ls)
+        → p ≡ swi ws i PRIORITY → ws₁ ≡ withSwi ws i POSTED 1 → ls₁ ≡ joined (32 + p) i ls → swiQueues ws₁ ls₁ ≡ posted i (swiQueues ws ls)
     unfolding posted
     posted-now z b c d = rw (d, c, b, lt-ltb i 16 h, zero-is a z)
 
-    pub posted-already : q ≢ 0 → posts ws ls ≡ posted i (posts ws ls)
+    pub posted-already : q ≢ 0 → swiQueues ws ls ≡ posted i (swiQueues ws ls)
     unfolding posted
     posted-already z = rw (lt-ltb i 16 h, zero-not a z)
 
-  pub posted-none : 16 ≤ i → posts ws ls ≡ posted i (posts ws ls)
+  pub posted-none : 16 ≤ i → swiQueues ws ls ≡ posted i (swiQueues ws ls)
   unfolding posted
   posted-none h = rw (le-ltb i 16 h)

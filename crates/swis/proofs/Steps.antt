@@ -17,7 +17,7 @@ use Rattle.basics.proofs.Finds.{all-yes, all-no}
 use Rattle.rules.specs.Answer.{unknown}
 use Rattle.rules.specs.Tables.{swi, swiRow, clock}
 use Rattle.rules.specs.Lines.{line, activeLine}
-use Rattle.rules.specs.Swis.{Posts, isActive, isNamed, swiCall}
+use Rattle.rules.specs.Swis.{SwiQueues, isActive, isNamed, swiCall}
 use Rattle.rules.specs.declared.Clock.{Clock}
 use Rattle.rules_laws.proofs.Rows.{withRow-in, withRow-out}
 
@@ -86,7 +86,7 @@ module _ (cs : List ℕ) (i n : ℕ) {k : Clock} (e : k ≡ clock cs n) where
   named-not t a = all-yes (notBy cs i) n a notBy-is (ap not t)
 
 -- ---- a number that no call on Swis has
-pub no-call : (p : Posts) (cs st : List ℕ) (x n a b c d : ℕ)
+pub no-call : (p : SwiQueues) (cs st : List ℕ) (x n a b c d : ℕ)
     → n ≢ 0x10 → n ≢ 0x11 → n ≢ 0x12 → n ≢ 0x13 → n ≢ 0x14 → n ≢ 0x15 → n ≢ 0x16 → n ≢ 0x17 → n ≢ 0x18
     → swiCall p cs st x n a b c d ≡ unknown p
 unfolding swiCall

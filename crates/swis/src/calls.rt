@@ -16,10 +16,10 @@ use rules::numbers::T;
 use rules::numbers::TAKEN;
 use rules::numbers::USED;
 ghost use mathlib.Core.Path.{_≡_};
-ghost use Rattle.rules.specs.Answer.{after, answered, codeOf};
-ghost use Rattle.rules.specs.Swis.{posts, createCases, createEffect, deleteCases, deleteEffect, endCases, endEffect, takenCases, takenEffect, createCall};
+ghost use Rattle.rules.specs.Answer.{withAnswer, answered, codeOf};
+ghost use Rattle.rules.specs.Swis.{swiQueues, createCases, createEffect, deleteCases, deleteEffect, endCases, endEffect, takenCases, takenEffect, createCall};
 ghost use Rattle.rules.specs.Swis.{deleteCall, endCall, takenCall};
-ghost use Rattle.tables.specs.Lent.{old, new, postsOld, postsNew};
+ghost use Rattle.tables.specs.Lent.{old, new, swiQueuesOld, swiQueuesNew};
 ghost use Rattle.rules.specs.Tables.{LineTable};
 
 // ---- 10: create, with a priority of 0 to 15 and an initial trigger
@@ -45,7 +45,7 @@ pub fn create_code(swis: &Swis, x: u32, a: u32, b: u32, c: u32, d: u32) -> u32
 
 // The lines, whatever stands in them, stay.
 pub fn create_effect(swis: &mut Swis, a: u32, b: u32) -> Answer
-    ensures { λ r. ⌜ ((ls : LineTable) → after r (posts (new swis) ls) ≡ createEffect (posts (old swis) ls) a b) ⌝ }
+    ensures { λ r. ⌜ ((ls : LineTable) → withAnswer r (swiQueues (new swis) ls) ≡ createEffect (swiQueues (old swis) ls) a b) ⌝ }
 {
     let i = free_swi(swis);
     put_swi(swis, i, 1, a, b, b, 0, 0);
@@ -53,7 +53,7 @@ pub fn create_effect(swis: &mut Swis, a: u32, b: u32) -> Answer
 }
 
 pub fn create(swis: &mut Swis, x: u32, a: u32, b: u32, c: u32, d: u32) -> Answer
-    ensures { λ r. ⌜ ((ls : LineTable) → after r (posts (new swis) ls) ≡ answered (posts (old swis) ls) (createCall (posts (old swis) ls) x a b c d)) ⌝ }
+    ensures { λ r. ⌜ ((ls : LineTable) → withAnswer r (swiQueues (new swis) ls) ≡ answered (swiQueues (old swis) ls) (createCall (swiQueues (old swis) ls) x a b c d)) ⌝ }
 {
     let code = create_code(swis, x, a, b, c, d);
     if code != 0 {
@@ -93,7 +93,7 @@ pub fn delete_code(
 
 // The row is all 0; the lines, whatever stands in them, stay.
 pub fn delete_effect(swis: &mut Swis, a: u32) -> Answer
-    ensures { λ r. ⌜ ((ls : LineTable) → after r (posts (new swis) ls) ≡ deleteEffect (posts (old swis) ls) a) ⌝ }
+    ensures { λ r. ⌜ ((ls : LineTable) → withAnswer r (swiQueues (new swis) ls) ≡ deleteEffect (swiQueues (old swis) ls) a) ⌝ }
 {
     put_swi(swis, a as usize, 0, 0, 0, 0, 0, 0);
     answers::accepted(DONE, 0)
@@ -109,7 +109,7 @@ pub fn delete(
     c: u32,
     d: u32,
 ) -> Answer
-    ensures { λ r. ⌜ after r (posts (new swis) (old lines)) ≡ answered (postsOld swis lines) (deleteCall (postsOld swis lines) (old clocks) x a b c d) ⌝ }
+    ensures { λ r. ⌜ withAnswer r (swiQueues (new swis) (old lines)) ≡ answered (swiQueuesOld swis lines) (deleteCall (swiQueuesOld swis lines) (old clocks) x a b c d) ⌝ }
 {
     let code = delete_code(swis, lines, clocks, x, a, b, c, d);
     if code != 0 {
@@ -137,7 +137,7 @@ pub fn end_code(state: &State, x: u32, a: u32, b: u32, c: u32, d: u32) -> u32
 
 // The top active Swi is active no more, and its taken trigger 0.
 pub fn end_effect(swis: &mut Swis, lines: &mut Lines) -> Answer
-    ensures { λ r. ⌜ after r (postsNew swis lines) ≡ endEffect (postsOld swis lines) ⌝ }
+    ensures { λ r. ⌜ withAnswer r (swiQueuesNew swis lines) ≡ endEffect (swiQueuesOld swis lines) ⌝ }
 {
     let i = lines::top(lines);
     rows::set_swi(swis, basics::wide(i), TAKEN, 0);
@@ -155,7 +155,7 @@ pub fn end(
     c: u32,
     d: u32,
 ) -> Answer
-    ensures { λ r. ⌜ after r (postsNew swis lines) ≡ answered (postsOld swis lines) (endCall (postsOld swis lines) (old state) x a b c d) ⌝ }
+    ensures { λ r. ⌜ withAnswer r (swiQueuesNew swis lines) ≡ answered (swiQueuesOld swis lines) (endCall (swiQueuesOld swis lines) (old state) x a b c d) ⌝ }
 {
     let code = end_code(state, x, a, b, c, d);
     if code != 0 {
@@ -179,14 +179,14 @@ pub fn taken_code(x: u32, a: u32, b: u32, c: u32, d: u32) -> u32
 }
 
 pub fn taken_effect(swis: &Swis, lines: &Lines) -> Answer
-    ensures { λ r. ⌜ after r (postsOld swis lines) ≡ takenEffect (postsOld swis lines) ⌝ }
+    ensures { λ r. ⌜ withAnswer r (swiQueuesOld swis lines) ≡ takenEffect (swiQueuesOld swis lines) ⌝ }
 {
     let i = lines::top(lines);
     answers::accepted(DONE, rows::swi(swis, basics::wide(i), TAKEN))
 }
 
 pub fn taken(swis: &Swis, lines: &Lines, x: u32, a: u32, b: u32, c: u32, d: u32) -> Answer
-    ensures { λ r. ⌜ after r (postsOld swis lines) ≡ answered (postsOld swis lines) (takenCall (postsOld swis lines) x a b c d) ⌝ }
+    ensures { λ r. ⌜ withAnswer r (swiQueuesOld swis lines) ≡ answered (swiQueuesOld swis lines) (takenCall (swiQueuesOld swis lines) x a b c d) ⌝ }
 {
     let code = taken_code(x, a, b, c, d);
     if code != 0 {

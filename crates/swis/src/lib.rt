@@ -9,9 +9,9 @@ use rules::Lines;
 use rules::State;
 use rules::Swis;
 ghost use mathlib.Core.Path.{_≡_};
-ghost use Rattle.rules.specs.Answer.{after, answered};
+ghost use Rattle.rules.specs.Answer.{withAnswer, answered};
 ghost use Rattle.rules.specs.Swis.{swiCall};
-ghost use Rattle.tables.specs.Lent.{old, postsOld, postsNew};
+ghost use Rattle.tables.specs.Lent.{old, swiQueuesOld, swiQueuesNew};
 
 // The call of this number, made by x: 0 a task, 1 a Swi, 2 an interrupt.
 pub fn swi_call(
@@ -26,8 +26,8 @@ pub fn swi_call(
     c: u32,
     d: u32,
 ) -> Answer
-    ensures { λ r. ⌜ after r (postsNew swis lines)
-        ≡ answered (postsOld swis lines) (swiCall (postsOld swis lines) (old clocks) (old state) x number a b c d) ⌝ }
+    ensures { λ r. ⌜ withAnswer r (swiQueuesNew swis lines)
+        ≡ answered (swiQueuesOld swis lines) (swiCall (swiQueuesOld swis lines) (old clocks) (old state) x number a b c d) ⌝ }
 {
     match number {
         0x10 => calls::create(swis, x, a, b, c, d),

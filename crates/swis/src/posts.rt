@@ -9,14 +9,14 @@ use rules::numbers::PRIORITY;
 use rules::numbers::TRIGGER;
 use rules::numbers::USED;
 ghost use mathlib.Core.Path.{_≡_};
-ghost use Rattle.rules.specs.Answer.{after, answered, codeOf};
+ghost use Rattle.rules.specs.Answer.{withAnswer, answered, codeOf};
 ghost use Rattle.rules.specs.Swis.{posted, oneDown, postCases, maskCases, postEffect, changeEffect, zeroEffect, postCall, addCall, takeCall, setBitsCall};
 ghost use Rattle.rules.specs.Swis.{clearBitsCall};
-ghost use Rattle.tables.specs.Lent.{old, postsOld, postsNew};
+ghost use Rattle.tables.specs.Lent.{old, swiQueuesOld, swiQueuesNew};
 
 // Swi i joins its priority's queue at the back, unless it is posted already.
 pub fn post_swi(swis: &mut Swis, lines: &mut Lines, i: u32)
-    ensures { λ _. ⌜ postsNew swis lines ≡ posted i (postsOld swis lines) ⌝ }
+    ensures { λ _. ⌜ swiQueuesNew swis lines ≡ posted i (swiQueuesOld swis lines) ⌝ }
 {
     if i < rules::numbers::SWI_COUNT {
         let n = i as usize;
@@ -63,7 +63,7 @@ pub fn mask_code(swis: &Swis, a: u32, c: u32, d: u32) -> u32
 // ---- the effects
 
 pub fn post_effect(swis: &mut Swis, lines: &mut Lines, a: u32) -> Answer
-    ensures { λ r. ⌜ after r (postsNew swis lines) ≡ postEffect (postsOld swis lines) a ⌝ }
+    ensures { λ r. ⌜ withAnswer r (swiQueuesNew swis lines) ≡ postEffect (swiQueuesOld swis lines) a ⌝ }
 {
     post_swi(swis, lines, a);
     answers::accepted(DONE, 0)
@@ -71,7 +71,7 @@ pub fn post_effect(swis: &mut Swis, lines: &mut Lines, a: u32) -> Answer
 
 // The trigger is v now, and the Swi posted.
 pub fn change_effect(swis: &mut Swis, lines: &mut Lines, a: u32, v: u32) -> Answer
-    ensures { λ r. ⌜ after r (postsNew swis lines) ≡ changeEffect (postsOld swis lines) a v ⌝ }
+    ensures { λ r. ⌜ withAnswer r (swiQueuesNew swis lines) ≡ changeEffect (swiQueuesOld swis lines) a v ⌝ }
 {
     rows::set_swi(swis, a as usize, TRIGGER, v);
     post_swi(swis, lines, a);
@@ -80,7 +80,7 @@ pub fn change_effect(swis: &mut Swis, lines: &mut Lines, a: u32, v: u32) -> Answ
 
 // The trigger is v now, and the Swi posted if that is 0.
 pub fn zero_effect(swis: &mut Swis, lines: &mut Lines, a: u32, v: u32) -> Answer
-    ensures { λ r. ⌜ after r (postsNew swis lines) ≡ zeroEffect (postsOld swis lines) a v ⌝ }
+    ensures { λ r. ⌜ withAnswer r (swiQueuesNew swis lines) ≡ zeroEffect (swiQueuesOld swis lines) a v ⌝ }
 {
     if v == 0 {
         return change_effect(swis, lines, a, v);
@@ -93,7 +93,7 @@ pub fn zero_effect(swis: &mut Swis, lines: &mut Lines, a: u32, v: u32) -> Answer
 
 // 12: post.
 pub fn post(swis: &mut Swis, lines: &mut Lines, a: u32, b: u32, c: u32, d: u32) -> Answer
-    ensures { λ r. ⌜ after r (postsNew swis lines) ≡ answered (postsOld swis lines) (postCall (postsOld swis lines) a b c d) ⌝ }
+    ensures { λ r. ⌜ withAnswer r (swiQueuesNew swis lines) ≡ answered (swiQueuesOld swis lines) (postCall (swiQueuesOld swis lines) a b c d) ⌝ }
 {
     let code = post_code(swis, a, b, c, d);
     if code != 0 {
@@ -104,7 +104,7 @@ pub fn post(swis: &mut Swis, lines: &mut Lines, a: u32, b: u32, c: u32, d: u32) 
 
 // 13: add one to the trigger and post.
 pub fn add(swis: &mut Swis, lines: &mut Lines, a: u32, b: u32, c: u32, d: u32) -> Answer
-    ensures { λ r. ⌜ after r (postsNew swis lines) ≡ answered (postsOld swis lines) (addCall (postsOld swis lines) a b c d) ⌝ }
+    ensures { λ r. ⌜ withAnswer r (swiQueuesNew swis lines) ≡ answered (swiQueuesOld swis lines) (addCall (swiQueuesOld swis lines) a b c d) ⌝ }
 {
     let code = post_code(swis, a, b, c, d);
     if code != 0 {
@@ -116,7 +116,7 @@ pub fn add(swis: &mut Swis, lines: &mut Lines, a: u32, b: u32, c: u32, d: u32) -
 
 // 14: take one from the trigger and post if it is 0 now.
 pub fn take(swis: &mut Swis, lines: &mut Lines, a: u32, b: u32, c: u32, d: u32) -> Answer
-    ensures { λ r. ⌜ after r (postsNew swis lines) ≡ answered (postsOld swis lines) (takeCall (postsOld swis lines) a b c d) ⌝ }
+    ensures { λ r. ⌜ withAnswer r (swiQueuesNew swis lines) ≡ answered (swiQueuesOld swis lines) (takeCall (swiQueuesOld swis lines) a b c d) ⌝ }
 {
     let code = post_code(swis, a, b, c, d);
     if code != 0 {
@@ -128,7 +128,7 @@ pub fn take(swis: &mut Swis, lines: &mut Lines, a: u32, b: u32, c: u32, d: u32) 
 
 // 15: set the mask's bits in the trigger and post.
 pub fn set_bits(swis: &mut Swis, lines: &mut Lines, a: u32, b: u32, c: u32, d: u32) -> Answer
-    ensures { λ r. ⌜ after r (postsNew swis lines) ≡ answered (postsOld swis lines) (setBitsCall (postsOld swis lines) a b c d) ⌝ }
+    ensures { λ r. ⌜ withAnswer r (swiQueuesNew swis lines) ≡ answered (swiQueuesOld swis lines) (setBitsCall (swiQueuesOld swis lines) a b c d) ⌝ }
 {
     let code = mask_code(swis, a, c, d);
     if code != 0 {
@@ -140,7 +140,7 @@ pub fn set_bits(swis: &mut Swis, lines: &mut Lines, a: u32, b: u32, c: u32, d: u
 
 // 16: clear the mask's bits in the trigger and post if it is 0 now.
 pub fn clear_bits(swis: &mut Swis, lines: &mut Lines, a: u32, b: u32, c: u32, d: u32) -> Answer
-    ensures { λ r. ⌜ after r (postsNew swis lines) ≡ answered (postsOld swis lines) (clearBitsCall (postsOld swis lines) a b c d) ⌝ }
+    ensures { λ r. ⌜ withAnswer r (swiQueuesNew swis lines) ≡ answered (swiQueuesOld swis lines) (clearBitsCall (swiQueuesOld swis lines) a b c d) ⌝ }
 {
     let code = mask_code(swis, a, c, d);
     if code != 0 {

@@ -7,7 +7,7 @@ use lib.Bits.{bitAnd, and-mask, and-high}
 use lib.Dec.{eqb}
 use native.Mathlib.Omega.{arith}
 use borrow.Author.Tests.{lt-ltb, le-ltb}
-use Rattle.rules.specs.Answer.{after, answer}
+use Rattle.rules.specs.Answer.{withAnswer, answer}
 use Rattle.rules.specs.Tables.{state, withState}
 use Rattle.rules.specs.Switches.{swisBit, tasksBit, bothBits, has, on, off, settings, turned, offEffect, restoreEffect, inEffect, outEffect}
 use Rattle.rules.specs.declared.Answer.{Answer}
@@ -29,22 +29,22 @@ module _ (bits : ℕ) {n : ℕ} (e : bitAnd bits bothBits ≡ n) where
 
 module _ (st : List ℕ) {r : Answer} where
   pub off-is : (which : ℕ) {now : List ℕ} {old : ℕ} → old ≡ settings st → now ≡ turned which off st → r ≡ answer 0 0 (bitAnd old which)
-      → after r now ≡ offEffect st which
+      → withAnswer r now ≡ offEffect st which
   unfolding offEffect
   off-is which e t q = rw (q, e, t)
 
-  pub restored-is : (which key : ℕ) {now : List ℕ} → now ≡ turned (bitAnd which key) on st → r ≡ answer 0 0 0 → after r now ≡ restoreEffect st which key
+  pub restored-is : (which key : ℕ) {now : List ℕ} → now ≡ turned (bitAnd which key) on st → r ≡ answer 0 0 0 → withAnswer r now ≡ restoreEffect st which key
   unfolding restoreEffect
   restored-is which key t q = rw (q, t)
 
-  pub in-is : state st 0 < 8 → r ≡ answer 0 0 0 → after r (withState st 0 (state st 0 + 1)) ≡ inEffect st
+  pub in-is : state st 0 < 8 → r ≡ answer 0 0 0 → withAnswer r (withState st 0 (state st 0 + 1)) ≡ inEffect st
   unfolding inEffect
   in-is h q = rw (q, lt-ltb (state st 0) 8 h)
 
-  pub in-full : 8 ≤ state st 0 → r ≡ answer 0 0 0 → after r st ≡ inEffect st
+  pub in-full : 8 ≤ state st 0 → r ≡ answer 0 0 0 → withAnswer r st ≡ inEffect st
   unfolding inEffect
   in-full h q = rw (q, le-ltb (state st 0) 8 h)
 
-  pub out-is : {n : ℕ} → n ≡ state st 0 - 1 → r ≡ answer 0 0 0 → after r (withState st 0 n) ≡ outEffect st
+  pub out-is : {n : ℕ} → n ≡ state st 0 - 1 → r ≡ answer 0 0 0 → withAnswer r (withState st 0 n) ≡ outEffect st
   unfolding outEffect
   out-is e q = rw (q, e)

@@ -18,7 +18,7 @@ use Rattle.rules_laws.proofs.Rows.{by-range, field-in}
 use Rattle.rules.specs.Rows.{field}
 use Rattle.rows.proofs.Records.{put-clock, no-clock}
 use Rattle.rules.specs.Tables.{clock, withClock}
-use Rattle.rules.specs.Tick.{aged, clockedOf, clockTick}
+use Rattle.rules.specs.Tick.{aged, clockTables, clockTick}
 use Rattle.rules.specs.declared.Clock.{Clock}
 use Rattle.switches.specs.Still.{still}
 
@@ -84,6 +84,6 @@ clock-kept cs n = by-range n 16 inside (λ h. sym (no-clock cs n (clock cs n) h)
         sym (put-clock cs n (clock cs n) h)
         ∙ rw (first, word h 1 (omega arith), word h 2 (omega arith), word h 3 (omega arith), word h 4 (omega arith))
 
-pub clock-still : (cs ws ls : List ℕ) (n : ℕ) {k : Clock} → k ≡ clock cs n → k .left ≡ 0 → clockedOf cs ws ls ≡ clockTick (clockedOf cs ws ls) n
+pub clock-still : (cs ws ls : List ℕ) (n : ℕ) {k : Clock} → k ≡ clock cs n → k .left ≡ 0 → clockTables cs ws ls ≡ clockTick (clockTables cs ws ls) n
 unfolding clockTick aged
 clock-still cs ws ls n e z = rw (eq-eqb (clock cs n .left) 0 (sym (ap (λ (c : Clock). c .left) e) ∙ z), clock-kept cs n)

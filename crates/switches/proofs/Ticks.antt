@@ -10,30 +10,30 @@ use Rattle.basics.proofs.Finds.{rising-more}
 use Rattle.basics.specs.Find.{rising}
 use Rattle.rules.specs.Rows.{field}
 use Rattle.rules.specs.Tables.{task, withTask, clock, withClock}
-use Rattle.rules.specs.Lines.{Queued, queued}
+use Rattle.rules.specs.Lines.{TaskQueues, taskQueues}
 use Rattle.rules.specs.Waits.{woken}
-use Rattle.rules.specs.Swis.{Posts, posts}
-use Rattle.rules.specs.Tick.{aged, Clocked, clockedOf, postedIf, clockTick, clocksTicked, oneLess, endedWith, taskTick, tasksTicked, tickedOf, ticked}
+use Rattle.rules.specs.Swis.{SwiQueues, swiQueues}
+use Rattle.rules.specs.Tick.{aged, ClockTables, clockTables, postedIf, clockTick, clocksTicked, oneLess, endedWith, taskTick, tasksTicked, tickTables, ticked}
 use Rattle.rules.specs.declared.Task.{Task}
 use Rattle.rules.specs.declared.Clock.{Clock}
 use Rattle.rules.specs.declared.AgedClock.{AgedClock}
 
 -- ---- a clock: its row, aged, and its Swi
 pub clock-ticked : (cs ws ls : List ℕ) (n : ℕ) {k : Clock} {older : AgedClock} {cs′ ws′ ls′ : List ℕ}
-    → k ≡ clock cs n → older ≡ aged k → cs′ ≡ withClock cs n (older .clock) → posts ws′ ls′ ≡ postedIf (older .fired) (k .swi) (posts ws ls)
-    → clockedOf cs′ ws′ ls′ ≡ clockTick (clockedOf cs ws ls) n
+    → k ≡ clock cs n → older ≡ aged k → cs′ ≡ withClock cs n (older .clock) → swiQueues ws′ ls′ ≡ postedIf (older .fired) (k .swi) (swiQueues ws ls)
+    → clockTables cs′ ws′ ls′ ≡ clockTick (clockTables cs ws ls) n
 unfolding clockTick
 clock-ticked cs ws ls n {k} {older} {cs′} a b c d =
-    ap (λ (p : Posts). clockedOf cs′ (p .swis) (p .lines)) d ∙ rw (c, b, a)
+    ap (λ (p : SwiQueues). clockTables cs′ (p .swis) (p .lines)) d ∙ rw (c, b, a)
 
 -- ---- a task: nothing to count, its last tick, or one tick less
 module _ (ts ls : List ℕ) (i : ℕ) {left : ℕ} (e : left ≡ field 8 32 ts i 3) where
-  pub task-still : left ≡ 0 → queued ts ls ≡ taskTick (queued ts ls) i
+  pub task-still : left ≡ 0 → taskQueues ts ls ≡ taskTick (taskQueues ts ls) i
   unfolding taskTick task
   task-still z = rw (eq-eqb (field 8 32 ts i 3) 0 (sym e ∙ z))
 
-  pub task-ended : left ≡ 1 → {k : Task} {o : ℕ} {q : Queued} → k ≡ task ts i → o ≡ endedWith (k .mode) → q ≡ woken i o 0 (queued ts ls)
-      → q ≡ taskTick (queued ts ls) i
+  pub task-ended : left ≡ 1 → {k : Task} {o : ℕ} {q : TaskQueues} → k ≡ task ts i → o ≡ endedWith (k .mode) → q ≡ woken i o 0 (taskQueues ts ls)
+      → q ≡ taskTick (taskQueues ts ls) i
   unfolding taskTick task
   task-ended u a b c =
       c ∙ rw (b, a, ne-eqb (field 8 32 ts i 3) 0 (λ z. absurd (one-not-zero (sym (e ∙ z) ∙ u))), eq-eqb (field 8 32 ts i 3) 1 (sym e ∙ u))
@@ -42,7 +42,7 @@ module _ (ts ls : List ℕ) (i : ℕ) {left : ℕ} (e : left ≡ field 8 32 ts i
       one-not-zero p = omega arith
 
   pub task-aged : left ≢ 0 → left ≢ 1 → {k new : Task} {ts′ : List ℕ} → k ≡ task ts i → new ≡ oneLess k → ts′ ≡ withTask ts i new
-      → queued ts′ ls ≡ taskTick (queued ts ls) i
+      → taskQueues ts′ ls ≡ taskTick (taskQueues ts ls) i
   unfolding taskTick task
   task-aged z u a b c = rw (c, b, a, ne-eqb (field 8 32 ts i 3) 0 (λ p. z (e ∙ p)), ne-eqb (field 8 32 ts i 3) 1 (λ p. u (e ∙ p)))
 
@@ -53,10 +53,10 @@ one-more f x n e g = g ∙ ap (λ y. f y n) e ∙ sym (rising-more f x n)
 -- ---- the whole tick
 pub tick-is : (ts ls ws cs st : List ℕ) {v : ℕ} {st′ cs′ ws′ ls₁ ts′ ls′ : List ℕ}
     → v ≡ (getD st 3 0 + 1) % 2 ^ 32 → st′ ≡ set st 3 v
-    → clockedOf cs′ ws′ ls₁ ≡ clocksTicked cs ws ls → queued ts′ ls′ ≡ tasksTicked ts ls₁
-    → tickedOf ts′ ls′ ws′ cs′ st′ ≡ ticked (tickedOf ts ls ws cs st)
+    → clockTables cs′ ws′ ls₁ ≡ clocksTicked cs ws ls → taskQueues ts′ ls′ ≡ tasksTicked ts ls₁
+    → tickTables ts′ ls′ ws′ cs′ st′ ≡ ticked (tickTables ts ls ws cs st)
 unfolding ticked
 tick-is ts ls ws cs st {v} {st′} {cs′} {ws′} {ls₁} {ts′} {ls′} a b c d =
     rw (b, a)
-    (ap (λ (q : Queued). tickedOf (q .tasks) (q .lines) ws′ cs′ (set st 3 ((getD st 3 0 + 1) % 2 ^ 32))) d
-    ∙ ap (λ (x : Clocked). tickedOf (tasksTicked ts (x .lines) .tasks) (tasksTicked ts (x .lines) .lines) (x .swis) (x .clocks) (set st 3 ((getD st 3 0 + 1) % 2 ^ 32))) c)
+    (ap (λ (q : TaskQueues). tickTables (q .tasks) (q .lines) ws′ cs′ (set st 3 ((getD st 3 0 + 1) % 2 ^ 32))) d
+    ∙ ap (λ (x : ClockTables). tickTables (tasksTicked ts (x .lines) .tasks) (tasksTicked ts (x .lines) .lines) (x .swis) (x .clocks) (set st 3 ((getD st 3 0 + 1) % 2 ^ 32))) c)

@@ -4,7 +4,7 @@ use mathlib.Core.Bool.{Bool}
 use lib.Dec.{eqb}
 use Rattle.basics.specs.Find.{allBelow, rising}
 use Rattle.rules.specs.Tables.{TaskTable, ClockTable, clockCount, clock, task}
-use Rattle.rules.specs.Lines.{Queued}
+use Rattle.rules.specs.Lines.{TaskQueues}
 use Rattle.rules.specs.Tick.{taskTick}
 
 -- none of the numbers below n has ticks left
@@ -18,5 +18,5 @@ clocksStill cs = still clockCount (λ n. clock cs n .left)
 abbrev pub eightStill : TaskTable → ℕ → Bool
 eightStill ts g = still 8 (λ k. task ts (g * 8 + k) .left)
 
-abbrev pub eightTick : Queued → ℕ → Queued
+abbrev pub eightTick : TaskQueues → ℕ → TaskQueues
 eightTick q g = rising 8 (λ p k. taskTick p (g * 8 + k)) q

@@ -10,9 +10,9 @@ use rules::Swis;
 use rules::Tasks;
 use ticking::tick_call;
 ghost use mathlib.Core.Path.{_≡_};
-ghost use Rattle.rules.specs.Answer.{after, answered};
+ghost use Rattle.rules.specs.Answer.{withAnswer, answered};
 ghost use Rattle.rules.specs.Tick.{switchCall};
-ghost use Rattle.tables.specs.Lent.{tickedOld, tickedNew};
+ghost use Rattle.tables.specs.Lent.{tickTablesOld, tickTablesNew};
 
 // Calls 74 to 78 by number.
 pub fn switch_call(
@@ -28,8 +28,8 @@ pub fn switch_call(
     c: u32,
     d: u32,
 ) -> Answer
-    ensures { λ r. ⌜ after r (tickedNew tasks lines swis clocks state)
-        ≡ answered (tickedOld tasks lines swis clocks state) (switchCall (tickedOld tasks lines swis clocks state) x number a b c d) ⌝ }
+    ensures { λ r. ⌜ withAnswer r (tickTablesNew tasks lines swis clocks state)
+        ≡ answered (tickTablesOld tasks lines swis clocks state) (switchCall (tickTablesOld tasks lines swis clocks state) x number a b c d) ⌝ }
 {
     match number {
         0x74 => state::interrupt_in(state, a, b, c, d),

@@ -9,7 +9,7 @@ use rules::numbers::S;
 use rules::numbers::SWIS;
 use rules::numbers::TASKS;
 ghost use mathlib.Core.Path.{_≡_};
-ghost use Rattle.rules.specs.Answer.{after, answered, codeOf};
+ghost use Rattle.rules.specs.Answer.{withAnswer, answered, codeOf};
 ghost use Rattle.rules.specs.Switches.{setting, settings, turned, mayNotName, badWhich, badKey, offCases, restoreCases, inCases, interruptCases, offCall};
 ghost use Rattle.rules.specs.Switches.{restoreCall, inCall, outCall};
 ghost use Rattle.tables.specs.Lent.{old, new};
@@ -99,7 +99,7 @@ pub fn off_code(x: u32, which: u32, b: u32, c: u32, d: u32) -> u32
 
 // 77 off: the named ones' old settings.
 pub fn off(state: &mut State, x: u32, which: u32, b: u32, c: u32, d: u32) -> Answer
-    ensures { λ r. ⌜ after r (new state) ≡ answered (old state) (offCall (old state) x which b c d) ⌝ }
+    ensures { λ r. ⌜ withAnswer r (new state) ≡ answered (old state) (offCall (old state) x which b c d) ⌝ }
 {
     let code = off_code(x, which, b, c, d);
     if code != 0 {
@@ -126,7 +126,7 @@ pub fn restore_code(x: u32, which: u32, key: u32, c: u32, d: u32) -> u32
 
 // 78 restore: those of the named ones whose bit is in the key.
 pub fn restore(state: &mut State, x: u32, which: u32, key: u32, c: u32, d: u32) -> Answer
-    ensures { λ r. ⌜ after r (new state) ≡ answered (old state) (restoreCall (old state) x which key c d) ⌝ }
+    ensures { λ r. ⌜ withAnswer r (new state) ≡ answered (old state) (restoreCall (old state) x which key c d) ⌝ }
 {
     let code = restore_code(x, which, key, c, d);
     if code != 0 {
@@ -152,7 +152,7 @@ pub fn in_code(state: &State, a: u32, b: u32, c: u32, d: u32) -> u32
 
 // 74 interrupt in.
 pub fn interrupt_in(state: &mut State, a: u32, b: u32, c: u32, d: u32) -> Answer
-    ensures { λ r. ⌜ after r (new state) ≡ answered (old state) (inCall (old state) a b c d) ⌝ }
+    ensures { λ r. ⌜ withAnswer r (new state) ≡ answered (old state) (inCall (old state) a b c d) ⌝ }
 {
     let code = in_code(state, a, b, c, d);
     if code != 0 {
@@ -180,7 +180,7 @@ pub fn interrupt_code(x: u32, a: u32, b: u32, c: u32, d: u32) -> u32
 
 // 75 interrupt out.
 pub fn interrupt_out(state: &mut State, x: u32, a: u32, b: u32, c: u32, d: u32) -> Answer
-    ensures { λ r. ⌜ after r (new state) ≡ answered (old state) (outCall (old state) x a b c d) ⌝ }
+    ensures { λ r. ⌜ withAnswer r (new state) ≡ answered (old state) (outCall (old state) x a b c d) ⌝ }
 {
     let code = interrupt_code(x, a, b, c, d);
     if code != 0 {

@@ -16,12 +16,12 @@ use rules::numbers::TICK;
 ghost use mathlib.Core.Path.{_≡_};
 ghost use Rattle.rules.specs.Tick.{postedIf, clockTick, clocksTicked, oneLess, endedWith, taskTick, tasksTicked, ticked, tickCall};
 ghost use Rattle.switches.specs.Still.{clocksStill, eightStill, eightTick};
-ghost use Rattle.rules.specs.Answer.{after, answered};
-ghost use Rattle.tables.specs.Lent.{old, queuedOld, queuedNew, postsOld, postsNew, clockedOld, clockedNew, tickedOld, tickedNew};
+ghost use Rattle.rules.specs.Answer.{withAnswer, answered};
+ghost use Rattle.tables.specs.Lent.{old, taskQueuesOld, taskQueuesNew, swiQueuesOld, swiQueuesNew, clockTablesOld, clockTablesNew, tickTablesOld, tickTablesNew};
 
 // The Swi of a clock that has come to 0 is posted.
 pub fn post_if(fired: bool, swis: &mut Swis, lines: &mut Lines, i: u32)
-    ensures { λ _. ⌜ postsNew swis lines ≡ postedIf fired i (postsOld swis lines) ⌝ }
+    ensures { λ _. ⌜ swiQueuesNew swis lines ≡ postedIf fired i (swiQueuesOld swis lines) ⌝ }
 {
     if fired {
         swis::posts::post_swi(swis, lines, i);
@@ -30,7 +30,7 @@ pub fn post_if(fired: bool, swis: &mut Swis, lines: &mut Lines, i: u32)
 
 // Clock n, one tick older.
 pub fn clock_tick(clocks: &mut Clocks, swis: &mut Swis, lines: &mut Lines, n: usize)
-    ensures { λ _. ⌜ clockedNew clocks swis lines ≡ clockTick (clockedOld clocks swis lines) n ⌝ }
+    ensures { λ _. ⌜ clockTablesNew clocks swis lines ≡ clockTick (clockTablesOld clocks swis lines) n ⌝ }
 {
     let k = rows::clock(clocks, n);
     if k.left == 0 {
@@ -56,7 +56,7 @@ pub fn clocks_still(clocks: &Clocks) -> bool
 
 // All clocks, one tick older: nothing to do where none has ticks left.
 pub fn clocks_tick(clocks: &mut Clocks, swis: &mut Swis, lines: &mut Lines)
-    ensures { λ _. ⌜ clockedNew clocks swis lines ≡ clocksTicked (old clocks) (old swis) (old lines) ⌝ }
+    ensures { λ _. ⌜ clockTablesNew clocks swis lines ≡ clocksTicked (old clocks) (old swis) (old lines) ⌝ }
 {
     if clocks_still(clocks) {
         return;
@@ -77,8 +77,8 @@ pub fn one_less(k: Task) -> Task
         priority: k.priority,
         object: k.object,
         left: rows::readings::one_less(k.left),
-        first: k.first,
-        second: k.second,
+        held: k.held,
+        mask: k.mask,
         outcome: k.outcome,
         value: k.value,
     }
@@ -96,7 +96,7 @@ pub fn ended_with(mode: u32) -> u32
 
 // Task i, one tick older.
 pub fn task_tick(tasks: &mut Tasks, lines: &mut Lines, i: u32)
-    ensures { λ _. ⌜ queuedNew tasks lines ≡ taskTick (queuedOld tasks lines) i ⌝ }
+    ensures { λ _. ⌜ taskQueuesNew tasks lines ≡ taskTick (taskQueuesOld tasks lines) i ⌝ }
 {
     let left = rows::task_word(tasks, i as usize, TASK_LEFT);
     if left == 0 {
@@ -126,7 +126,7 @@ pub fn eight_still(tasks: &Tasks, g: u8) -> bool
 
 // The eight tasks from 8 g on, one tick older: nothing to do where none has ticks left.
 pub fn eight_tick(tasks: &mut Tasks, lines: &mut Lines, g: u8)
-    ensures { λ _. ⌜ queuedNew tasks lines ≡ eightTick (queuedOld tasks lines) g ⌝ }
+    ensures { λ _. ⌜ taskQueuesNew tasks lines ≡ eightTick (taskQueuesOld tasks lines) g ⌝ }
 {
     if eight_still(tasks, g) {
         return;
@@ -141,7 +141,7 @@ pub fn eight_tick(tasks: &mut Tasks, lines: &mut Lines, g: u8)
 
 // All tasks, one tick older, by eights.
 pub fn tasks_tick(tasks: &mut Tasks, lines: &mut Lines)
-    ensures { λ _. ⌜ queuedNew tasks lines ≡ tasksTicked (old tasks) (old lines) ⌝ }
+    ensures { λ _. ⌜ taskQueuesNew tasks lines ≡ tasksTicked (old tasks) (old lines) ⌝ }
 {
     let mut g: u8 = 0;
     while g < 4 {
@@ -158,7 +158,7 @@ pub fn tick(
     clocks: &mut Clocks,
     state: &mut State,
 )
-    ensures { λ _. ⌜ tickedNew tasks lines swis clocks state ≡ ticked (tickedOld tasks lines swis clocks state) ⌝ }
+    ensures { λ _. ⌜ tickTablesNew tasks lines swis clocks state ≡ ticked (tickTablesOld tasks lines swis clocks state) ⌝ }
 {
     state[TICK] = std::num::wrapping_add_u32(state[TICK], 1);
     clocks_tick(clocks, swis, lines);
@@ -178,8 +178,8 @@ pub fn tick_call(
     c: u32,
     d: u32,
 ) -> Answer
-    ensures { λ r. ⌜ after r (tickedNew tasks lines swis clocks state)
-        ≡ answered (tickedOld tasks lines swis clocks state) (tickCall (tickedOld tasks lines swis clocks state) x a b c d) ⌝ }
+    ensures { λ r. ⌜ withAnswer r (tickTablesNew tasks lines swis clocks state)
+        ≡ answered (tickTablesOld tasks lines swis clocks state) (tickCall (tickTablesOld tasks lines swis clocks state) x a b c d) ⌝ }
 {
     let code = super::state::interrupt_code(x, a, b, c, d);
     if code != 0 {

@@ -2,11 +2,11 @@
 use denote.Triple.Both.{Both}
 use denote.Ref.{RefT, now}
 use Rattle.rules.specs.Tables.{tables}
-use Rattle.rules.specs.Lines.{Queued, queued}
-use Rattle.rules.specs.Waits.{Served, served}
-use Rattle.rules.specs.Swis.{Posts, posts}
-use Rattle.rules.specs.Tick.{Clocked, clockedOf, Ticked, tickedOf}
-use Rattle.rules.specs.Dispatch.{Dispatched, dispatchedOf}
+use Rattle.rules.specs.Lines.{TaskQueues, taskQueues}
+use Rattle.rules.specs.Waits.{WaitTables, waitTables}
+use Rattle.rules.specs.Swis.{SwiQueues, swiQueues}
+use Rattle.rules.specs.Tick.{ClockTables, clockTables, TickTables, tickTables}
+use Rattle.rules.specs.Dispatch.{DispatchTables, dispatchTables}
 use Rattle.rules.specs.declared.Tables.{Tables}
 use mathlib.Core.List.{List}
 use Prim.Native.Nat.{ℕ}
@@ -28,41 +28,41 @@ abbrev pub Over : Type 0
 Over = Both Lent Lent
 
 -- ---- those that a kind's calls change together
-abbrev pub queuedOld : Over → Over → Queued
-queuedOld ts ls = queued (old ts) (old ls)
+abbrev pub taskQueuesOld : Over → Over → TaskQueues
+taskQueuesOld ts ls = taskQueues (old ts) (old ls)
 
-abbrev pub queuedNew : Over → Over → Queued
-queuedNew ts ls = queued (new ts) (new ls)
+abbrev pub taskQueuesNew : Over → Over → TaskQueues
+taskQueuesNew ts ls = taskQueues (new ts) (new ls)
 
-abbrev pub servedOld : Over → Over → Over → Served
-servedOld ts ls os = served (old ts) (old ls) (old os)
+abbrev pub waitTablesOld : Over → Over → Over → WaitTables
+waitTablesOld ts ls os = waitTables (old ts) (old ls) (old os)
 
-abbrev pub servedNew : Over → Over → Over → Served
-servedNew ts ls os = served (new ts) (new ls) (new os)
+abbrev pub waitTablesNew : Over → Over → Over → WaitTables
+waitTablesNew ts ls os = waitTables (new ts) (new ls) (new os)
 
-abbrev pub postsOld : Over → Over → Posts
-postsOld ws ls = posts (old ws) (old ls)
+abbrev pub swiQueuesOld : Over → Over → SwiQueues
+swiQueuesOld ws ls = swiQueues (old ws) (old ls)
 
-abbrev pub postsNew : Over → Over → Posts
-postsNew ws ls = posts (new ws) (new ls)
+abbrev pub swiQueuesNew : Over → Over → SwiQueues
+swiQueuesNew ws ls = swiQueues (new ws) (new ls)
 
-abbrev pub clockedOld : Over → Over → Over → Clocked
-clockedOld cs ws ls = clockedOf (old cs) (old ws) (old ls)
+abbrev pub clockTablesOld : Over → Over → Over → ClockTables
+clockTablesOld cs ws ls = clockTables (old cs) (old ws) (old ls)
 
-abbrev pub clockedNew : Over → Over → Over → Clocked
-clockedNew cs ws ls = clockedOf (new cs) (new ws) (new ls)
+abbrev pub clockTablesNew : Over → Over → Over → ClockTables
+clockTablesNew cs ws ls = clockTables (new cs) (new ws) (new ls)
 
-abbrev pub tickedOld : Over → Over → Over → Over → Over → Ticked
-tickedOld ts ls ws cs st = tickedOf (old ts) (old ls) (old ws) (old cs) (old st)
+abbrev pub tickTablesOld : Over → Over → Over → Over → Over → TickTables
+tickTablesOld ts ls ws cs st = tickTables (old ts) (old ls) (old ws) (old cs) (old st)
 
-abbrev pub tickedNew : Over → Over → Over → Over → Over → Ticked
-tickedNew ts ls ws cs st = tickedOf (new ts) (new ls) (new ws) (new cs) (new st)
+abbrev pub tickTablesNew : Over → Over → Over → Over → Over → TickTables
+tickTablesNew ts ls ws cs st = tickTables (new ts) (new ls) (new ws) (new cs) (new st)
 
-abbrev pub dispatchedOld : Over → Over → Over → Dispatched
-dispatchedOld ws ls st = dispatchedOf (old ws) (old ls) (old st)
+abbrev pub dispatchTablesOld : Over → Over → Over → DispatchTables
+dispatchTablesOld ws ls st = dispatchTables (old ws) (old ls) (old st)
 
-abbrev pub dispatchedNew : Over → Over → Over → Dispatched
-dispatchedNew ws ls st = dispatchedOf (new ws) (new ls) (new st)
+abbrev pub dispatchTablesNew : Over → Over → Over → DispatchTables
+dispatchTablesNew ws ls st = dispatchTables (new ws) (new ls) (new st)
 
 -- ---- all nine: as they are lent, in a `requires`; as they came and as they are left, in an `ensures`
 abbrev pub lent : Lent → Lent → Lent → Lent → Lent → Lent → Lent → Lent → Lent → Tables

@@ -22,11 +22,11 @@ use rules::numbers::TASK_PRIORITY;
 use rules::numbers::TASK_ROWS;
 use rules::numbers::TERMINATED;
 ghost use mathlib.Core.Path.{_≡_};
-ghost use Rattle.rules.specs.Answer.{codeOf, after, answered};
-ghost use Rattle.rules.specs.Lines.{queued};
+ghost use Rattle.rules.specs.Answer.{codeOf, withAnswer, answered};
+ghost use Rattle.rules.specs.Lines.{taskQueues};
 ghost use Rattle.rules.specs.Tasks.{createCases, createEffect, deleteCases, deleteEffect, setPriorityCases, reprioritized, setPriorityEffect, lastResultCases};
 ghost use Rattle.rules.specs.Tasks.{createCall, deleteCall, setPriorityCall, lastResultCall};
-ghost use Rattle.tables.specs.Lent.{old, new, queuedOld, queuedNew};
+ghost use Rattle.tables.specs.Lent.{old, new, taskQueuesOld, taskQueuesNew};
 ghost use Rattle.rules.specs.Tables.{LineTable};
 
 // ---- 00 create (priority; T)
@@ -49,7 +49,7 @@ pub fn create_code(tasks: &Tasks, state: &State, x: u32, a: u32, b: u32, c: u32,
 
 // A task at the lowest free number, ready at once unless at -1: value its number.
 pub fn create_effect(tasks: &mut Tasks, lines: &mut Lines, a: u32) -> Answer
-    ensures { λ r. ⌜ after r (queuedNew tasks lines) ≡ createEffect (queuedOld tasks lines) a ⌝ }
+    ensures { λ r. ⌜ withAnswer r (taskQueuesNew tasks lines) ≡ createEffect (taskQueuesOld tasks lines) a ⌝ }
 {
     let i = free_task(tasks) as u32;
     moves::move_back(tasks, lines, i, placed_at(no_task(), a));
@@ -67,7 +67,7 @@ pub fn create(
     c: u32,
     d: u32,
 ) -> Answer
-    ensures { λ r. ⌜ after r (queuedNew tasks lines) ≡ answered (queuedOld tasks lines) (createCall (queuedOld tasks lines) (old state) x a b c d) ⌝ }
+    ensures { λ r. ⌜ withAnswer r (taskQueuesNew tasks lines) ≡ answered (taskQueuesOld tasks lines) (createCall (taskQueuesOld tasks lines) (old state) x a b c d) ⌝ }
 {
     let code = create_code(tasks, state, x, a, b, c, d);
     if code != 0 {
@@ -100,7 +100,7 @@ pub fn delete_code(tasks: &Tasks, x: u32, a: u32, b: u32, c: u32, d: u32) -> u32
 
 // The number is free again. No line is touched: such a task stands in none.
 pub fn delete_effect(tasks: &mut Tasks, a: u32) -> Answer
-    ensures { λ r. ⌜ ((ls : LineTable) → after r (queued (new tasks) ls) ≡ deleteEffect (queued (old tasks) ls) a) ⌝ }
+    ensures { λ r. ⌜ ((ls : LineTable) → withAnswer r (taskQueues (new tasks) ls) ≡ deleteEffect (taskQueues (old tasks) ls) a) ⌝ }
 {
     rows::set_task(tasks, a as usize, no_task());
     answers::accepted(DONE, 0)
@@ -108,8 +108,8 @@ pub fn delete_effect(tasks: &mut Tasks, a: u32) -> Answer
 
 // 01 delete.
 pub fn delete(tasks: &mut Tasks, x: u32, a: u32, b: u32, c: u32, d: u32) -> Answer
-    ensures { λ r. ⌜ ((ls : LineTable) → after r (queued (new tasks) ls)
-        ≡ answered (queued (old tasks) ls) (deleteCall (queued (old tasks) ls) x a b c d)) ⌝ }
+    ensures { λ r. ⌜ ((ls : LineTable) → withAnswer r (taskQueues (new tasks) ls)
+        ≡ answered (taskQueues (old tasks) ls) (deleteCall (taskQueues (old tasks) ls) x a b c d)) ⌝ }
 {
     let code = delete_code(tasks, x, a, b, c, d);
     if code != 0 {
@@ -154,7 +154,7 @@ pub fn set_priority_code(
 // The same priority changes nothing; a blocked task keeps its place in line; a ready or inactive
 // one joins the new queue at the back, or is inactive at -1.
 pub fn reprioritize(tasks: &mut Tasks, lines: &mut Lines, a: u32, p: u32)
-    ensures { λ _. ⌜ queuedNew tasks lines ≡ reprioritized (queuedOld tasks lines) a p ⌝ }
+    ensures { λ _. ⌜ taskQueuesNew tasks lines ≡ reprioritized (taskQueuesOld tasks lines) a p ⌝ }
 {
     let old = rows::task(tasks, a as usize);
     if p != old.priority {
@@ -168,7 +168,7 @@ pub fn reprioritize(tasks: &mut Tasks, lines: &mut Lines, a: u32, p: u32)
 
 // Value the old priority.
 pub fn set_priority_effect(tasks: &mut Tasks, lines: &mut Lines, a: u32, b: u32) -> Answer
-    ensures { λ r. ⌜ after r (queuedNew tasks lines) ≡ setPriorityEffect (queuedOld tasks lines) a b ⌝ }
+    ensures { λ r. ⌜ withAnswer r (taskQueuesNew tasks lines) ≡ setPriorityEffect (taskQueuesOld tasks lines) a b ⌝ }
 {
     let old = rows::task_word(tasks, a as usize, TASK_PRIORITY);
     reprioritize(tasks, lines, a, b);
@@ -186,8 +186,8 @@ pub fn set_priority(
     c: u32,
     d: u32,
 ) -> Answer
-    ensures { λ r. ⌜ after r (queuedNew tasks lines)
-        ≡ answered (queuedOld tasks lines) (setPriorityCall (queuedOld tasks lines) (old state) x a b c d) ⌝ }
+    ensures { λ r. ⌜ withAnswer r (taskQueuesNew tasks lines)
+        ≡ answered (taskQueuesOld tasks lines) (setPriorityCall (taskQueuesOld tasks lines) (old state) x a b c d) ⌝ }
 {
     let code = set_priority_code(tasks, state, x, a, b, c, d);
     if code != 0 {
@@ -213,8 +213,8 @@ pub fn last_result_code(tasks: &Tasks, a: u32, b: u32, c: u32, d: u32) -> u32
 
 // 06 last result: outcome and value of its last ended wait or sleep. Nothing is changed.
 pub fn last_result(tasks: &Tasks, a: u32, b: u32, c: u32, d: u32) -> Answer
-    ensures { λ r. ⌜ ((ls : LineTable) → after r (queued (old tasks) ls)
-        ≡ answered (queued (old tasks) ls) (lastResultCall (queued (old tasks) ls) a b c d)) ⌝ }
+    ensures { λ r. ⌜ ((ls : LineTable) → withAnswer r (taskQueues (old tasks) ls)
+        ≡ answered (taskQueues (old tasks) ls) (lastResultCall (taskQueues (old tasks) ls) a b c d)) ⌝ }
 {
     let code = last_result_code(tasks, a, b, c, d);
     if code != 0 {

@@ -8,9 +8,9 @@ use rules::Lines;
 use rules::State;
 use rules::Tasks;
 ghost use mathlib.Core.Path.{_≡_};
-ghost use Rattle.rules.specs.Answer.{after, answered};
+ghost use Rattle.rules.specs.Answer.{withAnswer, answered};
 ghost use Rattle.rules.specs.Tasks.{taskCall};
-ghost use Rattle.tables.specs.Lent.{old, queuedOld, queuedNew};
+ghost use Rattle.tables.specs.Lent.{old, taskQueuesOld, taskQueuesNew};
 
 // 00 to 06; 1 for another number.
 pub fn task_call(
@@ -24,8 +24,8 @@ pub fn task_call(
     c: u32,
     d: u32,
 ) -> Answer
-    ensures { λ r. ⌜ after r (queuedNew tasks lines)
-        ≡ answered (queuedOld tasks lines) (taskCall (queuedOld tasks lines) (old state) x number a b c d) ⌝ }
+    ensures { λ r. ⌜ withAnswer r (taskQueuesNew tasks lines)
+        ≡ answered (taskQueuesOld tasks lines) (taskCall (taskQueuesOld tasks lines) (old state) x number a b c d) ⌝ }
 {
     match number {
         0x00 => calls::create(tasks, lines, state, x, a, b, c, d),

@@ -12,9 +12,9 @@ use rules::numbers::NOW_WAITING;
 use rules::numbers::SLEEPING;
 use rules::numbers::T;
 ghost use mathlib.Core.Path.{_≡_};
-ghost use Rattle.rules.specs.Answer.{codeOf, after, answered};
+ghost use Rattle.rules.specs.Answer.{codeOf, withAnswer, answered};
 ghost use Rattle.rules.specs.Tasks.{yieldCases, yieldEffect, endCases, endEffect, sleepCases, sleepEffect, yieldCall, endCall, sleepCall};
-ghost use Rattle.tables.specs.Lent.{old, queuedOld, queuedNew};
+ghost use Rattle.tables.specs.Lent.{old, taskQueuesOld, taskQueuesNew};
 
 // ---- 03 yield (T)
 
@@ -36,7 +36,7 @@ pub fn yield_code(state: &State, x: u32, a: u32, b: u32, c: u32, d: u32) -> u32
 
 // The current task goes to the back of its queue.
 pub fn yield_effect(tasks: &mut Tasks, lines: &mut Lines, state: &State) -> Answer
-    ensures { λ r. ⌜ after r (queuedNew tasks lines) ≡ yieldEffect (queuedOld tasks lines) (old state) ⌝ }
+    ensures { λ r. ⌜ withAnswer r (taskQueuesNew tasks lines) ≡ yieldEffect (taskQueuesOld tasks lines) (old state) ⌝ }
 {
     let i = current(state);
     let k = rows::task(tasks, i as usize);
@@ -55,7 +55,7 @@ pub fn yield_task(
     c: u32,
     d: u32,
 ) -> Answer
-    ensures { λ r. ⌜ after r (queuedNew tasks lines) ≡ answered (queuedOld tasks lines) (yieldCall (queuedOld tasks lines) (old state) x a b c d) ⌝ }
+    ensures { λ r. ⌜ withAnswer r (taskQueuesNew tasks lines) ≡ answered (taskQueuesOld tasks lines) (yieldCall (taskQueuesOld tasks lines) (old state) x a b c d) ⌝ }
 {
     let code = yield_code(state, x, a, b, c, d);
     if code != 0 {
@@ -87,7 +87,7 @@ pub fn end_code(state: &State, x: u32, a: u32, b: u32, c: u32, d: u32) -> u32
 
 // The current task is terminated.
 pub fn end_effect(tasks: &mut Tasks, lines: &mut Lines, state: &State) -> Answer
-    ensures { λ r. ⌜ after r (queuedNew tasks lines) ≡ endEffect (queuedOld tasks lines) (old state) ⌝ }
+    ensures { λ r. ⌜ withAnswer r (taskQueuesNew tasks lines) ≡ endEffect (taskQueuesOld tasks lines) (old state) ⌝ }
 {
     let i = current(state);
     let k = rows::task(tasks, i as usize);
@@ -106,7 +106,7 @@ pub fn end(
     c: u32,
     d: u32,
 ) -> Answer
-    ensures { λ r. ⌜ after r (queuedNew tasks lines) ≡ answered (queuedOld tasks lines) (endCall (queuedOld tasks lines) (old state) x a b c d) ⌝ }
+    ensures { λ r. ⌜ withAnswer r (taskQueuesNew tasks lines) ≡ answered (taskQueuesOld tasks lines) (endCall (taskQueuesOld tasks lines) (old state) x a b c d) ⌝ }
 {
     let code = end_code(state, x, a, b, c, d);
     if code != 0 {
@@ -138,7 +138,7 @@ pub fn sleep_code(state: &State, x: u32, n: u32, b: u32, c: u32, d: u32) -> u32
 
 // n = 0 does nothing; else the current task sleeps for n ticks: outcome 2.
 pub fn sleep_effect(tasks: &mut Tasks, lines: &mut Lines, state: &State, n: u32) -> Answer
-    ensures { λ r. ⌜ after r (queuedNew tasks lines) ≡ sleepEffect (queuedOld tasks lines) (old state) n ⌝ }
+    ensures { λ r. ⌜ withAnswer r (taskQueuesNew tasks lines) ≡ sleepEffect (taskQueuesOld tasks lines) (old state) n ⌝ }
 {
     if n == 0 {
         return answers::accepted(DONE, 0);
@@ -158,7 +158,7 @@ pub fn sleep(
     c: u32,
     d: u32,
 ) -> Answer
-    ensures { λ r. ⌜ after r (queuedNew tasks lines) ≡ answered (queuedOld tasks lines) (sleepCall (queuedOld tasks lines) (old state) x n b c d) ⌝ }
+    ensures { λ r. ⌜ withAnswer r (taskQueuesNew tasks lines) ≡ answered (taskQueuesOld tasks lines) (sleepCall (taskQueuesOld tasks lines) (old state) x n b c d) ⌝ }
 {
     let code = sleep_code(state, x, n, b, c, d);
     if code != 0 {

@@ -67,8 +67,8 @@ pub fn no_task() -> Task
         priority: 0,
         object: 0,
         left: 0,
-        first: 0,
-        second: 0,
+        held: 0,
+        mask: 0,
         outcome: 0,
         value: 0,
     }
@@ -93,8 +93,8 @@ pub fn placed_at(k: Task, p: u32) -> Task
         priority: p,
         object: k.object,
         left: k.left,
-        first: k.first,
-        second: k.second,
+        held: k.held,
+        mask: k.mask,
         outcome: k.outcome,
         value: k.value,
     }
@@ -109,8 +109,8 @@ pub fn with_priority(k: Task, p: u32) -> Task
         priority: p,
         object: k.object,
         left: k.left,
-        first: k.first,
-        second: k.second,
+        held: k.held,
+        mask: k.mask,
         outcome: k.outcome,
         value: k.value,
     }
@@ -125,8 +125,8 @@ pub fn ended(k: Task) -> Task
         priority: k.priority,
         object: 0,
         left: 0,
-        first: 0,
-        second: 0,
+        held: 0,
+        mask: 0,
         outcome: k.outcome,
         value: k.value,
     }

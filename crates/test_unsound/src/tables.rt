@@ -60,8 +60,8 @@ fn task(
     priority: u32,
     object: u32,
     left: u32,
-    first: u32,
-    second: u32,
+    held: u32,
+    mask: u32,
     outcome: u32,
     value: u32,
 ) -> Task {
@@ -70,8 +70,8 @@ fn task(
         priority,
         object,
         left,
-        first,
-        second,
+        held,
+        mask,
         outcome,
         value,
     }

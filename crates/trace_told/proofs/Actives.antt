@@ -12,16 +12,16 @@ use lib.Seq.{length-take-le}
 use Rattle.basics.specs.Lists.{bit}
 use Rattle.basics.specs.Rule.{Means}
 use Rattle.rules.specs.Tables.{Typed, swiCount, taskCount, clockCount, swi, task, clock, state, levels, PRIORITY, TRIGGER, POSTED, CURRENT}
-use Rattle.rules.specs.Lines.{line, left, Queued, queued, atBack, postedLine, activeLine}
-use Rattle.rules.specs.Answer.{Cases, After, CallRule, called, codeOf, unknown}
+use Rattle.rules.specs.Lines.{line, outOf, TaskQueues, taskQueues, atBack, postedLine, activeLine}
+use Rattle.rules.specs.Answer.{Cases, Effect, CallRule, called, codeOf, unknown}
 use Rattle.rules.specs.Dispatch.{context}
 use Rattle.rules.specs.Sound.{Sound, tasksRule}
 use Rattle.rules.specs.Step.{inRange, over, callOf, withQueued, withPosts, withSemaphores, withEvents, withMailboxes, withClocks, withHeap, withTicked}
-use Rattle.rules.specs.Swis.{Posts, posts, posted, triggered, top}
+use Rattle.rules.specs.Swis.{SwiQueues, swiQueues, posted, triggered, top}
 use Rattle.rules.specs.Swis as Swis
 use Rattle.rules.specs.Tick as Tick
-use Rattle.rules.specs.Tick.{Clocked}
-use Rattle.rules.specs.Waits.{served}
+use Rattle.rules.specs.Tick.{ClockTables}
+use Rattle.rules.specs.Waits.{waitTables}
 use Rattle.rules.specs.declared.Tables.{Tables}
 use Rattle.rules_laws.proofs.Lines.{left-same, entered-other}
 use Rattle.rules_laws.proofs.Calls.{chosen}
@@ -48,11 +48,11 @@ pub record Leaves {A : Type 0} (linesOf : A → List ℕ) (number : ℕ) (ls : L
   pub active : codeOf (c .cases) ≡ 0 → Active number ls (linesOf (c .effect .next))
 
 module _ {A : Type 0} {linesOf : A → List ℕ} {number : ℕ} {ls : List ℕ} where
-  does : {c : Cases} {e : After A} → (codeOf c ≡ 0 → Active number ls (linesOf (e .next))) → Leaves linesOf number ls (called c e)
+  does : {c : Cases} {e : Effect A} → (codeOf c ≡ 0 → Active number ls (linesOf (e .next))) → Leaves linesOf number ls (called c e)
   does h = record { active = h }
 
   -- a call with another number than 17 that leaves the active ones alone
-  alone : (k : ℕ) {c : Cases} {e : After A} → eqb number k ≡ true → k ≢ 0x17 → line (linesOf (e .next)) activeLine ≡ line ls activeLine
+  alone : (k : ℕ) {c : Cases} {e : Effect A} → eqb number k ≡ true → k ≢ 0x17 → line (linesOf (e .next)) activeLine ≡ line ls activeLine
       → Leaves linesOf number ls (called c e)
   alone k is n e = does (λ _. same-active (λ z. n (sym (eqb-true number k is) ∙ z)) e)
 
@@ -63,18 +63,18 @@ module _ {A : Type 0} {linesOf : A → List ℕ} {number : ℕ} {ls : List ℕ} 
   nothing x = record { active = λ z. absurd (unknown-refused x z) }
 
 -- ---- a Swi is posted: its line is another
-record Low (ls : List ℕ) (p : Posts) : Type 0 where
+record Low (ls : List ℕ) (p : SwiQueues) : Type 0 where
   low : (x : ℕ) → swi (p .swis) x PRIORITY < 16
   same : line (p .lines) activeLine ≡ line ls activeLine
 
-module _ (ls : List ℕ) (p : Posts) (k : Low ls p) where
+module _ (ls : List ℕ) (p : SwiQueues) (k : Low ls p) where
   low-triggered : (x v : ℕ) → Low ls (triggered x v p)
   low-triggered x v = record { low = λ y. rw (swi-other (p .swis) x TRIGGER v y PRIORITY (λ e. omega arith)) (k .low y); same = k .same }
 
   low-posted : (x : ℕ) → Low ls (posted x p)
   unfolding posted
   low-posted x =
-      chosen (λ (q : Posts). Low ls q) (ltb x swiCount && eqb (swi (p .swis) x POSTED) 0) _ _
+      chosen (λ (q : SwiQueues). Low ls q) (ltb x swiCount && eqb (swi (p .swis) x POSTED) 0) _ _
       (λ _.
       let j = postedLine (swi (p .swis) x PRIORITY) in
       record {
@@ -84,16 +84,16 @@ module _ (ls : List ℕ) (p : Posts) (k : Low ls p) where
       (λ _. k)
 
 -- ---- the calls 10 to 18
-abbrev ofPosts : Posts → List ℕ
+abbrev ofPosts : SwiQueues → List ℕ
 ofPosts p = p .lines
 
 module _ (t : Tables) (typed : Typed t) (s : Sound t) where
-  before : Low (t .lines) (posts (t .swis) (t .lines))
+  before : Low (t .lines) (swiQueues (t .swis) (t .lines))
   before = record { low = priority-below (t .swis) (t .lines) (s .swis); same = refl }
 
   -- the top active one ends
   one-fewer : 0 < length (line (t .lines) activeLine)
-      → length (line (left activeLine (top (t .lines)) (t .lines)) activeLine) + 1 ≡ length (line (t .lines) activeLine)
+      → length (line (outOf activeLine (top (t .lines)) (t .lines)) activeLine) + 1 ≡ length (line (t .lines) activeLine)
   unfolding top
   one-fewer some =
       let xs = line (t .lines) activeLine in
@@ -106,13 +106,13 @@ module _ (t : Tables) (typed : Typed t) (s : Sound t) where
     who = context (t .lines) (t .state)
 
     changed : (v : ℕ) (zero : Bool)
-        → line ((if zero (posted a (triggered a v (posts (t .swis) (t .lines)))) (triggered a v (posts (t .swis) (t .lines)))) .lines) activeLine
+        → line ((if zero (posted a (triggered a v (swiQueues (t .swis) (t .lines)))) (triggered a v (swiQueues (t .swis) (t .lines)))) .lines) activeLine
         ≡ line (t .lines) activeLine
     changed v zero =
-        let now = low-triggered (t .lines) (posts (t .swis) (t .lines)) before a v in
-        chosen (λ (p : Posts). Low (t .lines) p) zero _ _ (λ _. low-posted (t .lines) _ now a) (λ _. now) .same
+        let now = low-triggered (t .lines) (swiQueues (t .swis) (t .lines)) before a v in
+        chosen (λ (p : SwiQueues). Low (t .lines) p) zero _ _ (λ _. low-posted (t .lines) _ now a) (λ _. now) .same
 
-    swis-active : Leaves ofPosts number (t .lines) (Swis.swiCall (posts (t .swis) (t .lines)) (t .clocks) (t .state) who number a b c d)
+    swis-active : Leaves ofPosts number (t .lines) (Swis.swiCall (swiQueues (t .swis) (t .lines)) (t .clocks) (t .state) who number a b c d)
     unfolding Swis.swiCall Swis.createEffect Swis.deleteEffect Swis.postEffect Swis.changeEffect Swis.zeroEffect Swis.endEffect Swis.takenEffect Swis.endCases
     swis-active =
         numbered (eqb number 0x10) (λ e. alone 0x10 e (λ z. omega arith) refl)
@@ -126,7 +126,7 @@ module _ (t : Tables) (typed : Typed t) (s : Sound t) where
         (numbered (eqb number 0x18) (λ e. alone 0x18 e (λ z. omega arith) refl) (nothing _)))))))))
       where
         ends : eqb number 0x17 ≡ true → codeOf (Swis.endCases (t .state) who a b c d) ≡ 0
-            → Active number (t .lines) (left activeLine (top (t .lines)) (t .lines))
+            → Active number (t .lines) (outOf activeLine (top (t .lines)) (t .lines))
         ends e z =
             let ok = accepted-is (Swis.endCases (t .state) who a b c d) z in
             let some = context-S (t .lines) (t .state) (eqb-true _ _ (not-false _ (ok .at2))) in
@@ -136,36 +136,36 @@ module _ (t : Tables) (typed : Typed t) (s : Sound t) where
     clocks-same : line (Tick.clocksTicked (t .clocks) (t .swis) (t .lines) .lines) activeLine ≡ line (t .lines) activeLine
     unfolding Tick.clockTick
     clocks-same =
-        rising-keeps (λ (x : Clocked). Low (t .lines) (posts (x .swis) (x .lines))) Tick.clockTick (Tick.clockedOf (t .clocks) (t .swis) (t .lines)) clockCount
+        rising-keeps (λ (x : ClockTables). Low (t .lines) (swiQueues (x .swis) (x .lines))) Tick.clockTick (Tick.clockTables (t .clocks) (t .swis) (t .lines)) clockCount
         (λ x n h so-far.
-        chosen (λ (q : Posts). Low (t .lines) q) (Tick.aged (clock (x .clocks) n) .fired) _ _
-        (λ _. low-posted (t .lines) (posts (x .swis) (x .lines)) so-far (clock (x .clocks) n .swi))
+        chosen (λ (q : SwiQueues). Low (t .lines) q) (Tick.aged (clock (x .clocks) n) .fired) _ _
+        (λ _. low-posted (t .lines) (swiQueues (x .swis) (x .lines)) so-far (clock (x .clocks) n .swi))
         (λ _. so-far))
         before .same
 
-    task-same : (q : Queued) (i : ℕ) → Means (tasksRule (levels (t .state)) (q .tasks)) → line (Tick.taskTick q i .lines) activeLine ≡ line (q .lines) activeLine
+    task-same : (q : TaskQueues) (i : ℕ) → Means (tasksRule (levels (t .state)) (q .tasks)) → line (Tick.taskTick q i .lines) activeLine ≡ line (q .lines) activeLine
     unfolding Tick.taskTick
     task-same q i rows =
-        chosen (λ (y : Queued). line (y .lines) activeLine ≡ line (q .lines) activeLine) (eqb (task (q .tasks) i .left) 0) _ _
+        chosen (λ (y : TaskQueues). line (y .lines) activeLine ≡ line (q .lines) activeLine) (eqb (task (q .tasks) i .left) 0) _ _
         (λ _. refl)
         (λ _.
-        chosen (λ (y : Queued). line (y .lines) activeLine ≡ line (q .lines) activeLine) (eqb (task (q .tasks) i .left) 1) _ _
+        chosen (λ (y : TaskQueues). line (y .lines) activeLine ≡ line (q .lines) activeLine) (eqb (task (q .tasks) i .left) 1) _ _
         (λ _. woken-aside q (t .state) rows i _ 0 activeLine (omega arith) (omega arith))
         (λ _. refl))
 
-    ticked-same : line (Tick.ticked (Tick.tickedOf (t .tasks) (t .lines) (t .swis) (t .clocks) (t .state)) .lines) activeLine ≡ line (t .lines) activeLine
+    ticked-same : line (Tick.ticked (Tick.tickTables (t .tasks) (t .lines) (t .swis) (t .clocks) (t .state)) .lines) activeLine ≡ line (t .lines) activeLine
     unfolding Tick.ticked
     ticked-same =
         let u = withClocked t (Tick.clocksTicked (t .clocks) (t .swis) (t .lines)) in
         let almost = clocks-tick t (sound-almost t typed s) in
         let i = state (t .state) CURRENT in
-        rising-keeps (λ (q : Queued). Ready u i q × (line (q .lines) activeLine ≡ line (u .lines) activeLine)) Tick.taskTick (queued (u .tasks) (u .lines)) taskCount
+        rising-keeps (λ (q : TaskQueues). Ready u i q × (line (q .lines) activeLine ≡ line (u .lines) activeLine)) Tick.taskTick (taskQueues (u .tasks) (u .lines)) taskCount
         (λ q n h so-far. (task-ticks u i q n h (so-far .0), task-same q n (so-far .0 .0 .tasks) ∙ so-far .1))
         ((almost, still-ready t s), refl) .1
         ∙ clocks-same
 
-    switches-active : Leaves (λ (x : Tick.Ticked). x .lines) number (t .lines)
-        (Tick.switchCall (Tick.tickedOf (t .tasks) (t .lines) (t .swis) (t .clocks) (t .state)) who number a b c d)
+    switches-active : Leaves (λ (x : Tick.TickTables). x .lines) number (t .lines)
+        (Tick.switchCall (Tick.tickTables (t .tasks) (t .lines) (t .swis) (t .clocks) (t .state)) who number a b c d)
     unfolding Tick.switchCall
     switches-active =
         numbered (eqb number 0x74) (λ e. alone 0x74 e (λ z. omega arith) refl)
@@ -196,14 +196,14 @@ module _ (t : Tables) (typed : Typed t) (s : Sound t) where
     unfolding callOf
     effect-active =
         numbered (inRange number 0x00) (λ e. other-kind (withQueued t) _ (λ z. omega (arith, within 0x00 e .1))
-        (λ z. tasks-quiet (queued (t .tasks) (t .lines)) (t .state) (s .tasks) (t .state) who number a b c d .leaves z .swis activeLine (omega arith) (omega arith)))
+        (λ z. tasks-quiet (taskQueues (t .tasks) (t .lines)) (t .state) (s .tasks) (t .state) who number a b c d .leaves z .swis activeLine (omega arith) (omega arith)))
         (numbered (inRange number 0x10) (λ e. of-kind (withPosts t) _ (λ x. refl) swis-active)
         (numbered (inRange number 0x20) (λ e. other-kind (withSemaphores t) _ (λ z. omega (arith, within 0x20 e .0))
-        (λ z. semaphores-quiet (served (t .tasks) (t .lines) (t .semaphores)) (t .state) (s .tasks) never (t .state) who number a b c d .leaves z .swis activeLine (omega arith) (omega arith)))
+        (λ z. semaphores-quiet (waitTables (t .tasks) (t .lines) (t .semaphores)) (t .state) (s .tasks) never (t .state) who number a b c d .leaves z .swis activeLine (omega arith) (omega arith)))
         (numbered (inRange number 0x30) (λ e. other-kind (withEvents t) _ (λ z. omega (arith, within 0x30 e .0))
-        (λ z. events-quiet (served (t .tasks) (t .lines) (t .events)) (t .state) (s .tasks) never (t .state) who number a b c d .leaves z .swis activeLine (omega arith) (omega arith)))
+        (λ z. events-quiet (waitTables (t .tasks) (t .lines) (t .events)) (t .state) (s .tasks) never (t .state) who number a b c d .leaves z .swis activeLine (omega arith) (omega arith)))
         (numbered (inRange number 0x40) (λ e. other-kind (withMailboxes t) _ (λ z. omega (arith, within 0x40 e .0))
-        (λ z. mailboxes-quiet (served (t .tasks) (t .lines) (t .mailboxes)) (t .state) (s .tasks) never (t .state) who number a b c d .leaves z .swis activeLine (omega arith) (omega arith)))
+        (λ z. mailboxes-quiet (waitTables (t .tasks) (t .lines) (t .mailboxes)) (t .state) (s .tasks) never (t .state) who number a b c d .leaves z .swis activeLine (omega arith) (omega arith)))
         (numbered (inRange number 0x50) (λ e. other-kind (withClocks t) _ (λ z. omega (arith, within 0x50 e .0)) (λ z. refl))
         (numbered (inRange number 0x60) (λ e. other-kind (withHeap t) _ (λ z. omega (arith, within 0x60 e .0)) (λ z. refl))
         (numbered (inRange number 0x70) (λ e. of-kind (withTicked t) _ (λ x. refl) switches-active) (nothing t))))))))

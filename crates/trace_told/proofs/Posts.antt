@@ -12,8 +12,8 @@ use lib.ListN.{length}
 use Rattle.basics.specs.Find.{allBelow, rising}
 use Rattle.basics.proofs.Laws.{same?}
 use Rattle.rules.specs.Tables.{Typed, swiCount, clockCount, swi, withSwi, clock, withClock, USED, POSTED, TRIGGER}
-use Rattle.rules.specs.Swis.{Posts, posts, posted, triggered, oneUp, oneDown, cleared, postEffect, changeEffect, zeroEffect, swiCall}
-use Rattle.rules.specs.Tick.{Clocked, clockedOf, clockTick, clocksTicked, postedIf, aged}
+use Rattle.rules.specs.Swis.{SwiQueues, swiQueues, posted, triggered, oneUp, oneDown, cleared, postEffect, changeEffect, zeroEffect, swiCall}
+use Rattle.rules.specs.Tick.{ClockTables, clockTables, clockTick, clocksTicked, postedIf, aged}
 use Rattle.rules.specs.Sound.{Sound, clockRule}
 use Rattle.rules.specs.declared.Tables.{Tables}
 use Rattle.rules.specs.declared.Clock.{Clock}
@@ -25,7 +25,7 @@ use Rattle.trace_changes.specs.Changes.{post, isPosted, callPosts, runsOut, pos
 use Rattle.trace_told.specs.Told.{atTurn, postFound, PostsTold, PostTold}
 
 -- ---- one post: Swi i is posted now if it was, or if it is the one that is posted
-module _ (p : Posts) (full : length (p .swis) ≡ 96) (j i : ℕ) (low : i < swiCount) where
+module _ (p : SwiQueues) (full : length (p .swis) ≡ 96) (j i : ℕ) (low : i < swiCount) where
   first-post : (j ≡ i) → swi (p .swis) j POSTED ≡ 0 → isPosted (withSwi (p .swis) j POSTED 1) i ≡ true
   first-post e z = rw (e, swi-same (p .swis) i POSTED 1 full low (omega arith))
 
@@ -44,7 +44,7 @@ module _ (p : Posts) (full : length (p .swis) ≡ 96) (j i : ℕ) (low : i < swi
       (λ (n : j ≢ i).
       let other : swi (withSwi (p .swis) j POSTED 1) i POSTED ≡ swi (p .swis) i POSTED = swi-row (p .swis) j POSTED 1 i POSTED (λ e. n (sym e)) in
       rw (ne-eqb j i n, or-false (isPosted (p .swis) i))
-      (chosen (λ (q : Posts). isPosted (q .swis) i ≡ isPosted (p .swis) i) (ltb j swiCount && eqb (swi (p .swis) j POSTED) 0) _ _
+      (chosen (λ (q : SwiQueues). isPosted (q .swis) i ≡ isPosted (p .swis) i) (ltb j swiCount && eqb (swi (p .swis) j POSTED) 0) _ _
       (λ _. rw other)
       (λ _. refl)))
       (same? j i)
@@ -54,10 +54,10 @@ module _ (p : Posts) (full : length (p .swis) ≡ 96) (j i : ℕ) (low : i < swi
   posted-if false = sym (or-false (isPosted (p .swis) i))
 
 -- posts lose no row
-posted-full : (p : Posts) (j : ℕ) → length (posted j p .swis) ≡ length (p .swis)
+posted-full : (p : SwiQueues) (j : ℕ) → length (posted j p .swis) ≡ length (p .swis)
 unfolding posted
 posted-full p j =
-    chosen (λ (q : Posts). length (q .swis) ≡ length (p .swis)) (ltb j swiCount && eqb (swi (p .swis) j POSTED) 0) _ _
+    chosen (λ (q : SwiQueues). length (q .swis) ≡ length (p .swis)) (ltb j swiCount && eqb (swi (p .swis) j POSTED) 0) _ _
     (λ _. length-swi (p .swis) j POSTED 1)
     (λ _. refl)
 
@@ -93,8 +93,8 @@ module _ (cs ws ls : List ℕ) (full : length ws ≡ 96) where
   still-full zero = full
   still-full (suc c) =
       let x = atTurn cs ws ls c in
-      chosen (λ (q : Posts). length (q .swis) ≡ 96) (aged (clock (x .clocks) c) .fired) _ _
-      (λ _. posted-full (posts (x .swis) (x .lines)) (clock (x .clocks) c .swi) ∙ still-full c)
+      chosen (λ (q : SwiQueues). length (q .swis) ≡ 96) (aged (clock (x .clocks) c) .fired) _ _
+      (λ _. posted-full (swiQueues (x .swis) (x .lines)) (clock (x .clocks) c .swi) ∙ still-full c)
       (λ _. still-full c)
 
   -- what is told as 'posted already' is what the Swi's row says then
@@ -104,7 +104,7 @@ module _ (cs ws ls : List ℕ) (full : length ws ≡ 96) where
   posted-then (suc c) i low =
       let x = atTurn cs ws ls c in
       let k = later-same c c (omega arith) in
-      posted-if (posts (x .swis) (x .lines)) (still-full c) (clock (x .clocks) c .swi) i low (aged (clock (x .clocks) c) .fired)
+      posted-if (swiQueues (x .swis) (x .lines)) (still-full c) (clock (x .clocks) c .swi) i low (aged (clock (x .clocks) c) .fired)
       ∙ rw (k, posted-then c i low, below-more cs i c) (or-assoc (isPosted ws i) (postedBelow cs i c) (runsOut cs c && eqb (clock cs c .swi) i))
 
   module _ (named : (c : ℕ) → c < clockCount → clock cs c .swi < swiCount) where
@@ -140,30 +140,30 @@ tick-told t typed sound =
 module _ (ws ls : List ℕ) (full : length ws ≡ 96) (a i : ℕ) (low : i < swiCount) where
   -- the trigger is v now, and the Swi posted if b says so
   changed : (v : ℕ) (b : Bool)
-      → isPosted ((if b (posted a (triggered a v (posts ws ls))) (triggered a v (posts ws ls))) .swis) i ≡ (isPosted ws i || (b && eqb a i))
+      → isPosted ((if b (posted a (triggered a v (swiQueues ws ls))) (triggered a v (swiQueues ws ls))) .swis) i ≡ (isPosted ws i || (b && eqb a i))
   changed v b =
-      let p = triggered a v (posts ws ls) in
+      let p = triggered a v (swiQueues ws ls) in
       let same : swi (withSwi ws a TRIGGER v) i POSTED ≡ swi ws i POSTED = swi-other ws a TRIGGER v i POSTED (λ e. omega arith) in
       rw same at (posted-if p (length-swi ws a TRIGGER v ∙ full) a i low b)
 
   module _ (cs st : List ℕ) (x b c d : ℕ) where
-    is-12 : isPosted (swiCall (posts ws ls) cs st x 0x12 a b c d .effect .next .swis) i ≡ (isPosted ws i || (callPosts ws 0x12 a b && eqb a i))
+    is-12 : isPosted (swiCall (swiQueues ws ls) cs st x 0x12 a b c d .effect .next .swis) i ≡ (isPosted ws i || (callPosts ws 0x12 a b && eqb a i))
     unfolding swiCall postEffect callPosts
-    is-12 = posted-is (posts ws ls) full a i low
+    is-12 = posted-is (swiQueues ws ls) full a i low
 
-    is-13 : isPosted (swiCall (posts ws ls) cs st x 0x13 a b c d .effect .next .swis) i ≡ (isPosted ws i || (callPosts ws 0x13 a b && eqb a i))
+    is-13 : isPosted (swiCall (swiQueues ws ls) cs st x 0x13 a b c d .effect .next .swis) i ≡ (isPosted ws i || (callPosts ws 0x13 a b && eqb a i))
     unfolding swiCall changeEffect callPosts
     is-13 = changed (oneUp (swi ws a TRIGGER)) true
 
-    is-14 : isPosted (swiCall (posts ws ls) cs st x 0x14 a b c d .effect .next .swis) i ≡ (isPosted ws i || (callPosts ws 0x14 a b && eqb a i))
+    is-14 : isPosted (swiCall (swiQueues ws ls) cs st x 0x14 a b c d .effect .next .swis) i ≡ (isPosted ws i || (callPosts ws 0x14 a b && eqb a i))
     unfolding swiCall zeroEffect callPosts
     is-14 = let v = oneDown (swi ws a TRIGGER) in rw (or-false (eqb v 0)) (changed v (eqb v 0))
 
-    is-15 : isPosted (swiCall (posts ws ls) cs st x 0x15 a b c d .effect .next .swis) i ≡ (isPosted ws i || (callPosts ws 0x15 a b && eqb a i))
+    is-15 : isPosted (swiCall (swiQueues ws ls) cs st x 0x15 a b c d .effect .next .swis) i ≡ (isPosted ws i || (callPosts ws 0x15 a b && eqb a i))
     unfolding swiCall changeEffect callPosts
     is-15 = changed (bitOr (swi ws a TRIGGER) b) true
 
-    is-16 : isPosted (swiCall (posts ws ls) cs st x 0x16 a b c d .effect .next .swis) i ≡ (isPosted ws i || (callPosts ws 0x16 a b && eqb a i))
+    is-16 : isPosted (swiCall (swiQueues ws ls) cs st x 0x16 a b c d .effect .next .swis) i ≡ (isPosted ws i || (callPosts ws 0x16 a b && eqb a i))
     unfolding swiCall zeroEffect callPosts
     is-16 = let v = cleared (swi ws a TRIGGER) b in changed v (eqb v 0)
 

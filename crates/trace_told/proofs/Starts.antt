@@ -13,8 +13,8 @@ use Rattle.basics.specs.Lists.{bit}
 use Rattle.basics.proofs.Laws.{putAt-back}
 use Rattle.rules.specs.Answer.{codeOf, Words}
 use Rattle.rules.specs.Tables.{Typed, swi}
-use Rattle.rules.specs.Lines.{line, first, left, joined, atBack, postedLine, activeLine}
-use Rattle.rules.specs.Swis.{Posts, posts, top}
+use Rattle.rules.specs.Lines.{line, frontOf, outOf, joined, atBack, postedLine, activeLine}
+use Rattle.rules.specs.Swis.{SwiQueues, swiQueues, top}
 use Rattle.rules.specs.Dispatch.{context, highestPosted, activeLevel, swiDue, nextLine, started, swiDispatched, dispatched}
 use Rattle.rules.specs.Sound.{Sound}
 use Rattle.rules.specs.Step.{call, step, finished}
@@ -39,31 +39,31 @@ use Rattle.rules.specs.declared.Call.{Call}
 
 -- ---- a Swi that starts is the top active one
 module _ (ls : List ℕ) (full : length ls ≡ 2673) (room : length (line ls activeLine) < 32) (i j : ℕ) (other : activeLine ≢ j) where
-  now-active : line (joined activeLine i (left j i ls)) activeLine ≡ line ls activeLine ++ (i ∷ [])
+  now-active : line (joined activeLine i (outOf j i ls)) activeLine ≡ line ls activeLine ++ (i ∷ [])
   now-active =
       let same = left-other ls j i activeLine other in
-      entered-same (left j i ls) activeLine i atBack (omega arith) (length-left ls j i ∙ full) (rw same room)
+      entered-same (outOf j i ls) activeLine i atBack (omega arith) (length-left ls j i ∙ full) (rw same room)
       ∙ rw same (putAt-back i (line ls activeLine))
 
 top-last : (ls xs : List ℕ) (i : ℕ) → line ls activeLine ≡ xs ++ (i ∷ []) → top ls ≡ i
 unfolding top
 top-last ls xs i e = rw e (getD-at xs i [] 0 (length (xs ++ (i ∷ [])) - 1) (omega (arith, length-snoc xs i)))
 
-dispatch-full : (ws ls st : List ℕ) → length (swiDispatched st (posts ws ls) .lines) ≡ length ls
+dispatch-full : (ws ls st : List ℕ) → length (swiDispatched st (swiQueues ws ls) .lines) ≡ length ls
 unfolding swiDispatched started
 dispatch-full ws ls st =
-    chosen (λ (x : Posts). length (x .lines) ≡ length ls) (swiDue ws ls st) _ _
-    (λ _. length-entered (left (nextLine ls) (first ls (nextLine ls)) ls) activeLine (first ls (nextLine ls)) atBack
-    ∙ length-left ls (nextLine ls) (first ls (nextLine ls)))
+    chosen (λ (x : SwiQueues). length (x .lines) ≡ length ls) (swiDue ws ls st) _ _
+    (λ _. length-entered (outOf (nextLine ls) (frontOf ls (nextLine ls)) ls) activeLine (frontOf ls (nextLine ls)) atBack
+    ∙ length-left ls (nextLine ls) (frontOf ls (nextLine ls)))
     (λ _. refl)
 
 -- ---- by the number of active ones: tables with lines ls, the call's effect with vs, and dispatch
 module _ (number : ℕ) (ls ws vs st : List ℕ) (full : length vs ≡ 2673) (room : length (line vs activeLine) < 32) (active : Active number ls vs) where
   abbrev i : ℕ
-  i = first vs (nextLine vs)
+  i = frontOf vs (nextLine vs)
 
-  abbrev left-by : Bool → Posts
-  left-by due = if due (started i (nextLine vs) (posts ws vs)) (posts ws vs)
+  abbrev left-by : Bool → SwiQueues
+  left-by due = if due (started i (nextLine vs) (swiQueues ws vs)) (swiQueues ws vs)
 
   abbrev more : List ℕ → Bool
   more ms = ltb (length (line ls activeLine)) (length (line ms activeLine) + bit (eqb number 0x17))
@@ -92,13 +92,13 @@ module _ (t : Tables) (typed : Typed t) (s : Sound t) (q : Call) (w : Words q) (
   no-case : codeOf (callFor t q .cases) ≡ 0
   no-case = sym (step-code t q) ∙ ap (λ (x : Step). x .answer .code) (sym is-step) ∙ ok
 
-  lines-are : next t q .lines ≡ swiDispatched (effectOf t q .state) (posts (effectOf t q .swis) (effectOf t q .lines)) .lines
+  lines-are : next t q .lines ≡ swiDispatched (effectOf t q .state) (swiQueues (effectOf t q .swis) (effectOf t q .lines)) .lines
   unfolding step dispatched
   lines-are =
       let done : made t q ≡ finished (q .number) (callFor t q .effect) = is-step ∙ rw (eq-eqb (codeOf (callFor t q .cases)) 0 no-case) in
       let x = context (t .lines) (t .state) in
-      let left = effect-leaves (q .number) (callFor t q .effect) (effect-code t x (q .number) (q .a) (q .b) (q .c) (q .d)) in
-      ap (λ (x : Step). x .tables .lines) done ∙ ap (λ (u : Tables). u .lines) left
+      let outOf = effect-leaves (q .number) (callFor t q .effect) (effect-code t x (q .number) (q .a) (q .b) (q .c) (q .d)) in
+      ap (λ (x : Step). x .tables .lines) done ∙ ap (λ (u : Tables). u .lines) outOf
 
   still-full : length (effectOf t q .lines) ≡ 2673
   still-full =

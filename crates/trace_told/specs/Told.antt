@@ -7,10 +7,10 @@ use lib.Dec.{eqb}
 use Rattle.basics.specs.Find.{rising}
 use Rattle.rules.specs.Rows.{field}
 use Rattle.rules.specs.Tables.{LineTable, SwiTable, ClockTable, taskCount, swiCount, mailboxCount, mailboxWidth, clockCount, heapUnits, task, clock}
-use Rattle.rules.specs.Lines.{line, first, mailboxLine}
+use Rattle.rules.specs.Lines.{line, frontOf, mailboxLine}
 use Rattle.rules.specs.Heap.{unit}
-use Rattle.rules.specs.Swis.{posts, swiCall}
-use Rattle.rules.specs.Tick.{Clocked, clockedOf, clockTick, clocksTicked}
+use Rattle.rules.specs.Swis.{swiQueues, swiCall}
+use Rattle.rules.specs.Tick.{ClockTables, clockTables, clockTick, clocksTicked}
 use Rattle.rules.specs.Dispatch.{context, swiDue, nextLine}
 use Rattle.rules.specs.Step.{callOf}
 use Rattle.rules.specs.declared.Tables.{Tables}
@@ -63,11 +63,11 @@ pub record EmptyParts : Type 0 where
 
 -- ---- posts at a tick
 -- the clocks, the Swis and the lines when the turn of clock c comes
-abbrev pub atTurn : ClockTable → SwiTable → LineTable → ℕ → Clocked
-atTurn cs ws ls c = rising c clockTick (clockedOf cs ws ls)
+abbrev pub atTurn : ClockTable → SwiTable → LineTable → ℕ → ClockTables
+atTurn cs ws ls c = rising c clockTick (clockTables cs ws ls)
 
 -- the post of clock c, by what its row and its Swi's row say then
-unfoldable pub postFound : Clocked → ℕ → List ℕ
+unfoldable pub postFound : ClockTables → ℕ → List ℕ
 postFound x c = told (runsOut (x .clocks) c) (post c (clock (x .clocks) c .swi) (isPosted (x .swis) (clock (x .clocks) c .swi)))
 
 -- of the clocks cs, the Swis ws and the lines ls before a tick
@@ -80,7 +80,7 @@ pub record PostsTold (cs ws ls : List ℕ) : Type 0 where
 -- ---- posts of the calls 12 to 16: Swi i is posted after the call's effect if it was, or if the trace tells that the call posts it
 pub record PostTold (ws ls cs st : List ℕ) (x number a b c d : ℕ) : Type 0 where
   pub after : (i : ℕ) → i < swiCount
-      → isPosted (swiCall (posts ws ls) cs st x number a b c d .effect .next .swis) i ≡ (isPosted ws i || (callPosts ws number a b && eqb a i))
+      → isPosted (swiCall (swiQueues ws ls) cs st x number a b c d .effect .next .swis) i ≡ (isPosted ws i || (callPosts ws number a b && eqb a i))
 
 -- ---- the Swi that dispatch started
 -- the tables between an accepted call's effect and dispatch
@@ -90,4 +90,4 @@ effectOf t q = callOf t (context (t .lines) (t .state)) (q .number) (q .a) (q .b
 -- it is told exactly where the dispatch rule had a Swi to start, and is the one that the rule names
 pub record StartTold (t : Tables) (q : Call) : Type 0 where
   pub swi : (n : ℕ) → startedSwi (givenOf n q (made t q)) (t .lines) (next t q .lines)
-      ≡ told (swiDue (effectOf t q .swis) (effectOf t q .lines) (effectOf t q .state)) (first (effectOf t q .lines) (nextLine (effectOf t q .lines)) ∷ [])
+      ≡ told (swiDue (effectOf t q .swis) (effectOf t q .lines) (effectOf t q .state)) (frontOf (effectOf t q .lines) (nextLine (effectOf t q .lines)) ∷ [])

@@ -8,7 +8,7 @@ use lib.Dec.{eqb}
 use native.Mathlib.Omega.{arith}
 use borrow.Author.Tests.{eqb-true}
 use Rattle.rules.specs.Tables.{Typed, ready, reading, writing, task, current}
-use Rattle.rules.specs.Lines.{first, anyone, semaphoreLine, eventLine, mailboxLine}
+use Rattle.rules.specs.Lines.{frontOf, anyone, semaphoreLine, eventLine, mailboxLine}
 use Rattle.rules.specs.Answer.{answer, done}
 use Rattle.rules.specs.Mailboxes.{waitsFirst}
 use Rattle.rules.specs.Sound.{Sound}
@@ -40,10 +40,10 @@ module _ (t : Tables) (typed : Typed t) (sound : Sound t) (q : Call) (ok : Accep
     abbrev v : ℕ
     v = p .given t q
 
-    named-is : made t q .answer .value ≡ first (t .lines) j
+    named-is : made t q .answer .value ≡ frontOf (t .lines) j
     named-is = foremost-named t typed sound q ok j v w
 
-    of-first : p .due t q ≡ true → BlockedAt p (q .a) (first (t .lines) j) t → Woke p t q (answer 0 done (first (t .lines) j)) (next t q)
+    of-first : p .due t q ≡ true → BlockedAt p (q .a) (frontOf (t .lines) j) t → Woke p t q (answer 0 done (frontOf (t .lines) j)) (next t q)
     of-first due blocked =
         let readied = foremost-readied t typed sound q ok j v w in
         record {
@@ -57,10 +57,10 @@ module _ (t : Tables) (typed : Typed t) (sound : Sound t) (q : Call) (ok : Accep
           others = others-stay t typed sound q ok j v w;
         }
 
-    is-answer : answer 0 done (first (t .lines) j) ≡ made t q .answer
+    is-answer : answer 0 done (frontOf (t .lines) j) ≡ made t q .answer
     is-answer = λ z. answer (sym (ok .code) z) (sym (wake-done t typed sound q ok j v w) z) (sym named-is z)
 
-    woke : p .due t q ≡ true → BlockedAt p (q .a) (first (t .lines) j) t → Told p
+    woke : p .due t q ≡ true → BlockedAt p (q .a) (frontOf (t .lines) j) t → Told p
     woke due blocked = inl (subst (λ (r : Answer). Woke p t q r (next t q)) is-answer (of-first due blocked))
 
   -- ---- nobody is due, and the tasks are as they were
@@ -89,7 +89,7 @@ module _ (t : Tables) (typed : Typed t) (sound : Sound t) (q : Call) (ok : Accep
       (foremost-home t typed sound q ok (eventLine (q .a)) (match t q) w)))
 
   -- the first at a mailbox whom a post wakes reads
-  reads : waitsFirst (t .tasks) (t .lines) (q .a) reading ≡ true → task (t .tasks) (first (t .lines) (mailboxLine (q .a))) .mode ≡ reading
+  reads : waitsFirst (t .tasks) (t .lines) (q .a) reading ≡ true → task (t .tasks) (frontOf (t .lines) (mailboxLine (q .a))) .mode ≡ reading
   unfolding waitsFirst
   reads some = eqb-true _ _ (both (anyone (t .lines) (mailboxLine (q .a))) _ some .1)
 

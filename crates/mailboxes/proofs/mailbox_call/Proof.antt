@@ -1,4 +1,4 @@
-use Rattle.rules.specs.Waits.{served}
+use Rattle.rules.specs.Waits.{waitTables}
 use Rattle.rules.specs.Mailboxes.{mailboxCall}
 use Rattle.rules_laws.proofs.Calls.{unknown-is}
 use Rattle.mailboxes.proofs.Steps.{no-call}
@@ -20,4 +20,4 @@ mailbox-call-spec =
     (λ c. let b = c .before .before .before .before in rw (c .before .before .before .match .keys2) (c .delete .ensures (b .args .tasks .now)))
     (λ c. rw (c .before .before .before .before .match .keys3) (c .post .ensures))
     (λ c. rw (c .before .before .before .before .match .keys4) (c .pend .ensures))
-    (λ c. let b = c .before .before in let m = c .before .match .rest in let q = served (b .args .tasks .now) (b .args .lines .now) (b .args .mailboxes .now) in unknown-is q _ (no-call q (b .args .state .now) (b .args .x) (b .args .number) (b .args .a) (b .args .b) (b .args .c) (b .args .d) (m .0 .0 .0 .1) (m .0 .0 .1) (m .0 .1) (m .1)) (c .refused .ensures)))
+    (λ c. let b = c .before .before in let m = c .before .match .rest in let q = waitTables (b .args .tasks .now) (b .args .lines .now) (b .args .mailboxes .now) in unknown-is q _ (no-call q (b .args .state .now) (b .args .x) (b .args .number) (b .args .a) (b .args .b) (b .args .c) (b .args .d) (m .0 .0 .0 .1) (m .0 .0 .1) (m .0 .1) (m .1)) (c .refused .ensures)))

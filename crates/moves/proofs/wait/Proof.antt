@@ -13,4 +13,4 @@ wait-spec =
     (λ c κs. search needs)
     (λ c κs. search needs)
     (λ c κs. search needs)
-    (λ c. let b = c .before .before .before .before .before .before in moved-from atBack (b .args .i) (λ (k : Task). waiting k (b .args .mode) (b .args .object) (b .args .limit) (b .args .first) (b .args .second)) (b .args .tasks .now) (b .args .lines .now) (c .before .before .before .before .task .ensures) (c .before .waiting .ensures) (c .move-back .ensures)))
+    (λ c. let b = c .before .before .before .before .before .before in moved-from atBack (b .args .i) (λ (k : Task). waiting k (b .args .mode) (b .args .object) (b .args .limit) (b .args .held) (b .args .mask)) (b .args .tasks .now) (b .args .lines .now) (c .before .before .before .before .task .ensures) (c .before .waiting .ensures) (c .move-back .ensures)))

@@ -2,7 +2,7 @@
 use borrow.Author.Needs.{needs}
 use Rattle.rules_laws.proofs.Calls.{unknown-is}
 use Rattle.rules.specs.Switches.{inCall, outCall, offCall, restoreCall}
-use Rattle.rules.specs.Tick.{tickedOf, switchCall}
+use Rattle.rules.specs.Tick.{tickTables, switchCall}
 use Rattle.switches.proofs.Numbers.{on-state, no-switch}
 use Rattle.switches.proofs.switch_call.Statement.{statement}
 use Rattle.switches.proofs.switch_call.Tie as tie
@@ -12,7 +12,7 @@ unfolding switchCall
 returns c =
     let at-match = c .before .before in
     let a = at-match .before .args in
-    let t = tickedOf (a .tasks .now) (a .lines .now) (a .swis .now) (a .clocks .now) (a .state .now) in
+    let t = tickTables (a .tasks .now) (a .lines .now) (a .swis .now) (a .clocks .now) (a .state .now) in
     rw (at-match .match .keys1)
     (on-state t (inCall (a .state .now) (a .a) (a .b) (a .c) (a .d)) (c .interrupt-in .ensures))
 
@@ -21,7 +21,7 @@ unfolding switchCall
 returns-2 c =
     let at-match = c .before .before in
     let a = at-match .before .args in
-    let t = tickedOf (a .tasks .now) (a .lines .now) (a .swis .now) (a .clocks .now) (a .state .now) in
+    let t = tickTables (a .tasks .now) (a .lines .now) (a .swis .now) (a .clocks .now) (a .state .now) in
     rw (at-match .match .keys2)
     (on-state t (outCall (a .state .now) (a .x) (a .a) (a .b) (a .c) (a .d)) (c .interrupt-out .ensures))
 
@@ -36,7 +36,7 @@ unfolding switchCall
 returns-4 c =
     let at-match = c .before .before in
     let a = at-match .before .args in
-    let t = tickedOf (a .tasks .now) (a .lines .now) (a .swis .now) (a .clocks .now) (a .state .now) in
+    let t = tickTables (a .tasks .now) (a .lines .now) (a .swis .now) (a .clocks .now) (a .state .now) in
     rw (at-match .match .keys4)
     (on-state t (offCall (a .state .now) (a .x) (a .a) (a .b) (a .c) (a .d)) (c .off .ensures))
 
@@ -45,7 +45,7 @@ unfolding switchCall
 returns-5 c =
     let at-match = c .before .before in
     let a = at-match .before .args in
-    let t = tickedOf (a .tasks .now) (a .lines .now) (a .swis .now) (a .clocks .now) (a .state .now) in
+    let t = tickTables (a .tasks .now) (a .lines .now) (a .swis .now) (a .clocks .now) (a .state .now) in
     rw (at-match .match .keys5)
     (on-state t (restoreCall (a .state .now) (a .x) (a .a) (a .b) (a .c) (a .d)) (c .restore .ensures))
 
@@ -53,7 +53,7 @@ returns-6 : tie.Need-returns-6
 returns-6 c =
     let at-match = c .before in
     let a = at-match .before .args in
-    let t = tickedOf (a .tasks .now) (a .lines .now) (a .swis .now) (a .clocks .now) (a .state .now) in
+    let t = tickTables (a .tasks .now) (a .lines .now) (a .swis .now) (a .clocks .now) (a .state .now) in
     let (((((_, no-74), no-75), no-76), no-77), no-78) = at-match .match .rest in
     unknown-is t (switchCall t (a .x) (a .number) (a .a) (a .b) (a .c) (a .d))
     (no-switch t (a .x) (a .number) (a .a) (a .b) (a .c) (a .d) no-74 no-75 no-76 no-77 no-78)

@@ -1,6 +1,6 @@
 use Rattle.moves.proofs.Served.{made-is}
 use Rattle.rules.specs.Events.{freeEvent, createEffect}
-use Rattle.rules.specs.Waits.{served}
+use Rattle.rules.specs.Waits.{waitTables}
 use Rattle.rules.specs.Tables.{eventRow}
 use mathlib.Core.List.{[], _∷_}
 use Prim.Native.Nat.{ℕ}
@@ -17,4 +17,4 @@ create-effect-spec =
     (λ c κs. search needs)
     (λ c. search needs)
     (λ c κs. search needs)
-    (λ c. let b = c .before .before .before .before .before in let ss = b .args .events .now in λ ts ls. made-is (served ts ls ss) (λ (i : ℕ). eventRow ss i (1 ∷ 0 ∷ [])) (freeEvent ss) (c .before .before .before .free-event .ensures .0) (c .before .put-event .ensures) (c .accepted .ensures)))
+    (λ c. let b = c .before .before .before .before .before in let ss = b .args .events .now in λ ts ls. made-is (waitTables ts ls ss) (λ (i : ℕ). eventRow ss i (1 ∷ 0 ∷ [])) (freeEvent ss) (c .before .before .before .free-event .ensures .0) (c .before .put-event .ensures) (c .accepted .ensures)))

@@ -1,7 +1,7 @@
 use mathlib.Core.List.{_∷_}
 use Rattle.basics.specs.Lists.{zeros}
 use Rattle.rules.specs.Tables.{mailboxRow}
-use Rattle.rules.specs.Waits.{served}
+use Rattle.rules.specs.Waits.{waitTables}
 use Rattle.rules.specs.Mailboxes.{freeMailbox, createEffect}
 use Rattle.moves.proofs.Served.{made-is}
 use borrow.Author.Needs.{needs}
@@ -17,4 +17,4 @@ create-effect-spec =
     (λ c κs. search needs)
     (λ c. search needs)
     (λ c κs. search needs)
-    (λ c. let b = c .before .before .before .before .before in λ ts ls. made-is (served ts ls (b .args .mailboxes .now)) (λ n. mailboxRow (b .args .mailboxes .now) n (b .args .a ∷ zeros 9)) (freeMailbox (b .args .mailboxes .now)) (c .before .before .before .free-mailbox .ensures .0) (c .before .put-mailbox .ensures) (c .accepted .ensures)))
+    (λ c. let b = c .before .before .before .before .before in λ ts ls. made-is (waitTables ts ls (b .args .mailboxes .now)) (λ n. mailboxRow (b .args .mailboxes .now) n (b .args .a ∷ zeros 9)) (freeMailbox (b .args .mailboxes .now)) (c .before .before .before .free-mailbox .ensures .0) (c .before .put-mailbox .ensures) (c .accepted .ensures)))

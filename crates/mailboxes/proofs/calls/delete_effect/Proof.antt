@@ -1,4 +1,4 @@
-use Rattle.rules.specs.Waits.{served}
+use Rattle.rules.specs.Waits.{waitTables}
 use Rattle.rules.specs.Mailboxes.{deleteEffect}
 use Rattle.moves.proofs.Served.{objects-is}
 use borrow.Author.Needs.{needs}
@@ -12,4 +12,4 @@ delete-effect-spec =
     (tie.spec
     (λ c κs. search needs)
     (λ c κs. search needs)
-    (λ c. let b = c .before .before .before in λ ts ls. objects-is (served ts ls (b .args .mailboxes .now)) 0 0 (c .accepted .ensures) (c .before .put-mailbox .ensures)))
+    (λ c. let b = c .before .before .before in λ ts ls. objects-is (waitTables ts ls (b .args .mailboxes .now)) 0 0 (c .accepted .ensures) (c .before .put-mailbox .ensures)))

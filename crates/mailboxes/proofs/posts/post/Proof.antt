@@ -1,6 +1,6 @@
 use Rattle.rules_laws.proofs.Calls.{refusal, effected}
 use Rattle.rules.specs.Answer.{codeOf}
-use Rattle.rules.specs.Waits.{served}
+use Rattle.rules.specs.Waits.{waitTables}
 use Rattle.rules.specs.Mailboxes.{postCases, postEffect}
 use borrow.Author.Needs.{needs}
 use Rattle.mailboxes.proofs.posts.post.Statement.{statement}
@@ -12,6 +12,6 @@ post-spec =
     (tie.spec
     (λ c κs. search needs)
     (λ c κs. search needs)
-    (λ c. let b = c .before .before .before .before .before .before in refusal (served (b .args .tasks .now) (b .args .lines .now) (b .args .mailboxes .now)) (postEffect (served (b .args .tasks .now) (b .args .lines .now) (b .args .mailboxes .now)) (b .args .state .now) (b .args .a) (b .args .b) (b .args .c)) (codeOf (postCases (b .args .tasks .now) (b .args .lines .now) (b .args .mailboxes .now) (b .args .state .now) (b .args .x) (b .args .a) (b .args .c) (b .args .d))) (c .before .before .post-code .ensures) (c .before .if1 .taken) (c .refused .ensures))
+    (λ c. let b = c .before .before .before .before .before .before in refusal (waitTables (b .args .tasks .now) (b .args .lines .now) (b .args .mailboxes .now)) (postEffect (waitTables (b .args .tasks .now) (b .args .lines .now) (b .args .mailboxes .now)) (b .args .state .now) (b .args .a) (b .args .b) (b .args .c)) (codeOf (postCases (b .args .tasks .now) (b .args .lines .now) (b .args .mailboxes .now) (b .args .state .now) (b .args .x) (b .args .a) (b .args .c) (b .args .d))) (c .before .before .post-code .ensures) (c .before .if1 .taken) (c .refused .ensures))
     (λ c κs. search needs)
-    (λ c. let b = c .before .before .before .before .before .before .before .before .before in effected (served (b .args .tasks .now) (b .args .lines .now) (b .args .mailboxes .now)) (postEffect (served (b .args .tasks .now) (b .args .lines .now) (b .args .mailboxes .now)) (b .args .state .now) (b .args .a) (b .args .b) (b .args .c)) (codeOf (postCases (b .args .tasks .now) (b .args .lines .now) (b .args .mailboxes .now) (b .args .state .now) (b .args .x) (b .args .a) (b .args .c) (b .args .d))) (c .before .before .before .before .before .post-code .ensures) (c .before .before .before .before .if1 .left) (c .post-effect .ensures)))
+    (λ c. let b = c .before .before .before .before .before .before .before .before .before in effected (waitTables (b .args .tasks .now) (b .args .lines .now) (b .args .mailboxes .now)) (postEffect (waitTables (b .args .tasks .now) (b .args .lines .now) (b .args .mailboxes .now)) (b .args .state .now) (b .args .a) (b .args .b) (b .args .c)) (codeOf (postCases (b .args .tasks .now) (b .args .lines .now) (b .args .mailboxes .now) (b .args .state .now) (b .args .x) (b .args .a) (b .args .c) (b .args .d))) (c .before .before .before .before .before .post-code .ensures) (c .before .before .before .before .if1 .left) (c .post-effect .ensures)))
