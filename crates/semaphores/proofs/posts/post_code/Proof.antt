@@ -1,22 +1,62 @@
+-- `post_code` meets its contract: each `return` gives the first of 01's cases that holds, since the tests before it failed.
+use mathlib.Core.Bool.{false}
+use lib.Dec.{eqb}
+use Rattle.rules.specs.Tables.{USED, semaphore}
 use Rattle.rules_laws.proofs.Calls.{absent-is}
 use Rattle.moves.proofs.Served.{is-same, is-other}
 use Rattle.rules.specs.Semaphores.{postCases}
-use Rattle.rules.specs.Answer.{firstGiven}
-use mathlib.Core.Path.{sym, _∙_}
+use Rattle.rules.specs.Answer.{firstGiven, unused}
+use mathlib.Core.Path.{sym, _∙_, _≡_}
 use borrow.Author.Needs.{needs}
 use Rattle.semaphores.proofs.posts.post_code.Statement.{statement}
 use Rattle.semaphores.proofs.posts.post_code.Tie as tie
 
-pub post-code-spec : {M : Type 1} → statement M
+-- ---- the places past the tests, each from the next
+abbrev from-1 : tie.Else1 → tie.Start
+from-1 c = c .before .before
+
+abbrev from-2 : tie.Else2 → tie.Else1
+from-2 c = c .before .before
+
+-- ---- what is known past each test
+in-use : (c : tie.Else1) → let s = from-1 c in eqb (semaphore (s .args .semaphores .now) (s .args .a) USED) 0 ≡ false
+in-use c = rw (is-other 0 (c .before .semaphore .ensures) (c .if1 .left))
+
+good-arguments : (c : tie.Else2) → let s = from-1 (from-2 c) in unused 0 (s .args .b) (s .args .c) (s .args .d) ≡ false
+good-arguments c = rw (sym (c .before .unused .ensures) ∙ c .if2 .left)
+
+-- ---- the returns
+code-3 : tie.Need-returns
 unfolding firstGiven postCases
+code-3 c = rw (is-same 0 (c .before .before .semaphore .ensures) (c .before .if1 .taken)) (absent-is _ _ _ (c .absent-code .ensures))
+
+code-4 : tie.Need-returns-2
+unfolding firstGiven postCases
+code-4 c =
+    let past = c .before .before in
+    rw (in-use past, sym (c .before .unused .ensures) ∙ c .if2 .taken)
+
+code-7 : tie.Need-returns-3
+unfolding firstGiven postCases
+code-7 c =
+    let past = c .before .before in
+    rw (in-use (from-2 past), good-arguments past, sym (c .before .at-end .ensures) ∙ c .if3 .taken)
+
+accepted : tie.Need-returns-4
+unfolding firstGiven postCases
+accepted c =
+    let past = c .before .before in
+    rw (in-use (from-2 past), good-arguments past, sym (c .before .at-end .ensures) ∙ c .if3 .left)
+
+pub post-code-spec : {M : Type 1} → statement M
 post-code-spec =
     tie.close
     (tie.spec
     (λ c κs. search needs)
     (λ c κs. search needs)
-    (λ c. rw (is-same 0 (c .before .before .semaphore .ensures) (c .before .if1 .taken)) (absent-is _ _ _ (c .absent-code .ensures)))
+    code-3
     (λ c κs. search needs)
-    (λ c. rw (is-other 0 (c .before .before .before .semaphore .ensures) (c .before .before .if1 .left), sym (c .before .unused .ensures) ∙ c .if2 .taken))
+    code-4
     (λ c κs. search needs)
-    (λ c. rw (is-other 0 (c .before .before .before .before .before .semaphore .ensures) (c .before .before .before .before .if1 .left), sym (c .before .before .before .unused .ensures) ∙ c .before .before .if2 .left, sym (c .before .at-end .ensures) ∙ c .if3 .taken))
-    (λ c. rw (is-other 0 (c .before .before .before .before .before .semaphore .ensures) (c .before .before .before .before .if1 .left), sym (c .before .before .before .unused .ensures) ∙ c .before .before .if2 .left, sym (c .before .at-end .ensures) ∙ c .if3 .left)))
+    code-7
+    accepted)
