@@ -1,5 +1,6 @@
 -- What a call of the reader's functions asks of its caller and what it gives back, from the callee's contract alone, so that a walk has two lines for a call.
--- A result comes with its machine value and its relation; a token that was asked comes back; what a `Reader` owns is Copy, so it is asked and kept. For `next` the caller's local is lent for a lifetime that is made for the call, within the log's, and taken back at its last value.
+-- A result comes with its machine value and its relation; a token that was asked comes back; what a `Reader` owns is Copy, so it is asked and kept. For
+-- `next` the caller's local is lent for a lifetime that is made for the call, within the log's, and taken back at its last value.
 -- Assumes nothing.
 use mathlib.Core.Path.{_≡_, refl, subst}
 use Prim.Native.Nat.{ℕ, _<_, _^_}
@@ -17,7 +18,8 @@ use prog.Wp.{Heap}
 use ghost.Atoms.{Atoms, sem}
 use contract.BorrowLft.{meet-⊑-right}
 use contract.Monad.{Fun, fact}
-use types.Kit.{Given, Item, ‵, raw, _⊛_, given, ⋆, mean, some, later, _$_, _∵_, !, qed, move, keep, drop, use1, use2, use3, split, join, pick, rewrite, fsplit, fjoin, fpick, fpack, frame, await, updating, now as at-once, show, check, done}
+use types.Kit.{Given, Item, ‵, raw, _⊛_, given, ⋆, mean, some, later, _$_, _∵_, !, qed, move, keep, drop, use1, use2, use3, split, join, pick}
+use types.Kit.{rewrite, fsplit, fjoin, fpick, fpack, frame, await, updating, now as at-once, show, check, done}
 use types.SemTy.{Body}
 use types.Tokens.{lft-new}
 use borrow.Within.Token.{Rest, within-token, within-end}
@@ -57,7 +59,8 @@ pub record Came (X : RattleType) (vals : X .Denot → List Val) (u : Val) (x : X
   pub ensured : φ
 
 came : (X : RattleType) (vals : X .Denot → List Val) → Tells X (Is X) vals → {u : Val} {x : X .Denot} {φ : Type 0} → Is X x (u ∷ []) → φ → Came X vals u x φ
-came X vals tells {u} {x} is e = let told = tells x (u ∷ []) is in record { told = told; landed = is; is = subst (λ (us : List Val). Is X x us) told is; ensured = e }
+came X vals tells {u} {x} is e =
+    let told = tells x (u ∷ []) is in record { told = told; landed = is; is = subst (λ (us : List Val). Is X x us) told is; ensured = e }
 
 module _ {M : Type 1} (𝓤 : URA M) (H : Heap 𝓤) (A : Atoms 𝓤) (W : Given 𝓤 H A) where
   -- ---- a call without `&mut`: the tokens t come back beside the result, and of what is ensured the clause is heard
@@ -111,9 +114,11 @@ module _ {M : Type 1} (𝓤 : URA M) (H : Heap 𝓤) (A : Atoms 𝓤) (W : Given
   token = ‵ (flft κ q) ⊛ ‵ ftrue
 
   -- ---- a call whose one parameter is a slice
-  pub asks-slice : (s : RefT (List ℕ)) → ent 𝓤 (⋆ 𝓤 H A (‵ (flft κ q) ∷ ‵ (Lent .own s (slice s)) ∷ [])) (sep 𝓤 (sep 𝓤 (mean 𝓤 H A token) (sem 𝓤 H A (owns (Lent ∷ []) (s, tt) (slice s, tt)))) (emp 𝓤))
+  pub asks-slice : (s : RefT (List ℕ)) → ent 𝓤 (⋆ 𝓤 H A (‵ (flft κ q) ∷ ‵ (Lent .own s (slice s)) ∷ []))
+      (sep 𝓤 (sep 𝓤 (mean 𝓤 H A token) (sem 𝓤 H A (owns (Lent ∷ []) (s, tt) (slice s, tt)))) (emp 𝓤))
   asks-slice s =
-      qed W (‵ (flft κ q) ∷ ‵ (Lent .own s (slice s)) ∷ []) ∵ nothing ! $ move ! (2 ∷ 0 ∷ []) $ fjoin ! $ nothing ! $ move ! (2 ∷ 0 ∷ []) $ join ! $ join ! $ frame ! $ done !
+      qed W (‵ (flft κ q) ∷ ‵ (Lent .own s (slice s)) ∷ []) ∵ nothing ! $ move ! (2 ∷ 0 ∷ []) $ fjoin ! $ nothing ! $ move ! (2 ∷ 0 ∷ []) $ join ! $
+      join ! $ frame ! $ done !
 
   -- ---- `Reader::new`
   abbrev pub to-new : RefT (List ℕ) → New 𝓤 H A at-mem run .Ghost
@@ -127,14 +132,16 @@ module _ {M : Type 1} (𝓤 : URA M) (H : Heap 𝓤) (A : Atoms 𝓤) (W : Given
 
   pub gives-new : (s : RefT (List ℕ)) (u : Val) → ent 𝓤 (New 𝓤 H A at-mem run .post (to-new s) u) (mean 𝓤 H A (Gives-new s u))
   gives-new s u =
-      gave 𝓤 H A W B reader (Begun s) token (LL.tells (T.the-type α) (T′.the-laws α)) (ensured 𝓤 H A new.ended (new.clauses 𝓤 H A at-mem run) (κ, tt) (s, tt) tt)
+      gave 𝓤 H A W B reader (Begun s) token (LL.tells (T.the-type α) (T′.the-laws α))
+      (ensured 𝓤 H A new.ended (new.clauses 𝓤 H A at-mem run) (κ, tt) (s, tt) tt)
       (λ z. exE 𝓤 _ (λ ws. snd∗ 𝓤 (sem 𝓤 H A (lasts new.ended (κ, tt) (s, tt) ws)) (fact 𝓤 (Begun s z)))) u
 
   -- ---- `Reader::arguments`
   abbrev pub to-hand : Reader → ℕ → HandsOut 𝓤 H A at-mem run .Ghost
   to-hand z n = (((κ, tt), (q, tt), tt, (z, (n, tt)), (reader z, (vint w64 n ∷ [], tt))), tt)
 
-  goes-hand : (z : Reader) (n : ℕ) → ent 𝓤 (onEntry 𝓤 H A arguments.signature (κ, tt) (q, tt) (z, (n, tt)) (reader z, (vint w64 n ∷ [], tt))) (HandsOut 𝓤 H A at-mem run .pre (to-hand z n))
+  goes-hand : (z : Reader) (n : ℕ) → ent 𝓤 (onEntry 𝓤 H A arguments.signature (κ, tt) (q, tt) (z, (n, tt)) (reader z, (vint w64 n ∷ [], tt)))
+      (HandsOut 𝓤 H A at-mem run .pre (to-hand z n))
   goes-hand z n = qed W (token ∷ ‵ (owns (B ∷ usize ∷ []) (z, (n, tt)) (reader z, (vint w64 n ∷ [], tt))) ∷ []) ∵ join ! $ frame ! $ done !
 
   pub asks-hand : (z : Reader) (n : ℕ) → n < 2 ^ 64
@@ -151,7 +158,8 @@ module _ {M : Type 1} (𝓤 : URA M) (H : Heap 𝓤) (A : Atoms 𝓤) (W : Given
 
   pub gives-hand : (z : Reader) (n : ℕ) (u : Val) → ent 𝓤 (HandsOut 𝓤 H A at-mem run .post (to-hand z n) u) (mean 𝓤 H A (Gives-hand z n u))
   gives-hand z n u =
-      gave 𝓤 H A W Lent slice (PartAt (z .log) n) token (shr-slice-tells (named 0) κ u8) (ensured 𝓤 H A arguments.ended (arguments.clauses 𝓤 H A at-mem run) (κ, tt) (z, (n, tt)) tt)
+      gave 𝓤 H A W Lent slice (PartAt (z .log) n) token (shr-slice-tells (named 0) κ u8)
+      (ensured 𝓤 H A arguments.ended (arguments.clauses 𝓤 H A at-mem run) (κ, tt) (z, (n, tt)) tt)
       (λ p. exE 𝓤 _ (λ ws. snd∗ 𝓤 (sem 𝓤 H A (lasts arguments.ended (κ, tt) (z, (n, tt)) ws)) (fact 𝓤 (PartAt (z .log) n p)))) u
 
   -- ---- `Reader::next`, on a local at l that holds the reader z
@@ -180,9 +188,12 @@ module _ {M : Type 1} (𝓤 : URA M) (H : Heap 𝓤) (A : Atoms 𝓤) (W : Given
   abbrev pub Asks-next : Reader → ℕ → Item 𝓤
   Asks-next z l = later (some (λ (ν : ℕ). some (λ (δ : GName). raw (Next 𝓤 H A at-mem run .pre (to-next z l ν δ)) ⊛ Kept l ν δ)))
 
-  goes-next : (z : Reader) (l ν : ℕ) (δ : GName) → ent 𝓤 (⋆ 𝓤 H A (‵ (MutRef (named 0) (ν ∷ κ) B .own (lent z l δ) (vptr l 0 ∷ [])) ∷ ‵ (flft (ν ∷ κ) ql) ∷ ‵ (flft κ qr) ∷ [])) (Next 𝓤 H A at-mem run .pre (to-next z l ν δ))
+  goes-next : (z : Reader) (l ν : ℕ) (δ : GName) → ent 𝓤
+      (⋆ 𝓤 H A (‵ (MutRef (named 0) (ν ∷ κ) B .own (lent z l δ) (vptr l 0 ∷ [])) ∷ ‵ (flft (ν ∷ κ) ql) ∷ ‵ (flft κ qr) ∷ []))
+      (Next 𝓤 H A at-mem run .pre (to-next z l ν δ))
   goes-next z l ν δ =
-      qed W (‵ (MutRef (named 0) (ν ∷ κ) B .own (lent z l δ) (vptr l 0 ∷ [])) ∷ ‵ (flft (ν ∷ κ) ql) ∷ ‵ (flft κ qr) ∷ []) ∵ nothing ! $ move ! (1 ∷ 0 ∷ []) $ fjoin ! $
+      qed W (‵ (MutRef (named 0) (ν ∷ κ) B .own (lent z l δ) (vptr l 0 ∷ [])) ∷ ‵ (flft (ν ∷ κ) ql) ∷ ‵ (flft κ qr) ∷ []) ∵ nothing ! $
+      move ! (1 ∷ 0 ∷ []) $ fjoin ! $
       nothing ! $ move ! (3 ∷ 0 ∷ []) $ join ! $ move ! (2 ∷ 0 ∷ []) $ join ! $ join ! $ frame ! $ done !
 
   pub asks-next : (z : Reader) (l : ℕ) → ent 𝓤 (⋆ 𝓤 H A (‵ (flft κ q) ∷ ‵ (Held l z) ∷ ‵ (B .own z (reader z)) ∷ [])) (mean 𝓤 H A (Asks-next z l))
@@ -194,7 +205,9 @@ module _ {M : Type 1} (𝓤 : URA M) (H : Heap 𝓤) (A : Atoms 𝓤) (W : Given
       move ! (1 ∷ []) $ use1 W (‵ (flft κ ql) ⊛ ‵ (flft κ qr)) (W .lfts .lft-split κ q) $ split ! $ lft-new ! tt (λ ν.
       use2 W (‵ (flft (ν ∷ κ) ql) ⊛ raw (Rest 𝓤 H A W ν ql)) (within-token 𝓤 H A W ν κ ql) $ split ! $
       -- [ν's token; what is left of it; the log's other half; the reader]
-      move ! (3 ∷ []) $ use1 W (later (some (λ (δ : GName). ‵ (MutRef (named 0) (ν ∷ κ) B .own (lent z l δ) (vptr l 0 ∷ [])) ⊛ ‵ (flent (ν ∷ κ) (Body (mem B) l 0 δ))))) (lends-ref 𝓤 H A W B (named 0) (ν ∷ κ) z l 0) $
+      move ! (3 ∷ []) $ use1 W (later (some (λ (δ : GName).
+      ‵ (MutRef (named 0) (ν ∷ κ) B .own (lent z l δ) (vptr l 0 ∷ [])) ⊛ ‵ (flent (ν ∷ κ) (Body (mem B) l 0 δ)))))
+      (lends-ref 𝓤 H A W B (named 0) (ν ∷ κ) z l 0) $
       await ! tt $ pick ! (λ δ. split ! $ move ! (0 ∷ 2 ∷ 4 ∷ []) $ use3 W (raw (Next 𝓤 H A at-mem run .pre (to-next z l ν δ))) (goes-next z l ν δ) $
       -- [what `next` asks; the lender's part; what is left of ν's token]
       at-once ! $ show ! (λ (ν′ : ℕ). mean 𝓤 H A (some (λ (δ′ : GName). raw (Next 𝓤 H A at-mem run .pre (to-next z l ν′ δ′)) ⊛ Kept l ν′ δ′))) ν $
@@ -207,23 +220,29 @@ module _ {M : Type 1} (𝓤 : URA M) (H : Heap 𝓤) (A : Atoms 𝓤) (W : Given
   abbrev pub Gives-next : Reader → ℕ → Val → Item 𝓤
   Gives-next z l u = later (some (λ (r : Read). some (λ (z′ : Reader). Back z l u r z′)))
 
-  pub gives-next : (z : Reader) (l ν : ℕ) (δ : GName) (u : Val) → ent 𝓤 (⋆ 𝓤 H A (raw (Next 𝓤 H A at-mem run .post (to-next z l ν δ) u) ∷ Kept l ν δ ∷ [])) (mean 𝓤 H A (Gives-next z l u))
+  pub gives-next : (z : Reader) (l ν : ℕ) (δ : GName) (u : Val)
+      → ent 𝓤 (⋆ 𝓤 H A (raw (Next 𝓤 H A at-mem run .post (to-next z l ν δ) u) ∷ Kept l ν δ ∷ [])) (mean 𝓤 H A (Gives-next z l u))
   unfolding partOf
   gives-next z l ν δ u =
       qed W (raw (Next 𝓤 H A at-mem run .post (to-next z l ν δ) u) ∷ Kept l ν δ ∷ []) ∵ updating ! $
-      use1 W (later (some (λ (r : Read). ((‵ (flft (ν ∷ κ) ql) ⊛ (‵ (flft κ qr) ⊛ ‵ ftrue)) ⊛ ‵ (R.the-row .own r (u ∷ []))) ⊛ raw (ensured 𝓤 H A next.ended (next.clauses 𝓤 H A at-mem run) (ν ∷ κ, (κ, tt)) (lent z l δ, tt) tt r)))) (id⊢ 𝓤 _) $ await ! tt $ pick ! (λ r.
-      split ! $ move ! (1 ∷ []) $ use1 W (some (λ (zs : Reader × Unit {0}). ‵ (lasts next.ended (ν ∷ κ, (κ, tt)) (lent z l δ, tt) zs) ⊛ raw (fact 𝓤 (Found z r (zs .0))))) (id⊢ 𝓤 _) $ pick ! (λ zs.
+      use1 W (later (some (λ (r : Read). ((‵ (flft (ν ∷ κ) ql) ⊛ (‵ (flft κ qr) ⊛ ‵ ftrue)) ⊛ ‵ (R.the-row .own r (u ∷ []))) ⊛ raw (ensured 𝓤 H A
+      next.ended (next.clauses 𝓤 H A at-mem run) (ν ∷ κ, (κ, tt)) (lent z l δ, tt) tt r)))) (id⊢ 𝓤 _) $ await ! tt $ pick ! (λ r.
+      split ! $ move ! (1 ∷ []) $ use1 W (some (λ (zs : Reader × Unit {0}).
+      ‵ (lasts next.ended (ν ∷ κ, (κ, tt)) (lent z l δ, tt) zs) ⊛ raw (fact 𝓤 (Found z r (zs .0))))) (id⊢ 𝓤 _) $ pick ! (λ zs.
       split ! $ move ! (1 ∷ []) $ heard ! (Found z r (zs .0)) (λ e. fsplit ! $ move ! (2 ∷ []) $ split ! $ split ! $ move ! (2 ∷ []) $
       -- [the result; ν's token; the log's other half; the last value; true; what the lender kept]
       peeks ! R.the-row (Is R.the-row) (shows 𝓤 H A R.the-row) r (u ∷ []) (λ is. drop ! $ move ! (4 ∷ []) $ split ! $
-      -- ν is ended, and the local is taken back at its last value: [the lender's part; what is left of ν's token; ν's token; the log's other half; the last value; true]
+      -- ν is ended, and the local is taken back at its last value: [the lender's part; what is left of ν's token; ν's token; the log's other half; the
+      -- last value; true]
       move ! (2 ∷ 1 ∷ []) $ use2 W (later (‵ (fdead (ν ∷ κ)) ⊛ ‵ (flft κ ql))) (within-end 𝓤 H A W ν κ ql) $ await ! tt $ split ! $
-      move ! (0 ∷ 2 ∷ 4 ∷ []) $ use3 W (later (‵ (partAt B fullShare (zs .0) l 0))) (ref-back 𝓤 H A W B (ν ∷ κ) δ (zs .0) l 0) $ await ! tt $ fpick ! (λ vs. fsplit ! $
+      move ! (0 ∷ 2 ∷ 4 ∷ []) $ use3 W (later (‵ (partAt B fullShare (zs .0) l 0))) (ref-back 𝓤 H A W B (ν ∷ κ) δ (zs .0) l 0) $ await ! tt $
+      fpick ! (λ vs. fsplit ! $
       spelt ! B (Is B) (shows 𝓤 H A B) (LL.vals (T.the-type α) (T′.the-laws α)) (LL.tells (T.the-type α) (T′.the-laws α)) fullShare (zs .0) vs l 0 $
       use1 W (‵ (Held l (zs .0))) (W .laws .raw-at fullShare (T′.mir erased) l 0 (T′.lowered (zs .0))) $
       move ! (1 ∷ []) $ peeks ! B (Is B) (shows 𝓤 H A B) (zs .0) (reader (zs .0)) (λ isz.
       -- [what the reader owns; its cell; half of the token; the other half; true]
       move ! (3 ∷ []) $ split ! $ move ! (4 ∷ 0 ∷ []) $ use2 W (‵ (flft κ q)) (W .lfts .lft-join κ q) $
-      at-once ! $ show ! (λ (r′ : Read). mean 𝓤 H A (some (λ (z′ : Reader). Back z l u r′ z′))) r $ show ! (λ (z′ : Reader). mean 𝓤 H A (Back z l u r z′)) (zs .0) $
+      at-once ! $ show ! (λ (r′ : Read). mean 𝓤 H A (some (λ (z′ : Reader). Back z l u r′ z′))) r $
+      show ! (λ (z′ : Reader). mean 𝓤 H A (Back z l u r z′)) (zs .0) $
       check ! (came R.the-row found (EL.tells R.the-type R′.the-laws) is (isz, e)) $
       keep ! (0 ∷ 3 ∷ 2 ∷ []) $ done !))))))

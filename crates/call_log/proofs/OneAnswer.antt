@@ -1,4 +1,5 @@
--- Two answers that one promise allows are equal, for the promises that are more than one equation: each part of an answer has its own, and what has equal parts is equal.
+-- Two answers that one promise allows are equal, for the promises that are more than one equation: each part of an answer has its own, and what has equal
+-- parts is equal.
 use Prim.Native.Nat.{ℕ, _+_, _≤_}
 use mathlib.Core.Path.{_≡_, sym, _∙_}
 use mathlib.Core.List.{List}
@@ -39,7 +40,8 @@ Found before r after =
 pub one-next : (before : Reader) (r s : Read) (left also : Reader) → Found before r left → Found before s also → (r ≡ s) × (left ≡ also)
 one-next before r s left also p q = (cc, same-reader left also (cc) (cc))
 
--- ---- `arguments`, `Reader::arguments` and `read_arguments`: the bytes, and where sixteen are there the place too. A slice is its place and its length, so the two are one slice
+-- ---- `arguments`, `Reader::arguments` and `read_arguments`: the bytes, and where sixteen are there the place too. A slice is its place and its length,
+-- so the two are one slice
 pub one-part : (log : RefT (List ℕ)) (start : ℕ) (r s : RefT (List ℕ)) → PartAt log start r → PartAt log start s
     → (now r ≡ now s) × (start + 16 ≤ length (now log) → ptr r ≡ ptr s)
 one-part log start r s p q = (p .bytes ∙ sym (q .bytes), λ there. p .place there ∙ sym (q .place there))

@@ -1,6 +1,6 @@
 -- 01's table of refusals, row by row: of each row, whether what it has under 'Given when' holds for this call on these tables. The tests of one
 -- object, argument or switch are those that the calls' definitions use; which call asks for which, and in which row, is written here anew.
-use Prim.Native.Nat.{ℕ}
+use Prim.Native.Nat.{ℕ, _*_}
 use mathlib.Core.Path.{_≡_}
 use mathlib.Core.Bool.{Bool, true, false, not, _&&_, _||_, cond as if}
 use mathlib.Core.List.{List, [], _∷_}
@@ -10,12 +10,12 @@ use Rattle.basics.specs.Lists.{count, allOf}
 use Rattle.rules.specs.Answer.{Cases, T, S, I, unused}
 use Rattle.rules.specs.Tables.{taskCount, swiCount, semaphoreCount, eventCount, mailboxCount, clockCount, heapUnits, swiLevels, levels, minusOne, forever}
 use Rattle.rules.specs.Tables.{mailboxMost, terminated, inactive, task, swi, semaphore, event, mailbox, clock, state, current, USED, KIND, COUNT, BITS}
-use Rattle.rules.specs.Tables.{CAPACITY, MESSAGES, POSTED, DEPTH, SWIS, reading}
+use Rattle.rules.specs.Tables.{CAPACITY, MESSAGES, POSTED, DEPTH, SWIS, reading, unitBytes, mostDepth}
 use Rattle.rules.specs.Lines.{semaphoreLine, eventLine, mailboxLine, anyone, frontOf}
 use Rattle.rules.specs.Waits.{switchOff, idle}
 use Rattle.rules.specs.Tasks.{isPriority, freeTask, blocked}
 use Rattle.rules.specs.Swis.{freeSwi, isActive, isNamed}
-use Rattle.rules.specs.Semaphores.{freeSemaphore, most, isBinary}
+use Rattle.rules.specs.Semaphores.{freeSemaphore, most, isBinary, countMost, kindCount}
 use Rattle.rules.specs.Events.{freeEvent, matched}
 use Rattle.rules.specs.Mailboxes.{freeMailbox, isFull}
 use Rattle.rules.specs.Clocks.{freeClock}
@@ -138,7 +138,7 @@ takesObject q = ltb 0 (objectTable q)
 
 -- "32 tasks (0 to 31), 16 Swis, 16 semaphores, 8 events, 8 mailboxes .., 16 clocks"
 unfoldable pub sizeOf : ℕ → ℕ
-sizeOf table = getD (0 ∷ 32 ∷ 16 ∷ 16 ∷ 8 ∷ 8 ∷ 16 ∷ []) table 0
+sizeOf table = getD (0 ∷ taskCount ∷ swiCount ∷ semaphoreCount ∷ eventCount ∷ mailboxCount ∷ clockCount ∷ []) table 0
 
 -- what a table has of object a: 0 where that is not in use
 unfoldable pub usedIn : Tables → ℕ → ℕ → ℕ
@@ -174,12 +174,12 @@ badValue t q =
     (if (among (0x02 ∷ []) q) (not (isPriority (levels (t .state)) (q .b)))
     (if (among (0x05 ∷ []) q) (eqb (q .a) forever)
     (if (among (0x10 ∷ []) q) (not (ltb (q .a) swiLevels))
-    (if (among (0x20 ∷ []) q) (not (ltb (q .a) 4) || not (leb (q .b) (most (q .a))))
+    (if (among (0x20 ∷ []) q) (not (ltb (q .a) kindCount) || not (leb (q .b) (most (q .a))))
     (if (among (0x24 ∷ []) q) (not (leb (q .b) (most (semaphore (t .semaphores) (q .a) KIND))))
     (if (among (0x32 ∷ []) q) (eqb (q .b) 0 && eqb (q .c) 0)
     (if (among (0x40 ∷ []) q) (eqb (q .a) 0 || not (leb (q .a) mailboxMost))
     (if (among (0x50 ∷ []) q) (eqb (q .b) 0)
-    (if (among (0x60 ∷ []) q) (eqb (q .a) 0 || not (leb (q .a) 2048))
+    (if (among (0x60 ∷ []) q) (eqb (q .a) 0 || not (leb (q .a) (heapUnits * unitBytes)))
     (if (among (0x61 ∷ []) q) (not (isBlock (t .heap) (q .a) (q .b)))
     (if (among (0x77 ∷ []) q) (badSwitches (q .a))
     (if (among (0x78 ∷ []) q) (badSwitches (q .a) || badKey (q .a) (q .b)) false))))))))))))
@@ -253,8 +253,8 @@ noFreeNumber t q =
 unfoldable pub atItsEnd : Tables → Call → Bool
 atItsEnd t q =
     if (among (0x23 ∷ []) q)
-    (not (isBinary (semaphore (t .semaphores) (q .a) KIND)) && leb 65535 (semaphore (t .semaphores) (q .a) COUNT))
-    (if (among (0x74 ∷ []) q) (not (ltb (state (t .state) DEPTH) 8)) false)
+    (not (isBinary (semaphore (t .semaphores) (q .a) KIND)) && leb countMost (semaphore (t .semaphores) (q .a) COUNT))
+    (if (among (0x74 ∷ []) q) (not (ltb (state (t .state) DEPTH) mostDepth)) false)
 
 -- ---- row 9, code 8: "no heap room": "exactly if no run of that many adjacent free units exists"
 unfoldable pub noHeapRoom : Tables → Call → Bool

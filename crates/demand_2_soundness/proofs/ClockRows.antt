@@ -1,5 +1,5 @@
 -- A clock's row: what is read after it is stored, and that a row which its rule allows keeps the rules.
-use Prim.Native.Nat.{ℕ, _<_}
+use Prim.Native.Nat.{ℕ, _<_, _*_}
 use mathlib.Core.Path.{_≡_, refl}
 use mathlib.Core.Logic.{_≢_, ⊎-elim}
 use mathlib.Core.List.{List}
@@ -20,7 +20,7 @@ module _ (cs : List ℕ) (i : ℕ) (k : Clock) where
   unfolding withClock
   length-withClock = length-withRow clockWidth clockCount cs i (clockWords k)
 
-  pub clock-same : length cs ≡ 80 → i < clockCount → clock (withClock cs i k) i ≡ k
+  pub clock-same : length cs ≡ clockCount * clockWidth → i < clockCount → clock (withClock cs i k) i ≡ k
   unfolding clock withClock
   clock-same all lt =
       let f : (f : ℕ) → f < clockWidth → _ = row-same clockWidth clockCount cs i (clockWords k) (omega arith) refl lt in

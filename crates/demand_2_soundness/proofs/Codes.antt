@@ -1,9 +1,12 @@
 -- An accepted call: none of its cases holds.
 use Prim.Native.Nat.{ℕ, suc}
 use mathlib.Core.Path.{_≡_, refl}
+use mathlib.Core.Logic.{_≢_}
 use mathlib.Core.Bool.{Bool, true, false, not, _&&_, true≢false, cond as if}
 use mathlib.Core.List.{List, _∷_}
 use native.Mathlib.Omega.{arith}
+use borrow.Author.Tests.{eqb-false}
+use lib.Dec.{eqb}
 use Rattle.rules.specs.Answer.{Cases, unknown, firstGiven, codeOf}
 
 pub record Accepted (c : Cases) : Type 0 where
@@ -43,10 +46,13 @@ accepted-is c z =
     record { at1 = n1; at2 = n2; at3 = n3; at11 = n11; at4 = n4; at5 = n5; at6 = n6; at7 = n7; at8 = n8; at9 = n9 }
 
 -- an object number that is neither outside its table nor of an object not in use
-pub object-used : (u b : Bool) → (u && not b) ≡ false → (u && b) ≡ false → u ≡ false
+object-used : (u b : Bool) → (u && not b) ≡ false → (u && b) ≡ false → u ≡ false
 object-used true true e f = f
 object-used true false e f = e
 object-used false b e f = refl
+
+pub used-object : (u : ℕ) (b : Bool) → (eqb u 0 && not b) ≡ false → (eqb u 0 && b) ≡ false → u ≢ 0
+used-object u b e f = eqb-false u 0 (object-used (eqb u 0) b e f)
 
 -- an unknown number is refused
 pub unknown-refused : {A : Type 0} (x : A) → codeOf (unknown x .cases) ≡ 0 → ⊥

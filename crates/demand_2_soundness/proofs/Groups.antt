@@ -1,5 +1,5 @@
 -- The rules of sound tables in the form in which a call keeps them, and what holds between a call's effect and the dispatch after it.
-use Prim.Native.Nat.{ℕ, _≤_, _<_}
+use Prim.Native.Nat.{ℕ, _≤_, _<_, suc}
 use mathlib.Core.Path.{_≡_, _∙_}
 use mathlib.Core.Logic.{_⊎_}
 use mathlib.Core.Bool.{true, false}
@@ -8,7 +8,8 @@ use lib.Dec.{eqb}
 use lib.ListN.{length}
 use Rattle.basics.specs.Lists.{bit, count}
 use Rattle.basics.specs.Rule.{Means}
-use Rattle.rules.specs.Tables.{levels, LEVELS, Typed, tables, taskCount, wordEnd, ready, task, state, DEPTH, SWIS, TASKS, CURRENT}
+use Rattle.rules.specs.Tables.{levels, LEVELS, Typed, tables, taskCount, wordEnd, ready, task, state, DEPTH, SWIS, TASKS, CURRENT, fewLevels, mostLevels}
+use Rattle.rules.specs.Tables.{swiLevels, mostDepth}
 use Rattle.rules.specs.Lines.{lineCount, postedLine, activeLine, line, taskHome, swiHome}
 use Rattle.rules.specs.Answer.{CallRule, codeOf}
 use Rattle.rules.specs.Dispatch.{swiDue, taskDue}
@@ -30,7 +31,7 @@ SwisStay ls ls′ = (j : ℕ) → postedLine 0 ≤ j → j ≤ activeLine → li
 -- each task stands once in the line that is its own, and in no other; so does each posted Swi
 pub record Standing (ts ws ls : List ℕ) : Type 0 where
   pub tasks : (x j : ℕ) → OfTasks j → count x (line ls j) ≡ bit (eqb (taskHome ts x) j)
-  pub swis : (x p : ℕ) → p < 16 → count x (line ls (postedLine p)) ≡ bit (eqb (swiHome ws x) (postedLine p))
+  pub swis : (x p : ℕ) → p < swiLevels → count x (line ls (postedLine p)) ≡ bit (eqb (swiHome ws x) (postedLine p))
 
 -- all rules but those on the state
 pub record Almost (t : Tables) : Type 0 where
@@ -79,11 +80,11 @@ others-change t a ss es ms cs h st sl el ml cl hl tl same sr er mr cr hr =
     }
 
 pub record Ranges (st : List ℕ) : Type 0 where
-  pub depth : state st DEPTH < 9
+  pub depth : state st DEPTH < suc mostDepth
   pub swis : state st SWIS < 2
   pub tasks : state st TASKS < 2
   pub current : state st CURRENT < taskCount
-  pub levels : (state st LEVELS ≡ 16) ⊎ (state st LEVELS ≡ 32)
+  pub levels : (state st LEVELS ≡ fewLevels) ⊎ (state st LEVELS ≡ mostLevels)
 
 -- between a call's effect and dispatch: the current task is ready, or dispatch is about to choose another
 pub record Settling (t : Tables) : Type 0 where

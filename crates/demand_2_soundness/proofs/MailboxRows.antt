@@ -35,12 +35,12 @@ pub record Row (ts ls ms : List ℕ) (i : ℕ) : Type 0 where
 -- the words behind the messages
 module _ (ms : List ℕ) (i : ℕ) (lt : i < mailboxCount) where
   number-at : mailbox ms i MESSAGES ≡ getD ms (at i) 0
-  number-at = field-in 10 8 ms i 1 lt (omega arith)
+  number-at = field-in mailboxWidth mailboxCount ms i MESSAGES lt (omega arith)
 
   word-at : (k : ℕ) → k < mailboxMost → mailbox ms i (suc (suc k)) ≡ getD ms (at i + 1 + k) 0
   word-at k h =
-      let e : i * 10 + suc (suc k) ≡ at i + 1 + k = omega arith in
-      field-in 10 8 ms i (suc (suc k)) lt (omega arith) ∙ ap (λ (p : ℕ). getD ms p 0) e
+      let e : i * mailboxWidth + suc (suc k) ≡ at i + 1 + k = omega arith in
+      field-in mailboxWidth mailboxCount ms i (suc (suc k)) lt (omega arith) ∙ ap (λ (p : ℕ). getD ms p 0) e
 
   pub row-parts : (ts ls : List ℕ) → Means (mailboxRule ts ms ls i) → Row ts ls ms i
   unfolding mailboxRule
@@ -48,7 +48,7 @@ module _ (ms : List ℕ) (i : ℕ) (lt : i < mailboxCount) where
       record {
         range = range;
         held = held;
-        behind = λ k low high. word-at k high ∙ behind-clear 8 ms (at i) clear k (omega (arith, number-at)) high;
+        behind = λ k low high. word-at k high ∙ behind-clear mailboxMost ms (at i) clear k (omega (arith, number-at)) high;
         free = free;
         waiters = waiters;
       }
@@ -88,12 +88,12 @@ module _ (ms : List ℕ) (i : ℕ) (lt : i < mailboxCount) (xs : List ℕ) (shor
       (λ p.
       by-range f mailboxWidth
       (λ q.
-      field-in 10 8 (withMessages ms i xs) k f p q
+      field-in mailboxWidth mailboxCount (withMessages ms i xs) k f p q
       ∙ ap (λ (l : List ℕ). getD l (k * mailboxWidth + f) 0) stored
       ∙ listed-away mailboxMost ms (at i) xs short (k * mailboxWidth + f) (apart p q)
-      ∙ sym (field-in 10 8 ms k f p q))
-      (λ q. field-past 10 8 (withMessages ms i xs) k f q ∙ sym (field-past 10 8 ms k f q)))
-      (λ p. field-out 10 8 (withMessages ms i xs) k f p ∙ sym (field-out 10 8 ms k f p))
+      ∙ sym (field-in mailboxWidth mailboxCount ms k f p q))
+      (λ q. field-past mailboxWidth mailboxCount (withMessages ms i xs) k f q ∙ sym (field-past mailboxWidth mailboxCount ms k f q)))
+      (λ p. field-out mailboxWidth mailboxCount (withMessages ms i xs) k f p ∙ sym (field-out mailboxWidth mailboxCount ms k f p))
 
   pub stored-other : (k f : ℕ) → k ≢ i → mailbox (withMessages ms i xs) k f ≡ mailbox ms k f
   stored-other k f n =
@@ -107,7 +107,7 @@ module _ (ms : List ℕ) (i : ℕ) (lt : i < mailboxCount) (xs : List ℕ) (shor
   pub stored-capacity : mailbox (withMessages ms i xs) i CAPACITY ≡ mailbox ms i CAPACITY
   stored-capacity = word-away i CAPACITY (λ p q. inl (omega arith))
 
-  module _ (all : length ms ≡ 80) where
+  module _ (all : length ms ≡ mailboxCount * mailboxWidth) where
     fits : at i + mailboxMost < length ms
     fits = omega (arith, row-end mailboxWidth i mailboxCount lt)
 
@@ -141,5 +141,5 @@ module _ (ms : List ℕ) (i : ℕ) (lt : i < mailboxCount) (xs : List ℕ) (shor
 pub held-is : (ms : List ℕ) (i : ℕ) → i < mailboxCount → mailbox ms i MESSAGES ≤ mailboxMost → length (messages ms i) ≡ mailbox ms i MESSAGES
 unfolding messages
 held-is ms i lt h =
-    let e : min (getD ms (at i) 0) 8 ≡ mailbox ms i MESSAGES = omega (arith, number-at ms i lt) in
+    let e : min (getD ms (at i) 0) mailboxMost ≡ mailbox ms i MESSAGES = omega (arith, number-at ms i lt) in
     rw (lt-ltb i mailboxCount lt) (length-listed mailboxMost ms (at i) ∙ e)

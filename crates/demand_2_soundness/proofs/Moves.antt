@@ -1,5 +1,6 @@
 -- A task moves: out of its line if it has one, its row changed, into its next line at any place. Every movement of every call is one of these.
-use Prim.Native.Nat.{ℕ, _<_, _≤_}
+-- In this order: what may go where; the rows and lines after a movement, and each rule of them; a row that changes while its line does not.
+use Prim.Native.Nat.{ℕ, _<_, _≤_, _*_}
 use mathlib.Core.Path.{_≡_, refl, sym, ap, _∙_}
 use mathlib.Core.Logic.{_≢_, inl, inr, ⊎-elim}
 use mathlib.Core.Bool.{cond as if}
@@ -12,7 +13,9 @@ use Rattle.basics.specs.Lists.{bit, count, without, putAt}
 use Rattle.basics.specs.Rule.{Means}
 use Rattle.basics.proofs.Laws.{same?, count-putAt, count-without, count-without-other, length-without, without-absent, room}
 use Rattle.rules.specs.Tables.{Typed, taskCount, atSemaphore, atEvent, reading, writing, task, withTask, semaphore, event, mailbox, USED, COUNT, BITS, CAPACITY, MESSAGES, levels}
+use Rattle.rules.specs.Tables.{taskWidth}
 use Rattle.rules.specs.Lines.{lineCount, lineMost, semaphoreLine, eventLine, mailboxLine, postedLine, activeLine, line, homeOf, taskHome, outOf, entered, TaskQueues, taskQueues, moved}
+use Rattle.rules.specs.Lines.{lineWidth}
 use Rattle.rules.specs.Events.{matched}
 use Rattle.rules.specs.Sound.{taskRule, tasksRule, linesRule, semaphoresRule, eventsRule, mailboxesRule}
 use Rattle.rules.specs.Step.{withQueued}
@@ -42,7 +45,8 @@ pub record Welcome (t : Tables) (i : ℕ) (k : Task) : Type 0 where
       → (mailbox (t .mailboxes) (k .object) CAPACITY ≢ 0)
       × (mailbox (t .mailboxes) (k .object) MESSAGES ≡ mailbox (t .mailboxes) (k .object) CAPACITY)
 
-pub queued-typed : (t : Tables) (q : TaskQueues) → Typed t → length (q .tasks) ≡ 256 → length (q .lines) ≡ 2673 → Typed (withQueued t q)
+pub queued-typed : (t : Tables) (q : TaskQueues) → Typed t → length (q .tasks) ≡ taskCount * taskWidth → length (q .lines) ≡ lineCount * lineWidth
+    → Typed (withQueued t q)
 queued-typed t q typed tasks lines =
     record {
       tasks = tasks;
@@ -67,7 +71,7 @@ module _ (t : Tables) (a : Almost t) (place : List ℕ → ℕ) (i : ℕ) (k : T
   abbrev rest : ℕ → List ℕ
   rest j = without i (line (t .lines) j)
 
-  mid-full : length mid ≡ 2673
+  mid-full : length mid ≡ lineCount * lineWidth
   mid-full = length-left (t .lines) (taskHome (t .tasks) i) i ∙ a .typed .lines
 
   -- what the move is, for a task that there is

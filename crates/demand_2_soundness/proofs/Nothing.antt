@@ -5,6 +5,7 @@ use mathlib.Core.Path.{_≡_, refl, sym, ap, _∙_}
 use mathlib.Core.List.{List}
 use lib.ListN.{set}
 use lib.Seq.{set-getD}
+use Rattle.rules.specs.Tables.{CURRENT}
 use Rattle.rules.specs.Dispatch.{swiDispatched, taskDue, taskDispatched, dispatched, dispatchTables}
 use Rattle.rules.specs.Sound.{Sound}
 use Rattle.rules.specs.declared.Tables.{Tables}
@@ -17,7 +18,7 @@ module _ (t : Tables) (s : Sound t) where
   unfolding taskDispatched
   no-task =
       chosen (λ (st : List ℕ). st ≡ t .state) (taskDue (t .lines) (t .state)) _ _
-      (λ e. ap (set (t .state) 4) (sym (s .dispatch .1 e)) ∙ set-getD (t .state) 4 0)
+      (λ e. ap (set (t .state) CURRENT) (sym (s .dispatch .1 e)) ∙ set-getD (t .state) CURRENT 0)
       (λ _. refl)
 
   pub tasks-left : (ls : List ℕ) → SwisStay (t .lines) ls

@@ -6,7 +6,7 @@ use native.Mathlib.Omega.{arith}
 use borrow.Author.Tests.{eqb-false}
 use lib.Dec.{eqb}
 use Rattle.basics.specs.Rule.{Means}
-use Rattle.rules.specs.Tables.{Typed, clockCount, clockWidth, clock, withClock, noClock, swi, USED}
+use Rattle.rules.specs.Tables.{Typed, clockCount, clockWidth, clock, withClock, noClock, swi}
 use Rattle.rules.specs.Answer.{called, asked, Words}
 use Rattle.rules.specs.Dispatch.{context}
 use Rattle.rules.specs.Sound.{Sound, clockRule}
@@ -16,7 +16,7 @@ use Rattle.rules.specs.declared.Clock.{Clock}
 use Rattle.rules.specs.declared.Tables.{Tables}
 use Rattle.rules_laws.proofs.Rows.{row-used}
 use Rattle.demand_2_soundness.proofs.Groups.{Settling, Keeps}
-use Rattle.demand_2_soundness.proofs.Codes.{accepted-is, object-used}
+use Rattle.demand_2_soundness.proofs.Codes.{accepted-is, used-object}
 use Rattle.demand_2_soundness.proofs.Waiting.{neither, sound-ranges, still-ready}
 use Rattle.demand_2_soundness.proofs.Chosen.{chosen-keeps, unknown-keeps}
 use Rattle.demand_2_soundness.proofs.ClockRows.{clock-keeps}
@@ -33,7 +33,7 @@ module _ (t : Tables) (typed : Typed t) (s : Sound t) where
   unfolding createCases createEffect clockRule
   create-keeps x a b c d z =
       let ok = accepted-is (createCases (t .clocks) (t .swis) x a b d) z in
-      let used = used-one (t .swis) (t .lines) (s .swis) a (eqb-false (swi (t .swis) a USED) 0 (object-used _ _ (ok .at3) (ok .at11))) in
+      let used = used-one (t .swis) (t .lines) (s .swis) a (used-object _ _ (ok .at3) (ok .at11)) in
       clock-settles (freeClock (t .clocks)) (record { used = 1; swi = a; first = b; period = c; left = 0 })
       (omega arith, (λ e. absurd (omega arith), λ e. (used, eqb-false b 0 (neither (eqb b 0) _ (ok .at4) .0))))
 
@@ -52,11 +52,11 @@ module _ (t : Tables) (typed : Typed t) (s : Sound t) where
   start-keeps : (a b c d : ℕ) → Keeps (withClocks t) (called (startStopCases (t .clocks) a b c d) (startEffect (t .clocks) a))
   unfolding startStopCases startEffect
   start-keeps a b c d z =
-      left-settles a (clock (t .clocks) a .first) (eqb-false _ _ (object-used _ _ (accepted-is (startStopCases (t .clocks) a b c d) z .at3) (accepted-is (startStopCases (t .clocks) a b c d) z .at11)))
+      let ok = accepted-is (startStopCases (t .clocks) a b c d) z in left-settles a (clock (t .clocks) a .first) (used-object _ _ (ok .at3) (ok .at11))
 
   stop-keeps : (a b c d : ℕ) → Keeps (withClocks t) (called (startStopCases (t .clocks) a b c d) (stopEffect (t .clocks) a))
   unfolding startStopCases stopEffect
-  stop-keeps a b c d z = left-settles a 0 (eqb-false _ _ (object-used _ _ (accepted-is (startStopCases (t .clocks) a b c d) z .at3) (accepted-is (startStopCases (t .clocks) a b c d) z .at11)))
+  stop-keeps a b c d z = let ok = accepted-is (startStopCases (t .clocks) a b c d) z in left-settles a 0 (used-object _ _ (ok .at3) (ok .at11))
 
 pub clocks-keeps : (t : Tables) → Typed t → Sound t → (number a b c d : ℕ) → Words (asked number a b c d)
     → Keeps (withClocks t) (clockCall (t .clocks) (t .swis) (context (t .lines) (t .state)) number a b c d)

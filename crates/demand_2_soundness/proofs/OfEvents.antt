@@ -1,4 +1,5 @@
 -- Calls 30 to 33 keep what dispatch starts from.
+-- In this order: an event's rule by its words; one event changes; calls 30 create, 31 delete, 32 pend, 33 post; and all of them.
 use Prim.Native.Nat.{ℕ, _*_, _<_, _≤_}
 use mathlib.Core.Path.{_≡_, refl, ap}
 use mathlib.Core.Logic.{_≢_, _⊎_, inl, inr, ⊎-elim}
@@ -13,7 +14,7 @@ use Rattle.basics.specs.Rule.{Rule, _is_, _isnt_, _under_, _and_, _gives_, Mean
 use Rattle.basics.proofs.Laws.{same?, no-length, length-without, count-first}
 use Rattle.rules.specs.Answer.{Effect, called, asked, Words}
 use Rattle.rules.specs.Tables.{Typed, wordEnd, task, current, atEvent, eventCount, eventWidth, event, withEvent, eventRow, USED, BITS}
-use Rattle.rules.specs.Lines.{taskQueues, line, eventLine, anyone, frontOf}
+use Rattle.rules.specs.Lines.{taskQueues, line, eventLine, anyone, frontOf, postedLine}
 use Rattle.rules.specs.Dispatch.{context}
 use Rattle.rules.specs.Sound.{Sound, eventRule}
 use Rattle.rules.specs.Step.{withEvents, withQueued}
@@ -24,7 +25,7 @@ use Rattle.rules.specs.declared.Tables.{Tables}
 use Rattle.rules_laws.proofs.Rows.{length-withRow, row-same, row-other, length-withField, field-same, field-other, field-row, row-used}
 use Rattle.rules_laws.proofs.Calls.{chosen}
 use Rattle.demand_2_soundness.proofs.Groups.{Settling, Keeps}
-use Rattle.demand_2_soundness.proofs.Codes.{accepted-is, object-used}
+use Rattle.demand_2_soundness.proofs.Codes.{accepted-is, used-object}
 use Rattle.demand_2_soundness.proofs.Standing.{sound-almost}
 use Rattle.demand_2_soundness.proofs.Moves.{Welcome}
 use Rattle.demand_2_soundness.proofs.Waiting.{neither, current-row, current-used, at-event-row}
@@ -85,23 +86,23 @@ module _ (t : Tables) (s : Settling t) (i : ℕ) (lt : i < eventCount) where
       → Settling (withEvents t (waitTables (t .tasks) (t .lines) (eventRow (t .events) i (u ∷ b ∷ []))))
   row-changes u b h =
       let ws : List ℕ = u ∷ b ∷ [] in
-      changes (eventRow (t .events) i ws) (length-withRow 2 8 (t .events) i ws)
-      (row-other 2 8 (t .events) i ws refl)
+      changes (eventRow (t .events) i ws) (length-withRow eventWidth eventCount (t .events) i ws)
+      (row-other eventWidth eventCount (t .events) i ws refl)
       (row-rule (t .tasks) (eventRow (t .events) i ws) (t .lines) i (word 0 (omega arith)) (word 1 (omega arith)) h)
     where
-      word : (f : ℕ) → f < 2 → event (eventRow (t .events) i (u ∷ b ∷ [])) i f ≡ getD (u ∷ b ∷ []) f 0
-      word = row-same 2 8 (t .events) i (u ∷ b ∷ []) all refl lt
+      word : (f : ℕ) → f < eventWidth → event (eventRow (t .events) i (u ∷ b ∷ [])) i f ≡ getD (u ∷ b ∷ []) f 0
+      word = row-same eventWidth eventCount (t .events) i (u ∷ b ∷ []) all refl lt
 
   bits-change : (b : ℕ)
       → Means (eventBy (inUse t i) b (waitersOf t i) (matchedAt (t .tasks) (t .lines) i b))
       → Settling (withEvents t (waitTables (t .tasks) (t .lines) (withEvent (t .events) i BITS b)))
   bits-change b h =
       let es : List ℕ = t .events in
-      changes (withEvent es i BITS b) (length-withField 2 8 es i 1 b)
-      (field-row 2 8 es i 1 b)
+      changes (withEvent es i BITS b) (length-withField eventWidth eventCount es i BITS b)
+      (field-row eventWidth eventCount es i BITS b)
       (row-rule (t .tasks) (withEvent es i BITS b) (t .lines) i
-      (field-other 2 8 es i 1 b 0 (λ e. omega arith))
-      (field-same 2 8 es i 1 b all lt (omega arith)) h)
+      (field-other eventWidth eventCount es i BITS b USED (λ e. omega arith))
+      (field-same eventWidth eventCount es i BITS b all lt (omega arith)) h)
 
 -- ---- the calls
 abbrev here : Tables → WaitTables
@@ -121,7 +122,7 @@ module _ (t : Tables) (typed : Typed t) (s : Sound t) where
   unfolding createCases createEffect freeEvent
   create x a b c d z =
       let ok = accepted-is (createCases (t .events) x a b c d) z in
-      let (lt, free) = free-is 8 (λ i. eqb (inUse t i) 0) (ok .at6) in
+      let (lt, free) = free-is eventCount (λ i. eqb (inUse t i) 0) (ok .at6) in
       let i : ℕ = freeEvent (t .events) in
       let (bits, none) = row-of i lt .1 .0 (eqb-true (inUse t i) 0 free) in
       row-changes t (sound-settles t typed s) i lt 1 0 (omega arith, (λ e. absurd (omega arith), (omega arith, λ w. absurd (w none))))
@@ -130,7 +131,7 @@ module _ (t : Tables) (typed : Typed t) (s : Sound t) where
   unfolding deleteCases deleteEffect
   delete x a b c d z =
       let ok = accepted-is (deleteCases (t .lines) (t .events) x a b c d) z in
-      let lt : a < 8 = row-used 2 8 (t .events) a 0 (eqb-false (inUse t a) 0 (object-used _ _ (ok .at3) (ok .at11))) in
+      let lt : a < eventCount = row-used eventWidth eventCount (t .events) a USED (used-object _ _ (ok .at3) (ok .at11)) in
       let none : waitersOf t a ≡ 0 = omega (arith, ltb-false 0 (waitersOf t a) (ok .at5)) in
       row-changes t (sound-settles t typed s) a lt 0 0 (omega arith, (λ e. (refl, none), (omega arith, λ w. absurd (w none))))
 
@@ -155,8 +156,8 @@ module _ (t : Tables) (typed : Typed t) (s : Sound t) where
   unfolding pendCases pendEffect pendWaits
   pend a b c d word z =
       let ok = accepted-is (pendCases (t .lines) (t .events) (t .state) (context (t .lines) (t .state)) a b c d) z in
-      let used : inUse t a ≢ 0 = eqb-false (inUse t a) 0 (object-used _ _ (ok .at3) (ok .at11)) in
-      let lt : a < 8 = row-used 2 8 (t .events) a 0 used in
+      let used : inUse t a ≢ 0 = used-object _ _ (ok .at3) (ok .at11) in
+      let lt : a < eventCount = row-used eventWidth eventCount (t .events) a USED used in
       let (nobody, busy) = neither (anyone (t .lines) (eventLine a)) (pendWaits (t .events) a b c d && idle (t .state)) (ok .at5) in
       let none : waitersOf t a ≡ 0 = omega (arith, ltb-false 0 (waitersOf t a) nobody) in
       let (u, more) = row-of a lt in
@@ -192,8 +193,8 @@ module _ (t : Tables) (typed : Typed t) (s : Sound t) where
   unfolding postCases postedBits
   post a b c d z =
       let ok = accepted-is (postCases (t .events) a c d) z in
-      let used : inUse t a ≢ 0 = eqb-false (inUse t a) 0 (object-used _ _ (ok .at3) (ok .at11)) in
-      let lt : a < 8 = row-used 2 8 (t .events) a 0 used in
+      let used : inUse t a ≢ 0 = used-object _ _ (ok .at3) (ok .at11) in
+      let lt : a < eventCount = row-used eventWidth eventCount (t .events) a USED used in
       let bits : ℕ = bitOr (bitsOf t a) b in
       let match : ℕ = waiterMatch (t .tasks) (t .lines) a bits in
       let (u, (off, (one, m))) = row-of a lt in
@@ -201,7 +202,7 @@ module _ (t : Tables) (typed : Typed t) (s : Sound t) where
       (λ e. bits-change t (sound-settles t typed s) a lt bits (u, (λ o. absurd (used o), (one, match-none a bits (eqb-true match 0 e)))))
       (λ e.
       let some : 0 < waitersOf t a = ltb-true 0 (waitersOf t a) (match-waits (t .tasks) (t .lines) a bits e) in
-      let low : eventLine a < 32 = omega arith in
+      let low : eventLine a < postedLine 0 = omega arith in
       let none = served-none a match lt some in
       bits-change (withQueued t (woken (waiterOf t a) 0 match (taskQueues (t .tasks) (t .lines))))
       (first-wakes t typed s (eventLine a) low some match) a lt (cleared bits match)

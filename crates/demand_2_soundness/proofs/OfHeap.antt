@@ -1,5 +1,5 @@
 -- Calls 60 and 61 keep what dispatch starts from.
-use Prim.Native.Nat.{ℕ, zero, suc, _+_, _-_, _/_, _%_, _<_, _≤_}
+use Prim.Native.Nat.{ℕ, zero, suc, _+_, _-_, _/_, _%_, _<_, _≤_, _*_}
 use mathlib.Core.Path.{_≡_, refl, sym, ap, _∙_}
 use mathlib.Core.Logic.{_≢_, _⊎_, inl, inr, ⊎-elim}
 use mathlib.Core.Bool.{true, false, not, _&&_, _||_}
@@ -15,7 +15,7 @@ use Rattle.basics.specs.Find.{firstBelow}
 use Rattle.basics.proofs.Laws.{same?, lt-or-le}
 use Rattle.basics.proofs.Runs.{getD-sets-out, getD-sets-in}
 use Rattle.basics.proofs.Finds.{first-below-is}
-use Rattle.rules.specs.Tables.{Typed, heapUnits}
+use Rattle.rules.specs.Tables.{Typed, heapUnits, unitBytes}
 use Rattle.rules.specs.Answer.{called, asked, Words}
 use Rattle.rules.specs.Dispatch.{context}
 use Rattle.rules.specs.Sound.{Sound, heapRule}
@@ -32,7 +32,7 @@ use Rattle.demand_2_soundness.proofs.Standing.{sound-almost}
 use Rattle.demand_2_soundness.proofs.Objects.{free-is}
 
 -- ---- entries stored from unit u on
-module _ (h : List ℕ) (u : ℕ) (es : List ℕ) (fits : u + length es ≤ heapUnits) (all : length h ≡ 256) where
+module _ (h : List ℕ) (u : ℕ) (es : List ℕ) (fits : u + length es ≤ heapUnits) (all : length h ≡ heapUnits) where
   stored : withUnits h u es ≡ sets h u es
   stored = rw (le-leb (u + length es) heapUnits fits)
 
@@ -45,7 +45,7 @@ module _ (h : List ℕ) (u : ℕ) (es : List ℕ) (fits : u + length es ≤ heap
 
   -- they are a block, or free, and who follows is no later one of a free unit
   module _ (rule : Means (heapRule h))
-      (below : (k : ℕ) → k < length es → getD es k 0 < 3)
+      (below : (k : ℕ) → k < length es → getD es k 0 < suc laterIn)
       (later : (k : ℕ) → k < length es → getD es k 0 ≡ laterIn → (k ≢ 0) × (getD es (k - 1) 0 ≢ 0))
       (next : u + length es < heapUnits → unit h (u + length es) ≡ laterIn → getD es (length es - 1) 0 ≢ 0)
       (some : 0 < length es) where
@@ -89,13 +89,13 @@ module _ (h : List ℕ) (u : ℕ) (es : List ℕ) (fits : u + length es ≤ heap
         (lt-or-le v u)
 
 -- ---- "60 take": the lowest run is free, and a block stands there now
-first-mark : (m k : ℕ) → k < suc m → (getD (firstOf ∷ replicate m laterIn) k 0 ≢ 0) × (getD (firstOf ∷ replicate m laterIn) k 0 < 3)
+first-mark : (m k : ℕ) → k < suc m → (getD (firstOf ∷ replicate m laterIn) k 0 ≢ 0) × (getD (firstOf ∷ replicate m laterIn) k 0 < suc laterIn)
 first-mark m zero l = (λ e. omega arith, omega arith)
 first-mark m (suc k) l =
     let e : getD (firstOf ∷ replicate m laterIn) (suc k) 0 ≡ laterIn = getD-replicate m k laterIn 0 (omega arith) in
     (λ z. omega arith, omega arith)
 
-module _ (h : List ℕ) (all : length h ≡ 256) (rule : Means (heapRule h)) where
+module _ (h : List ℕ) (all : length h ≡ heapUnits) (rule : Means (heapRule h)) where
   take-rule : (n u : ℕ) → 0 < n → u + n ≤ heapUnits → Means (heapRule (withUnits h u (firstOf ∷ replicate (n - 1) laterIn)))
   take-rule n u low fits =
       let size : length (firstOf ∷ replicate (n - 1) laterIn) ≡ n = ap suc (length-replicate (n - 1) laterIn) ∙ omega arith in
@@ -160,7 +160,7 @@ module _ (t : Tables) (typed : Typed t) (s : Sound t) where
   unfolding takeCases takeEffect
   take-keeps x a b c d z =
       let ok = accepted-is (takeCases (t .heap) x a b c d) z in
-      let n : a ≢ 0 = eqb-false a 0 (neither (eqb a 0) _ (neither (eqb a 0 || not (leb a 2048)) _ (ok .at4) .0) .0) in
+      let n : a ≢ 0 = eqb-false a 0 (neither (eqb a 0) _ (neither (eqb a 0 || not (leb a (heapUnits * unitBytes))) _ (ok .at4) .0) .0) in
       let low : 0 < unitsOf a = omega arith in
       heap-settles (lowestRun (t .heap) (unitsOf a)) (firstOf ∷ replicate (unitsOf a - 1) laterIn)
       (take-rule (t .heap) (typed .heap) (s .heap) (unitsOf a) (lowestRun (t .heap) (unitsOf a)) low
@@ -171,9 +171,9 @@ module _ (t : Tables) (typed : Typed t) (s : Sound t) where
   give-keeps x a b c d z =
       let ok = accepted-is (giveCases (t .heap) x a b c d) z in
       let is : isBlock (t .heap) a b ≡ true = not-false _ (neither (not (isBlock (t .heap) a b)) _ (ok .at4) .0) in
-      let e = both (eqb (a % 8) 0) _ (both (eqb (a % 8) 0 && eqb (unit (t .heap) (a / 8)) firstOf) _ is .0) .1 in
-      heap-settles (a / 8) (zeros (blockSize (t .heap) (a / 8)))
-      (give-rule (t .heap) (typed .heap) (s .heap) (a / 8) (eqb-true _ _ e))
+      let e = both (eqb (a % unitBytes) 0) _ (both (eqb (a % unitBytes) 0 && eqb (unit (t .heap) (a / unitBytes)) firstOf) _ is .0) .1 in
+      heap-settles (a / unitBytes) (zeros (blockSize (t .heap) (a / unitBytes)))
+      (give-rule (t .heap) (typed .heap) (s .heap) (a / unitBytes) (eqb-true _ _ e))
 
 pub heap-keeps : (t : Tables) → Typed t → Sound t → (number a b c d : ℕ) → Words (asked number a b c d)
     → Keeps (withHeap t) (heapCall (t .heap) (context (t .lines) (t .state)) number a b c d)

@@ -1,4 +1,5 @@
 -- Calls 40 to 43 keep what dispatch starts from.
+-- In this order: what is read of a mailbox; one mailbox changes; calls 40 to 43, one after the other; and all of them.
 use Prim.Native.Nat.{ℕ, suc, _-_, _<_, _≤_}
 use mathlib.Core.Path.{_≡_, refl, sym, ap, _∙_}
 use mathlib.Core.Logic.{_≢_, _⊎_, inl, inr, ⊎-elim}
@@ -12,7 +13,8 @@ use Rattle.basics.specs.Lists.{zeros}
 use Rattle.basics.specs.Rule.{Means}
 use Rattle.rules.specs.Answer.{Effect, called, unused, asked, Words}
 use Rattle.rules.specs.Tables.{Typed, wordEnd, task, current, reading, writing, mailboxCount, mailboxMost, mailbox, mailboxRow, messages, withMessages, CAPACITY, MESSAGES}
-use Rattle.rules.specs.Lines.{TaskQueues, taskQueues, line, mailboxLine, anyone, frontOf}
+use Rattle.rules.specs.Tables.{mailboxWidth}
+use Rattle.rules.specs.Lines.{TaskQueues, taskQueues, line, mailboxLine, anyone, frontOf, postedLine}
 use Rattle.rules.specs.Dispatch.{context}
 use Rattle.rules.specs.Sound.{Sound, mailboxRule}
 use Rattle.rules.specs.Step.{withMailboxes, withQueued}
@@ -23,7 +25,7 @@ use Rattle.rules_laws.proofs.Rows.{by-range, length-withRow, row-same, row-othe
 use Rattle.rules_laws.proofs.Listed.{zero-at}
 use Rattle.rules_laws.proofs.Calls.{chosen}
 use Rattle.demand_2_soundness.proofs.Groups.{Settling, Keeps}
-use Rattle.demand_2_soundness.proofs.Codes.{accepted-is, object-used}
+use Rattle.demand_2_soundness.proofs.Codes.{accepted-is, used-object}
 use Rattle.demand_2_soundness.proofs.TaskRows.{task-stands, mailbox-row}
 use Rattle.demand_2_soundness.proofs.Standing.{sound-almost}
 use Rattle.demand_2_soundness.proofs.Moves.{Welcome}
@@ -61,21 +63,21 @@ module _ (t : Tables) (s : Settling t) (i : ℕ) (lt : i < mailboxCount) where
 
   -- made anew where nobody waits, with no messages
   row-changes : (c : ℕ) → c < suc mailboxMost → length (waiters t i) ≡ 0
-      → Settling (withMailboxes t (waitTables (t .tasks) (t .lines) (mailboxRow (t .mailboxes) i (c ∷ zeros 9))))
+      → Settling (withMailboxes t (waitTables (t .tasks) (t .lines) (mailboxRow (t .mailboxes) i (c ∷ zeros (mailboxWidth - 1)))))
   row-changes c small none =
-      let ms : List ℕ = mailboxRow (t .mailboxes) i (c ∷ zeros 9) in
-      changes ms (length-withRow 10 8 (t .mailboxes) i (c ∷ zeros 9))
-      (row-other 10 8 (t .mailboxes) i (c ∷ zeros 9) refl)
+      let ms : List ℕ = mailboxRow (t .mailboxes) i (c ∷ zeros (mailboxWidth - 1)) in
+      changes ms (length-withRow mailboxWidth mailboxCount (t .mailboxes) i (c ∷ zeros (mailboxWidth - 1)))
+      (row-other mailboxWidth mailboxCount (t .mailboxes) i (c ∷ zeros (mailboxWidth - 1)) refl)
       (record {
         range = rw (word 0 (omega arith)) small;
         held = omega (arith, word 1 (omega arith));
-        behind = λ k low high. word (suc (suc k)) (omega arith) ∙ zero-at 9 (suc k);
+        behind = λ k low high. word (suc (suc k)) (omega arith) ∙ zero-at (mailboxWidth - 1) (suc k);
         free = λ e. none;
         waiters = λ k h. absurd (omega arith);
       })
     where
-      word : (f : ℕ) → f < 10 → mailbox (mailboxRow (t .mailboxes) i (c ∷ zeros 9)) i f ≡ getD (c ∷ zeros 9) f 0
-      word = row-same 10 8 (t .mailboxes) i (c ∷ zeros 9) (omega (arith, s .almost .typed .mailboxes)) refl lt
+      word : (f : ℕ) → f < mailboxWidth → mailbox (mailboxRow (t .mailboxes) i (c ∷ zeros (mailboxWidth - 1))) i f ≡ getD (c ∷ zeros (mailboxWidth - 1)) f 0
+      word = row-same mailboxWidth mailboxCount (t .mailboxes) i (c ∷ zeros (mailboxWidth - 1)) (omega (arith, s .almost .typed .mailboxes)) refl lt
 
   -- its messages become xs
   messages-change : (xs : List ℕ) → length xs ≤ capacity t i
@@ -104,7 +106,7 @@ module _ (t : Tables) (typed : Typed t) (s : Sound t) where
   unfolding createCases createEffect freeMailbox
   create x a b c d z =
       let ok = accepted-is (createCases (t .mailboxes) x a b c d) z in
-      let (lt, free) = free-is 8 (λ i. eqb (capacity t i) 0) (ok .at6) in
+      let (lt, free) = free-is mailboxCount (λ i. eqb (capacity t i) 0) (ok .at6) in
       let (bad, rest) = neither (eqb a 0 || not (leb a mailboxMost)) (unused 0 b c d) (ok .at4) in
       let (low, high) = neither (eqb a 0) (not (leb a mailboxMost)) bad in
       let i : ℕ = freeMailbox (t .mailboxes) in
@@ -115,7 +117,7 @@ module _ (t : Tables) (typed : Typed t) (s : Sound t) where
   unfolding deleteCases deleteEffect
   delete x a b c d z =
       let ok = accepted-is (deleteCases (t .lines) (t .mailboxes) x a b c d) z in
-      let lt : a < 8 = row-used 10 8 (t .mailboxes) a 0 (eqb-false (capacity t a) 0 (object-used _ _ (ok .at3) (ok .at11))) in
+      let lt : a < mailboxCount = row-used mailboxWidth mailboxCount (t .mailboxes) a CAPACITY (used-object _ _ (ok .at3) (ok .at11)) in
       let (nobody, rest) = neither (anyone (t .lines) (mailboxLine a)) (not (eqb (number t a) 0)) (ok .at5) in
       row-changes t (sound-settles t typed s) a lt 0 (omega arith) (omega (arith, ltb-false 0 (length (waiters t a)) nobody))
 
@@ -136,7 +138,7 @@ module _ (t : Tables) (typed : Typed t) (s : Sound t) where
     nobody noReader noWriter =
         let xs : List ℕ = waiters t a in
         let i : ℕ = front t a in
-        let low : mailboxLine a < 32 = omega arith in
+        let low : mailboxLine a < postedLine 0 = omega arith in
         by-range 0 (length xs)
         (λ some.
         let home = member-home t (sound-almost t typed s) (mailboxLine a) (inl low) 0 some in
@@ -204,9 +206,9 @@ module _ (t : Tables) (typed : Typed t) (s : Sound t) where
   unfolding postCases postEffect postWaits isFull
   post a b c d word z =
       let ok = accepted-is (postCases (t .tasks) (t .lines) (t .mailboxes) (t .state) (context (t .lines) (t .state)) a c d) z in
-      let used : capacity t a ≢ 0 = eqb-false (capacity t a) 0 (object-used _ _ (ok .at3) (ok .at11)) in
-      let lt : a < 8 = row-used 10 8 (t .mailboxes) a 0 used in
-      let low : mailboxLine a < 32 = omega arith in
+      let used : capacity t a ≢ 0 = used-object _ _ (ok .at3) (ok .at11) in
+      let lt : a < mailboxCount = row-used mailboxWidth mailboxCount (t .mailboxes) a CAPACITY used in
+      let low : mailboxLine a < postedLine 0 = omega arith in
       let upto : number t a ≤ capacity t a = omega (arith, row-of a lt .held) in
       chosen (Leaves t) (waitsFirst (t .tasks) (t .lines) a reading) _ _
       (λ e. first-wakes t typed s (mailboxLine a) low (some-first a reading e) b)
@@ -230,8 +232,8 @@ module _ (t : Tables) (typed : Typed t) (s : Sound t) where
   unfolding pendCases pendEffect pendWaits oldestTaken
   pend a b c d word z =
       let ok = accepted-is (pendCases (t .mailboxes) (t .state) (context (t .lines) (t .state)) a b c d) z in
-      let used : capacity t a ≢ 0 = eqb-false (capacity t a) 0 (object-used _ _ (ok .at3) (ok .at11)) in
-      let lt : a < 8 = row-used 10 8 (t .mailboxes) a 0 used in
+      let used : capacity t a ≢ 0 = used-object _ _ (ok .at3) (ok .at11) in
+      let lt : a < mailboxCount = row-used mailboxWidth mailboxCount (t .mailboxes) a CAPACITY used in
       let upto : number t a ≤ capacity t a = omega (arith, row-of a lt .held) in
       chosen (Leaves t) (eqb (number t a) 0) _ _
       (λ e.

@@ -1,4 +1,5 @@
 -- Calls 20 to 24 keep what dispatch starts from.
+-- In this order: a semaphore's rule by its words; one semaphore changes; calls 20 to 24, one after the other; and all of them.
 use Prim.Native.Nat.{ℕ, suc, _+_, _-_, _*_, _<_, _≤_}
 use mathlib.Core.Path.{_≡_, refl}
 use mathlib.Core.Logic.{_≢_}
@@ -17,11 +18,12 @@ use Rattle.rules.specs.Sound.{Sound, semaphoreRule}
 use Rattle.rules.specs.Step.{withSemaphores}
 use Rattle.rules.specs.Waits.{WaitTables, waitTables, waiting}
 use Rattle.rules.specs.Semaphores.{freeSemaphore, most, pendWaits, countUp, semaphoreCall, createCases, createEffect, deleteCases, deleteEffect, resetCases, resetEffect, pendCases, pendEffect, postCases, postEffect}
+use Rattle.rules.specs.Semaphores.{kindCount}
 use Rattle.rules.specs.declared.Tables.{Tables}
 use Rattle.rules_laws.proofs.Rows.{length-withRow, row-same, row-other, length-withField, field-same, field-other, field-row, row-used}
 use Rattle.rules_laws.proofs.Calls.{chosen}
 use Rattle.demand_2_soundness.proofs.Groups.{Settling, Keeps}
-use Rattle.demand_2_soundness.proofs.Codes.{accepted-is, object-used}
+use Rattle.demand_2_soundness.proofs.Codes.{accepted-is, used-object}
 use Rattle.demand_2_soundness.proofs.Moves.{Welcome}
 use Rattle.demand_2_soundness.proofs.Waiting.{neither, current-row, current-used, at-semaphore-row}
 use Rattle.demand_2_soundness.proofs.Chosen.{chosen-keeps, unknown-keeps, sound-settles}
@@ -32,7 +34,7 @@ abbrev semaphoreBy : ℕ → ℕ → ℕ → ℕ → Rule
 semaphoreBy used kind n waiters =
     (used under 2)
     and (used is 0 gives (kind is 0) and (n is 0) and (waiters is 0))
-    and (kind under 4)
+    and (kind under kindCount)
     and (n under suc (most kind))
     and (waiters isnt 0 gives n is 0)
 
@@ -80,24 +82,24 @@ module _ (t : Tables) (s : Settling t) (i : ℕ) (lt : i < semaphoreCount) where
       → Settling (withSemaphores t (waitTables (t .tasks) (t .lines) (semaphoreRow (t .semaphores) i (u ∷ k ∷ n ∷ []))))
   row-changes u k n h =
       let ws : List ℕ = u ∷ k ∷ n ∷ [] in
-      changes (semaphoreRow (t .semaphores) i ws) (length-withRow 3 16 (t .semaphores) i ws)
-      (row-other 3 16 (t .semaphores) i ws refl)
+      changes (semaphoreRow (t .semaphores) i ws) (length-withRow semaphoreWidth semaphoreCount (t .semaphores) i ws)
+      (row-other semaphoreWidth semaphoreCount (t .semaphores) i ws refl)
       (row-rule (semaphoreRow (t .semaphores) i ws) (t .lines) i (word 0 (omega arith)) (word 1 (omega arith)) (word 2 (omega arith)) h)
     where
-      word : (f : ℕ) → f < 3 → semaphore (semaphoreRow (t .semaphores) i (u ∷ k ∷ n ∷ [])) i f ≡ getD (u ∷ k ∷ n ∷ []) f 0
-      word = row-same 3 16 (t .semaphores) i (u ∷ k ∷ n ∷ []) all refl lt
+      word : (f : ℕ) → f < semaphoreWidth → semaphore (semaphoreRow (t .semaphores) i (u ∷ k ∷ n ∷ [])) i f ≡ getD (u ∷ k ∷ n ∷ []) f 0
+      word = row-same semaphoreWidth semaphoreCount (t .semaphores) i (u ∷ k ∷ n ∷ []) all refl lt
 
   count-changes : (n : ℕ)
       → Means (semaphoreBy (inUse t i) (kindOf t i) n (waitersOf t i))
       → Settling (withSemaphores t (waitTables (t .tasks) (t .lines) (withSemaphore (t .semaphores) i COUNT n)))
   count-changes n h =
       let ss : List ℕ = t .semaphores in
-      changes (withSemaphore ss i COUNT n) (length-withField 3 16 ss i 2 n)
-      (field-row 3 16 ss i 2 n)
+      changes (withSemaphore ss i COUNT n) (length-withField semaphoreWidth semaphoreCount ss i COUNT n)
+      (field-row semaphoreWidth semaphoreCount ss i COUNT n)
       (row-rule (withSemaphore ss i COUNT n) (t .lines) i
-      (field-other 3 16 ss i 2 n 0 (λ e. omega arith))
-      (field-other 3 16 ss i 2 n 1 (λ e. omega arith))
-      (field-same 3 16 ss i 2 n all lt (omega arith)) h)
+      (field-other semaphoreWidth semaphoreCount ss i COUNT n USED (λ e. omega arith))
+      (field-other semaphoreWidth semaphoreCount ss i COUNT n KIND (λ e. omega arith))
+      (field-same semaphoreWidth semaphoreCount ss i COUNT n all lt (omega arith)) h)
 
 -- ---- the calls
 abbrev here : Tables → WaitTables
@@ -122,10 +124,10 @@ module _ (t : Tables) (typed : Typed t) (s : Sound t) where
   unfolding createCases createEffect freeSemaphore
   create x a b c d z =
       let ok = accepted-is (createCases (t .semaphores) x a b c d) z in
-      let (lt, free) = free-is 16 (λ i. eqb (inUse t i) 0) (ok .at6) in
-      let (bad, rest) = neither (not (ltb a 4) || not (leb b (most a))) (unused 0 0 c d) (ok .at4) in
-      let (kind, number) = neither (not (ltb a 4)) (not (leb b (most a))) bad in
-      let k : a < 4 = ltb-true a 4 (not-false (ltb a 4) kind) in
+      let (lt, free) = free-is semaphoreCount (λ i. eqb (inUse t i) 0) (ok .at6) in
+      let (bad, rest) = neither (not (ltb a kindCount) || not (leb b (most a))) (unused 0 0 c d) (ok .at4) in
+      let (kind, number) = neither (not (ltb a kindCount)) (not (leb b (most a))) bad in
+      let k : a < kindCount = ltb-true a kindCount (not-false (ltb a kindCount) kind) in
       let n : b ≤ most a = leb-true b (most a) (not-false (leb b (most a)) number) in
       let i : ℕ = freeSemaphore (t .semaphores) in
       let (kind0, (count0, none)) = row-of i lt .1 .0 (eqb-true (inUse t i) 0 free) in
@@ -135,7 +137,7 @@ module _ (t : Tables) (typed : Typed t) (s : Sound t) where
   unfolding deleteCases deleteEffect
   delete x a b c d z =
       let ok = accepted-is (deleteCases (t .lines) (t .semaphores) x a b c d) z in
-      let lt : a < 16 = row-used 3 16 (t .semaphores) a 0 (eqb-false (inUse t a) 0 (object-used _ _ (ok .at3) (ok .at11))) in
+      let lt : a < semaphoreCount = row-used semaphoreWidth semaphoreCount (t .semaphores) a USED (used-object _ _ (ok .at3) (ok .at11)) in
       let none : waitersOf t a ≡ 0 = omega (arith, ltb-false 0 (waitersOf t a) (ok .at5)) in
       row-changes t (sound-settles t typed s) a lt 0 0 0
       (omega arith, (λ e. (refl, (refl, none)), (omega arith, (omega arith, λ w. refl))))
@@ -144,8 +146,8 @@ module _ (t : Tables) (typed : Typed t) (s : Sound t) where
   unfolding resetCases resetEffect
   reset x a b c d z =
       let ok = accepted-is (resetCases (t .lines) (t .semaphores) x a b c d) z in
-      let used : inUse t a ≢ 0 = eqb-false (inUse t a) 0 (object-used _ _ (ok .at3) (ok .at11)) in
-      let lt : a < 16 = row-used 3 16 (t .semaphores) a 0 used in
+      let used : inUse t a ≢ 0 = used-object _ _ (ok .at3) (ok .at11) in
+      let lt : a < semaphoreCount = row-used semaphoreWidth semaphoreCount (t .semaphores) a USED used in
       let (bad, rest) = neither (not (leb b (most (kindOf t a)))) (unused 0 0 c d) (ok .at4) in
       let n : b ≤ most (kindOf t a) = leb-true b (most (kindOf t a)) (not-false (leb b (most (kindOf t a))) bad) in
       let none : waitersOf t a ≡ 0 = omega (arith, ltb-false 0 (waitersOf t a) (ok .at5)) in
@@ -156,8 +158,8 @@ module _ (t : Tables) (typed : Typed t) (s : Sound t) where
   unfolding postCases postEffect
   post a b c d z =
       let ok = accepted-is (postCases (t .semaphores) a b c d) z in
-      let used : inUse t a ≢ 0 = eqb-false (inUse t a) 0 (object-used _ _ (ok .at3) (ok .at11)) in
-      let lt : a < 16 = row-used 3 16 (t .semaphores) a 0 used in
+      let used : inUse t a ≢ 0 = used-object _ _ (ok .at3) (ok .at11) in
+      let lt : a < semaphoreCount = row-used semaphoreWidth semaphoreCount (t .semaphores) a USED used in
       let (u, (off, (k, (m, w)))) = row-of a lt in
       chosen (Leaves t) (ltb 0 (waitersOf t a)) _ _
       (λ e. first-wakes t typed s a (omega arith) (ltb-true 0 (waitersOf t a) e) 0)
@@ -183,8 +185,8 @@ module _ (t : Tables) (typed : Typed t) (s : Sound t) where
   unfolding pendCases pendEffect pendWaits
   pend a b c d word z =
       let ok = accepted-is (pendCases (t .semaphores) (t .state) (context (t .lines) (t .state)) a b c d) z in
-      let used : inUse t a ≢ 0 = eqb-false (inUse t a) 0 (object-used _ _ (ok .at3) (ok .at11)) in
-      let lt : a < 16 = row-used 3 16 (t .semaphores) a 0 used in
+      let used : inUse t a ≢ 0 = used-object _ _ (ok .at3) (ok .at11) in
+      let lt : a < semaphoreCount = row-used semaphoreWidth semaphoreCount (t .semaphores) a USED used in
       let (u, (off, (k, (m, w)))) = row-of a lt in
       chosen (Leaves t) (ltb 0 (countOf t a)) _ _
       (λ e.

@@ -1,4 +1,5 @@
 -- Calls 10 to 18 keep what dispatch starts from.
+-- In this order: the row of a Swi that is nowhere; the top active Swi ends; calls 10 to 18, one after the other; and all of them.
 use Prim.Native.Nat.{ℕ, suc, _-_, _<_, _≤_}
 use mathlib.Core.Path.{_≡_, refl, sym, ap, _∙_}
 use mathlib.Core.Logic.{_≢_, inl}
@@ -14,6 +15,7 @@ use Rattle.basics.specs.Rule.{Means}
 use Rattle.basics.proofs.Laws.{count-without-other}
 use Rattle.basics.proofs.Finds.{all-at}
 use Rattle.rules.specs.Tables.{Typed, swiCount, swiWidth, clockCount, swi, withSwi, swiRow, clock, state, USED, PRIORITY, INITIAL, TRIGGER, POSTED, TAKEN, DEPTH}
+use Rattle.rules.specs.Tables.{swiLevels}
 use Rattle.rules.specs.Lines.{anyone, line, outOf, postedLine, activeLine, swiHome}
 use Rattle.rules.specs.Answer.{T, S, I, CallRule, called, codeOf, asked, Words}
 use Rattle.rules.specs.Dispatch.{context}
@@ -25,7 +27,7 @@ use Rattle.rules_laws.proofs.Rows.{length-withRow, row-same, row-other}
 use Rattle.rules_laws.proofs.Lines.{length-left, left-same, left-other}
 use Rattle.rules_laws.proofs.Calls.{chosen}
 use Rattle.demand_2_soundness.proofs.Groups.{Almost, Settling, Keeps}
-use Rattle.demand_2_soundness.proofs.Codes.{accepted-is, object-used}
+use Rattle.demand_2_soundness.proofs.Codes.{accepted-is, used-object}
 use Rattle.demand_2_soundness.proofs.Waiting.{neither, sound-ranges, still-ready}
 use Rattle.demand_2_soundness.proofs.Chosen.{chosen-keeps, unknown-keeps, sound-settles}
 use Rattle.demand_2_soundness.proofs.Objects.{other-fails, free-is}
@@ -110,7 +112,7 @@ module _ (t : Tables) (a : Almost t) (some : 0 < length (line (t .lines) activeL
   unfolding ls
   other j n = left-other (t .lines) activeLine i j n
 
-  posted-stays : (q : ℕ) → q < 16 → line ls (postedLine q) ≡ line (t .lines) (postedLine q)
+  posted-stays : (q : ℕ) → q < swiLevels → line ls (postedLine q) ≡ line (t .lines) (postedLine q)
   posted-stays q h = other (postedLine q) (λ (e : postedLine q ≡ activeLine). omega arith)
 
   gone : line ls activeLine ≡ without i (line (t .lines) activeLine)
@@ -175,7 +177,7 @@ module _ (t : Tables) (typed : Typed t) (s : Sound t) where
       let r : List ℕ = 1 ∷ a ∷ b ∷ b ∷ 0 ∷ 0 ∷ [] in
       let (here, e) = free-is swiCount (λ i. eqb (swi (t .swis) i USED) 0) (ok .at6) in
       let free : swi (t .swis) i USED ≡ 0 = eqb-true _ _ e in
-      let low : a < 16 = ltb-true a 16 (not-false _ (neither (not (ltb a 16)) _ (ok .at4) .0)) in
+      let low : a < swiLevels = ltb-true a swiLevels (not-false _ (neither (not (ltb a swiLevels)) _ (ok .at4) .0)) in
       let at : (f : ℕ) → f < swiWidth → swi (swiRow (t .swis) i r) i f ≡ getD r f 0 =
       row-same swiWidth swiCount (t .swis) i r (omega (arith, typed .swis)) refl here in
       let none : 0 < count i (line (t .lines) activeLine) → ⊥ =
@@ -201,7 +203,7 @@ module _ (t : Tables) (typed : Typed t) (s : Sound t) where
   delete-keeps x a b c d z =
       let ok = accepted-is (deleteCases (t .swis) (t .lines) (t .clocks) x a b c d) z in
       let r : List ℕ = zeros swiWidth in
-      let here = swi-below (t .swis) a USED (eqb-false _ _ (object-used _ _ (ok .at3) (ok .at11))) in
+      let here = swi-below (t .swis) a USED (used-object _ _ (ok .at3) (ok .at11)) in
       let (quiet, unnamed) = neither (not (eqb (swi (t .swis) a POSTED) 0) || isActive (t .lines) a) _ (ok .at5) in
       let (un, idle) = neither (not (eqb (swi (t .swis) a POSTED) 0)) _ quiet in
       let none : count a (line (t .lines) activeLine) ≤ 0 = ltb-false 0 _ idle in
@@ -234,11 +236,11 @@ module _ (t : Tables) (typed : Typed t) (s : Sound t) where
 
   post-used : (a b c d : ℕ) → codeOf (postCases (t .swis) a b c d) ≡ 0 → swi (t .swis) a USED ≢ 0
   unfolding postCases
-  post-used a b c d z = eqb-false _ _ (object-used _ _ (accepted-is (postCases (t .swis) a b c d) z .at3) (accepted-is (postCases (t .swis) a b c d) z .at11))
+  post-used a b c d z = used-object _ _ (accepted-is (postCases (t .swis) a b c d) z .at3) (accepted-is (postCases (t .swis) a b c d) z .at11)
 
   mask-used : (a c d : ℕ) → codeOf (maskCases (t .swis) a c d) ≡ 0 → swi (t .swis) a USED ≢ 0
   unfolding maskCases
-  mask-used a c d z = eqb-false _ _ (object-used _ _ (accepted-is (maskCases (t .swis) a c d) z .at3) (accepted-is (maskCases (t .swis) a c d) z .at11))
+  mask-used a c d z = used-object _ _ (accepted-is (maskCases (t .swis) a c d) z .at3) (accepted-is (maskCases (t .swis) a c d) z .at11)
 
   post-keeps : (a b c d : ℕ) → Keeps (withPosts t) (called (postCases (t .swis) a b c d) (postEffect (swiQueues (t .swis) (t .lines)) a))
   unfolding postEffect

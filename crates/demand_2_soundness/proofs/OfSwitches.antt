@@ -1,5 +1,5 @@
 -- Calls 74 to 78 keep what dispatch starts from.
-use Prim.Native.Nat.{ℕ, _+_, _-_, _<_, _%_}
+use Prim.Native.Nat.{ℕ, _+_, _-_, _<_, _%_, suc}
 use mathlib.Core.Path.{_≡_, refl, sym, _∙_}
 use mathlib.Core.Logic.{_≢_, _⊎_, inl, inr, ⊎-elim}
 use mathlib.Core.List.{List}
@@ -11,7 +11,7 @@ use lib.ListN.{length, length-set}
 use lib.Seq.{getD-set-same, getD-set-other}
 use Rattle.basics.proofs.Laws.{same?}
 use Rattle.rules.specs.Answer.{Cases, CallRule, called, accepted, done, asked, Words}
-use Rattle.rules.specs.Tables.{StateRow, Typed, wordEnd, tables, state, withState, DEPTH, SWIS, TASKS, TICK, CURRENT, LEVELS, levels}
+use Rattle.rules.specs.Tables.{StateRow, Typed, wordEnd, tables, state, withState, DEPTH, SWIS, TASKS, TICK, CURRENT, LEVELS, levels, mostDepth, stateWidth}
 use Rattle.rules.specs.Dispatch.{context}
 use Rattle.rules.specs.Sound.{Sound}
 use Rattle.rules.specs.Step.{withTicked}
@@ -37,7 +37,7 @@ state-almost t a st all same =
     (a .semaphores) (a .events) (a .mailboxes) (a .clocks) (a .heap)
 
 -- one word of the state, not the current task, is v now
-module _ (st : List ℕ) (all : length st ≡ 6) (f v : ℕ) (front : f < 4) where
+module _ (st : List ℕ) (all : length st ≡ stateWidth) (f v : ℕ) (front : f < CURRENT) where
   word-under : (g n : ℕ) → (g ≡ f → v < n) → state st g < n → state (withState st f v) g < n
   word-under g n here h =
       ⊎-elim
@@ -46,15 +46,15 @@ module _ (st : List ℕ) (all : length st ≡ 6) (f v : ℕ) (front : f < 4) whe
       (same? g f)
 
   current-stays : state (withState st f v) CURRENT ≡ state st CURRENT
-  current-stays = getD-set-other st f CURRENT v 0 (λ (e : 4 ≡ f). omega arith)
+  current-stays = getD-set-other st f CURRENT v 0 (λ (e : CURRENT ≡ f). omega arith)
 
   levels-stay : state (withState st f v) LEVELS ≡ state st LEVELS
-  levels-stay = getD-set-other st f LEVELS v 0 (λ (e : 5 ≡ f). omega arith)
+  levels-stay = getD-set-other st f LEVELS v 0 (λ (e : LEVELS ≡ f). omega arith)
 
-  word-ranges : Ranges st → (f ≡ DEPTH → v < 9) → (f ≡ SWIS → v < 2) → (f ≡ TASKS → v < 2) → Ranges (withState st f v)
+  word-ranges : Ranges st → (f ≡ DEPTH → v < suc mostDepth) → (f ≡ SWIS → v < 2) → (f ≡ TASKS → v < 2) → Ranges (withState st f v)
   word-ranges r depth swis tasks =
       record {
-        depth = word-under DEPTH 9 (λ e. depth (sym e)) (r .depth);
+        depth = word-under DEPTH (suc mostDepth) (λ e. depth (sym e)) (r .depth);
         swis = word-under SWIS 2 (λ e. swis (sym e)) (r .swis);
         tasks = word-under TASKS 2 (λ e. tasks (sym e)) (r .tasks);
         current = rw current-stays (r .current);
@@ -63,25 +63,25 @@ module _ (st : List ℕ) (all : length st ≡ 6) (f v : ℕ) (front : f < 4) whe
 
 -- a state with its words in range, and the current task and the levels of the one before
 record Fits (before st : List ℕ) : Type 0 where
-  all : length st ≡ 6
+  all : length st ≡ stateWidth
   ranges : Ranges st
   same : state st CURRENT ≡ state before CURRENT
   leveled : levels st ≡ levels before
 
 module _ (before st : List ℕ) (h : Fits before st) (f v : ℕ) where
-  word-fits : f < 4 → (f ≡ DEPTH → v < 9) → (f ≡ SWIS → v < 2) → (f ≡ TASKS → v < 2) → Fits before (withState st f v)
+  word-fits : f < CURRENT → (f ≡ DEPTH → v < suc mostDepth) → (f ≡ SWIS → v < 2) → (f ≡ TASKS → v < 2) → Fits before (withState st f v)
   word-fits front depth swis tasks =
       record {
         all = length-set st f v ∙ h .all;
         ranges = word-ranges st (h .all) f v front (h .ranges) depth swis tasks;
         same = current-stays st (h .all) f v front ∙ h .same;
-        leveled = levels-same st f v (λ (e : 5 ≡ f). omega arith) ∙ h .leveled;
+        leveled = levels-same st f v (λ (e : LEVELS ≡ f). omega arith) ∙ h .leveled;
       }
 
   -- a switch, off or on
   switch-fits : (f ≡ SWIS) ⊎ (f ≡ TASKS) → v < 2 → Fits before (withState st f v)
   switch-fits which small =
-      word-fits (⊎-elim (λ (e : f ≡ 1). omega arith) (λ (e : f ≡ 2). omega arith) which) (λ _. omega arith) (λ _. small) (λ _. small)
+      word-fits (⊎-elim (λ (e : f ≡ SWIS). omega arith) (λ (e : f ≡ TASKS). omega arith) which) (λ _. omega arith) (λ _. small) (λ _. small)
 
 -- the switches that these bits name, one after the other
 turned-fits : (bits v : ℕ) → v < 2 → (st : List ℕ) → Fits st st → Fits st (turned bits v st)
@@ -113,9 +113,9 @@ module _ (t : Tables) (typed : Typed t) (s : Sound t) where
   in-settles : Settling (withStated t (inEffect (t .state) .next))
   unfolding inEffect
   in-settles =
-      chosen (λ (st : List ℕ). Settling (withStated t st)) (ltb (state (t .state) DEPTH) 8) _ _
+      chosen (λ (st : List ℕ). Settling (withStated t st)) (ltb (state (t .state) DEPTH) mostDepth) _ _
       (λ e.
-      let h = ltb-true (state (t .state) DEPTH) 8 e in
+      let h = ltb-true (state (t .state) DEPTH) mostDepth e in
       fits-settles (word-fits _ _ unchanged DEPTH _ (omega arith) (λ _. omega arith) (λ q. absurd (omega arith)) (λ q. absurd (omega arith))))
       (λ _. sound-settles t typed s)
 

@@ -1,5 +1,6 @@
 -- Calls 00 to 06 keep what dispatch starts from.
-use Prim.Native.Nat.{ℕ, _<_, _≤_}
+-- In this order: rows; lines; tests; calls 00 to 06, one after the other; and all of them.
+use Prim.Native.Nat.{ℕ, _<_, _≤_, suc}
 use mathlib.Core.Path.{_≡_, refl, sym, ap, _∙_}
 use mathlib.Core.Logic.{_≢_, _⊎_, inl, inr, ⊎-elim}
 use mathlib.Core.Bool.{Bool, true, false, _||_, true≢false, cond as if}
@@ -11,7 +12,8 @@ use Rattle.basics.specs.Rule.{Means}
 use Rattle.basics.proofs.Laws.{same?, lt-or-le}
 use Rattle.rules.specs.Answer.{Effect, called, asked, Words}
 use Rattle.rules.specs.Tables.{Typed, taskCount, levels, minusOne, forever, wordEnd, notInUse, ready, sleeping, writing, terminated, inactive, task, withTask, noTask, state, current, CURRENT}
-use Rattle.rules.specs.Lines.{lineCount, TaskQueues, homeBy, taskQueues, moved, atBack}
+use Rattle.rules.specs.Tables.{atSemaphore}
+use Rattle.rules.specs.Lines.{lineCount, TaskQueues, homeBy, taskQueues, moved, atBack, nowhere}
 use Rattle.rules.specs.Waits.{waiting}
 use Rattle.rules.specs.Dispatch.{context}
 use Rattle.rules.specs.Sound.{Sound, noWait, taskRule}
@@ -22,7 +24,7 @@ use Rattle.rules.specs.declared.Task.{Task}
 use Rattle.rules_laws.proofs.Levels.{levels-under}
 use Rattle.rules_laws.proofs.Calls.{chosen}
 use Rattle.demand_2_soundness.proofs.Groups.{Settling, Keeps}
-use Rattle.demand_2_soundness.proofs.Codes.{accepted-is, object-used}
+use Rattle.demand_2_soundness.proofs.Codes.{accepted-is, used-object}
 use Rattle.demand_2_soundness.proofs.Standing.{sound-almost}
 use Rattle.demand_2_soundness.proofs.Moves.{Welcome, moved-row, moved-rows, moved-keeps, row-keeps}
 use Rattle.demand_2_soundness.proofs.TaskRows.{task-other, in-use, home-none}
@@ -60,7 +62,7 @@ placed-row st i k n clear small unmet p h =
 placed-welcome : (t : Tables) (i : ℕ) (k : Task) (p : ℕ) → Welcome t i (placedAt k p)
 placed-welcome t i k p = welcome-none t i (placedAt k p) (go (eqb p minusOne))
   where
-    go : (b : Bool) → (if b inactive ready < 3) ⊎ (6 < if b inactive ready)
+    go : (b : Bool) → (if b inactive ready < atSemaphore) ⊎ (writing < if b inactive ready)
     go true = inr (omega arith)
     go false = inl (omega arith)
 
@@ -87,16 +89,17 @@ either-eq x a b e =
     ⊎-elim inl (λ (n : x ≢ a). inr (eqb-true x b (rw (ne-eqb x a n) at e))) (same? x a)
 
 -- ---- tests
-is-blocked : (m : ℕ) → blocked m ≡ true → (1 < m) × (m < 7)
+is-blocked : (m : ℕ) → blocked m ≡ true → (1 < m) × (m < terminated)
 is-blocked m e = let (low, high) = both (leb sleeping m) (leb m writing) e in (leb-true sleeping m low, omega (arith, leb-true m writing high))
 
 -- a task in use that is neither blocked nor terminated
-ready-or-inactive : (m : ℕ) → blocked m ≡ false → m ≢ notInUse → m ≢ terminated → m < 9 → (m ≡ ready) ⊎ (m ≡ inactive)
+ready-or-inactive : (m : ℕ) → blocked m ≡ false → m ≢ notInUse → m ≢ terminated → m < suc inactive → (m ≡ ready) ⊎ (m ≡ inactive)
 ready-or-inactive m e used runs range =
     ⊎-elim
-    (λ (h : m < 2). inl (omega arith))
-    (λ (h : 2 ≤ m). inr (let past : 6 < m = leb-false m writing (other-fails (leb sleeping m) (leb m writing) e (le-leb sleeping m h)) in omega arith))
-    (lt-or-le m 2)
+    (λ (h : m < sleeping). inl (omega arith))
+    (λ (h : sleeping ≤ m).
+    inr (let past : writing < m = leb-false m writing (other-fails (leb sleeping m) (leb m writing) e (le-leb sleeping m h)) in omega arith))
+    (lt-or-le m sleeping)
 
 module _ (t : Tables) (typed : Typed t) (s : Sound t) where
   -- another mode than ready: not task 0, and not the current task
@@ -129,16 +132,16 @@ module _ (t : Tables) (typed : Typed t) (s : Sound t) where
   delete-keeps x a b c d z =
       let ok = accepted-is (deleteCases (t .tasks) x a b c d) z in
       let m = task (t .tasks) a .mode in
-      let lt : a < taskCount = in-use (t .tasks) a (eqb-false m 0 (object-used _ _ (ok .at3) (ok .at11))) in
-      let past : 6 < m =
-      ⊎-elim (λ (e : m ≡ 7). omega arith) (λ (e : m ≡ 8). omega arith) (either-eq m 7 8 (not-false _ (ok .at5))) in
+      let lt : a < taskCount = in-use (t .tasks) a (used-object _ _ (ok .at3) (ok .at11)) in
+      let past : writing < m =
+      ⊎-elim (λ (e : m ≡ terminated). omega arith) (λ (e : m ≡ inactive). omega arith) (either-eq m terminated inactive (not-false _ (ok .at5))) in
       let rest : m ≢ ready = λ e. omega arith in
       let nowhere-now =
       home-none (task (t .tasks) a) rest (λ e. omega arith) (λ e. omega arith) (λ e. omega arith) (λ e. omega arith) in
       let row = no-row _ a (not-first a lt rest) in
       let almost = sound-almost t typed s in
       record {
-        almost = row-keeps t almost a noTask lt row (sym nowhere-now) (λ (h : 255 < lineCount). absurd (omega arith));
+        almost = row-keeps t almost a noTask lt row (sym nowhere-now) (λ (h : nowhere < lineCount). absurd (omega arith));
         ranges = sound-ranges t s;
         current = inl (ap (λ (k : Task). k .mode) (task-other (t .tasks) a noTask _ (not-current a rest)) ∙ still-ready t s);
       }
@@ -189,7 +192,7 @@ module _ (t : Tables) (typed : Typed t) (s : Sound t) where
   set-priority-keeps x a b c d z =
       let ok = accepted-is (setPriorityCases (t .tasks) (t .state) x a b c d) z in
       let m = task (t .tasks) a .mode in
-      let used = eqb-false m 0 (object-used _ _ (ok .at3) (ok .at11)) in
+      let used = used-object _ _ (ok .at3) (ok .at11) in
       let lt : a < taskCount = in-use (t .tasks) a used in
       let level = is-priority (t .state) b (not-false _ (neither _ _ (ok .at4) .0)) in
       let (other, last) = neither _ _ (ok .at5) in

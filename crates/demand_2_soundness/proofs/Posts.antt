@@ -10,7 +10,7 @@ use lib.ListN.{length}
 use Rattle.basics.specs.Lists.{bit, count}
 use Rattle.basics.specs.Rule.{Means}
 use Rattle.basics.proofs.Laws.{same?, count-putAt}
-use Rattle.rules.specs.Tables.{swiCount, swi, withSwi, PRIORITY, TRIGGER, POSTED, TAKEN, USED}
+use Rattle.rules.specs.Tables.{swiCount, swi, withSwi, PRIORITY, TRIGGER, POSTED, TAKEN, USED, swiLevels}
 use Rattle.rules.specs.Lines.{line, joined, atBack, postedLine, activeLine, swiHome}
 use Rattle.rules.specs.Swis.{swiQueues, posted, triggered}
 use Rattle.rules.specs.Sound.{swiRule}
@@ -51,7 +51,7 @@ module _ (t : Tables) (a : Almost t) (i : ℕ) (used : swi (t .swis) i USED ≢ 
   ls : List ℕ
   ls = joined (postedLine p) i (t .lines)
 
-  low : p < 16
+  low : p < swiLevels
   unfolding p
   low = priority-below (t .swis) (t .lines) (a .swis) i
 
@@ -79,14 +79,14 @@ module _ (t : Tables) (a : Almost t) (i : ℕ) (used : swi (t .swis) i USED ≢ 
       ap (count x) (entered-same (t .lines) (postedLine p) i atBack (omega arith) (a .typed .lines) (omega arith))
       ∙ count-putAt x (length (line (t .lines) (postedLine p))) i (line (t .lines) (postedLine p))
 
-  counts : (x q : ℕ) → x ≢ i → q < 16 → count x (line ls (postedLine q)) ≡ count x (line (t .lines) (postedLine q))
+  counts : (x q : ℕ) → x ≢ i → q < swiLevels → count x (line ls (postedLine q)) ≡ count x (line (t .lines) (postedLine q))
   counts x q n h =
       ⊎-elim
       (λ (e : q ≡ p). rw e (count-there x ∙ rw (ne-eqb i x (λ d. n (sym d))) (omega arith)))
       (λ (m : q ≢ p). ap (count x) (other (postedLine q) (λ (e : postedLine q ≡ postedLine p). m (omega arith))))
       (same? q p)
 
-  stands : swi (t .swis) i POSTED ≡ 0 → (q : ℕ) → q < 16 → count i (line ls (postedLine q)) ≡ bit (eqb (swiHome ws i) (postedLine q))
+  stands : swi (t .swis) i POSTED ≡ 0 → (q : ℕ) → q < swiLevels → count i (line ls (postedLine q)) ≡ bit (eqb (swiHome ws i) (postedLine q))
   unfolding p
   stands un q h =
       let home : swiHome ws i ≡ postedLine p = home-posted ws i now ∙ ap postedLine (same i PRIORITY (λ e. omega arith)) in

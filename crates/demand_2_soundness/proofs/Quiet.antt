@@ -4,11 +4,12 @@ use mathlib.Core.Path.{_≡_, refl, sym, ap, _∙_}
 use mathlib.Core.Bool.{Bool, true, false, not, _&&_, _||_, true≢false, cond as if}
 use mathlib.Core.List.{List}
 use native.Mathlib.Omega.{arith}
-use borrow.Author.Tests.{eqb-true, eqb-false, ne-eqb}
+use borrow.Author.Tests.{eqb-true, ne-eqb}
 use lib.Dec.{eqb, ltb}
 use Rattle.basics.specs.Rule.{Means}
 use Rattle.rules.specs.Answer.{Cases, Effect, accepted, CallRule, called, codeOf, done, notMet, nowWaiting}
-use Rattle.rules.specs.Tables.{noTask, reading, writing, semaphore, event, mailbox, current, USED, COUNT, BITS, CAPACITY, MESSAGES, levels}
+use Rattle.rules.specs.Tables.{noTask, reading, writing, semaphore, event, mailbox, current, USED, COUNT, BITS, CAPACITY, MESSAGES, levels, eventCount}
+use Rattle.rules.specs.Tables.{eventWidth, mailboxCount, mailboxWidth, semaphoreCount, semaphoreWidth}
 use Rattle.rules.specs.Lines.{semaphoreLine, mailboxLine, eventLine, postedLine, line, anyone, frontOf, homeBy, TaskQueues, atBack}
 use Rattle.rules.specs.Waits.{WaitTables, waitTables, queuesOf, wakesFirst}
 use Rattle.rules.specs.Sound.{tasksRule}
@@ -19,7 +20,7 @@ use Rattle.rules.specs.Mailboxes as Mailboxes
 use Rattle.rules_laws.proofs.Rows.{row-used}
 use Rattle.rules_laws.proofs.Calls.{chosen}
 use Rattle.demand_2_soundness.proofs.Groups.{SwisStay, NeverWaits}
-use Rattle.demand_2_soundness.proofs.Codes.{accepted-is, object-used}
+use Rattle.demand_2_soundness.proofs.Codes.{accepted-is, used-object}
 use Rattle.demand_2_soundness.proofs.Standing.{first-not}
 use Rattle.demand_2_soundness.proofs.Objects.{match-waits, first-waits}
 use Rattle.demand_2_soundness.proofs.Aside.{home-aside, moved-aside, waits-aside, woken-aside, placed-aside, priority-aside}
@@ -96,7 +97,7 @@ module _ (q : WaitTables) (sx : List ℕ) (rows : Means (tasksRule (levels sx) (
   unfolding Semaphores.pendCases Semaphores.pendEffect homeBy
   pend-leaves z =
       let ok = accepted-is (Semaphores.pendCases (q .objects) st x a b c d) z in
-      let lt : a < 16 = row-used 3 16 (q .objects) a 0 (eqb-false (semaphore (q .objects) a USED) 0 (object-used _ _ (ok .at3) (ok .at11))) in
+      let lt : a < semaphoreCount = row-used semaphoreWidth semaphoreCount (q .objects) a USED (used-object _ _ (ok .at3) (ok .at11)) in
       tested (ltb 0 (semaphore (q .objects) a COUNT)) (stays refl)
       (tested (eqb b 0) (stays refl) (goes refl (waits-aside (queuesOf q) sx rows _ (current st) _ (omega arith))))
 
@@ -104,7 +105,7 @@ module _ (q : WaitTables) (sx : List ℕ) (rows : Means (tasksRule (levels sx) (
   unfolding Semaphores.postCases Semaphores.postEffect
   post-leaves e z =
       let ok = accepted-is (Semaphores.postCases (q .objects) a b c d) z in
-      let lt : a < 16 = row-used 3 16 (q .objects) a 0 (eqb-false (semaphore (q .objects) a USED) 0 (object-used _ _ (ok .at3) (ok .at11))) in
+      let lt : a < semaphoreCount = row-used semaphoreWidth semaphoreCount (q .objects) a USED (used-object _ _ (ok .at3) (ok .at11)) in
       chosen (LeavesBy 0x23) (anyone (q .lines) (semaphoreLine a)) _ _
       (wakes-one q sx rows never (semaphoreLine a) 0 (q .objects) (λ i n. rw (e, n)) (omega arith))
       (λ _. stays refl)
@@ -122,7 +123,7 @@ module _ (q : WaitTables) (sx : List ℕ) (rows : Means (tasksRule (levels sx) (
   unfolding Events.pendCases Events.pendEffect homeBy
   event-pend-leaves z =
       let ok = accepted-is (Events.pendCases (q .lines) (q .objects) st x a b c d) z in
-      let lt : a < 8 = row-used 2 8 (q .objects) a 0 (eqb-false (event (q .objects) a USED) 0 (object-used _ _ (ok .at3) (ok .at11))) in
+      let lt : a < eventCount = row-used eventWidth eventCount (q .objects) a USED (used-object _ _ (ok .at3) (ok .at11)) in
       tested (eqb (Events.matched (event (q .objects) a BITS) b c) 0)
       (tested (eqb d 0) (stays refl) (goes refl (waits-aside (queuesOf q) sx rows _ (current st) _ (omega arith))))
       (stays refl)
@@ -131,7 +132,7 @@ module _ (q : WaitTables) (sx : List ℕ) (rows : Means (tasksRule (levels sx) (
   unfolding Events.postCases Events.postedBits
   event-post-leaves bits e z =
       let ok = accepted-is (Events.postCases (q .objects) a c d) z in
-      let lt : a < 8 = row-used 2 8 (q .objects) a 0 (eqb-false (event (q .objects) a USED) 0 (object-used _ _ (ok .at3) (ok .at11))) in
+      let lt : a < eventCount = row-used eventWidth eventCount (q .objects) a USED (used-object _ _ (ok .at3) (ok .at11)) in
       chosen (LeavesBy 0x33) (eqb (Events.waiterMatch (q .tasks) (q .lines) a bits) 0) _ _
       (λ _. stays refl)
       (λ m. wakes-one q sx rows never (eventLine a) _ _ (λ i n. rw (e, n)) (omega arith) (match-waits (q .tasks) (q .lines) a bits m))
@@ -157,7 +158,7 @@ module _ (q : WaitTables) (sx : List ℕ) (rows : Means (tasksRule (levels sx) (
   unfolding Mailboxes.postCases Mailboxes.postEffect homeBy
   mailbox-post-leaves e z =
       let ok = accepted-is (Mailboxes.postCases (q .tasks) (q .lines) (q .objects) st x a c d) z in
-      let lt : a < 8 = row-used 10 8 (q .objects) a 0 (eqb-false (mailbox (q .objects) a CAPACITY) 0 (object-used _ _ (ok .at3) (ok .at11))) in
+      let lt : a < mailboxCount = row-used mailboxWidth mailboxCount (q .objects) a CAPACITY (used-object _ _ (ok .at3) (ok .at11)) in
       chosen LeavesMailbox (Mailboxes.waitsFirst (q .tasks) (q .lines) a reading) _ _
       (λ w. wakes-one q sx rows never (mailboxLine a) b (q .objects) (λ i n. rw (e, n)) (omega arith) (first-waits (q .tasks) (q .lines) a reading w))
       (λ _.
@@ -176,7 +177,7 @@ module _ (q : WaitTables) (sx : List ℕ) (rows : Means (tasksRule (levels sx) (
   unfolding Mailboxes.pendCases Mailboxes.pendEffect homeBy
   mailbox-pend-leaves e z =
       let ok = accepted-is (Mailboxes.pendCases (q .objects) st x a b c d) z in
-      let lt : a < 8 = row-used 10 8 (q .objects) a 0 (eqb-false (mailbox (q .objects) a CAPACITY) 0 (object-used _ _ (ok .at3) (ok .at11))) in
+      let lt : a < mailboxCount = row-used mailboxWidth mailboxCount (q .objects) a CAPACITY (used-object _ _ (ok .at3) (ok .at11)) in
       tested (eqb (mailbox (q .objects) a MESSAGES) 0)
       (tested (eqb b 0) (stays refl) (goes (rw (eqb-true number 0x43 e)) (waits-aside (queuesOf q) sx rows _ (current st) _ (omega arith))))
       (goes (rw (eqb-true number 0x43 e)) taken-aside)

@@ -13,24 +13,25 @@ use Rattle.basics.specs.Find.{highestBelow}
 use Rattle.basics.specs.Rule.{Means}
 use Rattle.basics.proofs.Laws.{same?, lt-or-le, count-first}
 use Rattle.basics.proofs.Finds.{IsHighest, high-is, high-one}
-use Rattle.rules.specs.Tables.{Typed, raised, taskCount, mostLevels, levels, task, state, raisedState, DEPTH, SWIS, TASKS, CURRENT, LEVELS}
+use Rattle.rules.specs.Tables.{Typed, raised, taskCount, mostLevels, levels, task, state, raisedState, DEPTH, SWIS, TASKS, CURRENT, LEVELS, stateWidth}
 use Rattle.rules.specs.Lines.{anyone, line, frontOf, readyLine, taskHome}
 use Rattle.rules.specs.Dispatch.{highestReady, front, swiDue, taskDue}
-use Rattle.rules.specs.Sound.{Sound, tasksRule, taskRule, dispatchRule}
+use Rattle.rules.specs.Sound.{Sound, otherRule, tasksRule, taskRule, dispatchRule}
 use Rattle.rules.specs.declared.Tables.{Tables}
+use Rattle.rules.specs.declared.Task.{Task}
 use Rattle.demand_2_soundness.proofs.Groups.{Almost, OfTasks}
 use Rattle.demand_2_soundness.proofs.Standing.{sound-almost}
 use Rattle.demand_2_soundness.proofs.Members.{bit-eq}
 use Rattle.rules_laws.proofs.Levels.{levels-under, levels-some}
 use Rattle.demand_2_soundness.proofs.TaskRows.{task-stands, ready-row, in-use}
-use Rattle.demand_2_soundness.proofs.Waiting.{sound-ranges, still-ready, row-other, other-row, used-at}
+use Rattle.demand_2_soundness.proofs.Waiting.{sound-ranges, still-ready, row-other, used-at}
 
 -- ---- a state that is raised: it has 32 levels, and every other word stays
 module _ (st : List ℕ) where
-  there : length st ≡ 6 → state (raisedState st) LEVELS ≡ mostLevels
+  there : length st ≡ stateWidth → state (raisedState st) LEVELS ≡ mostLevels
   there size = getD-set-same st LEVELS mostLevels 0 (omega arith)
 
-  pub raised-levels : length st ≡ 6 → levels (raisedState st) ≡ mostLevels
+  pub raised-levels : length st ≡ stateWidth → levels (raisedState st) ≡ mostLevels
   unfolding levels
   raised-levels size = rw (there size)
 
@@ -77,30 +78,15 @@ module _ (t : Tables) (typed : Typed t) (s : Sound t) where
   abbrev st : List ℕ
   st = t .state
 
-  -- a priority below 16 is below 32
+  -- a priority below 16 is below 32: only the last part of the rule speaks of the levels
+  other : (k : Task) → Means (otherRule (levels st) k) → Means (otherRule (levels (raisedState st)) k)
+  unfolding otherRule
+  other k m =
+      let (a0, (a1, (a2, (a3, (a4, (a5, (a6, (a7, (a8, (a9, (a10, (a11, a12)))))))))))) = m in
+      (a0, (a1, (a2, (a3, (a4, (a5, (a6, (a7, (a8, (a9, (a10, (a11, λ u. let (low, high) = a12 u in (low, omega (arith, raised-levels st (typed .state), levels-under st))))))))))))))
+
   row : (i : ℕ) → Means (taskRule (levels st) i (task (t .tasks) i)) → Means (taskRule (levels (raisedState st)) i (task (t .tasks) i))
-  row i m =
-      ⊎-elim
-      (λ (e : i ≡ 0). (λ z. m .0 z, λ n. absurd (n e)))
-      (λ (n : i ≢ 0).
-      let r = row-other st i (task (t .tasks) i) n m in
-      other-row (raisedState st) i (task (t .tasks) i) n
-      (record {
-        range = r .range;
-        outcome = r .outcome;
-        unmet = r .unmet;
-        whenFree = r .whenFree;
-        whenReady = r .whenReady;
-        whenSleeping = r .whenSleeping;
-        whenAtSemaphore = r .whenAtSemaphore;
-        whenAtEvent = r .whenAtEvent;
-        whenReading = r .whenReading;
-        whenWriting = r .whenWriting;
-        whenTerminated = r .whenTerminated;
-        whenInactive = r .whenInactive;
-        level = λ u. let (low, high) = r .level u in (low, omega (arith, raised-levels st (typed .state), levels-under st));
-      }))
-      (same? i 0)
+  row i m = (m .0, λ n. other (task (t .tasks) i) (m .1 n))
 
   -- nobody stands in a queue past the levels
   nobody : (p : ℕ) → levels st ≤ p → p < mostLevels → anyone (t .lines) (readyLine p) ≡ false

@@ -1,4 +1,5 @@
 -- Dispatch: from the tables that a call's effect leaves to sound ones.
+-- In this order: Swis: the first of the highest posted starts where one is due; tasks: the front of the highest queue; both, and what is left.
 use Prim.Native.Nat.{ℕ, suc, _-_, _<_, _≤_}
 use mathlib.Core.Path.{_≡_, refl, sym, ap, _∙_}
 use mathlib.Core.Logic.{_≢_, inr, ⊎-elim}
@@ -13,6 +14,7 @@ use Rattle.basics.specs.Rule.{Means}
 use Rattle.basics.proofs.Laws.{lt-or-le, count-first, length-without}
 use Rattle.basics.proofs.Finds.{IsHighest, high-is}
 use Rattle.rules.specs.Tables.{Typed, taskCount, mostLevels, levels, ready, task, swi, state, withState, PRIORITY, DEPTH, SWIS, TASKS, CURRENT, LEVELS}
+use Rattle.rules.specs.Tables.{swiLevels, stateWidth}
 use Rattle.rules.specs.Lines.{anyone, frontOf, line, postedLine, activeLine, readyLine, swiHome, taskHome, homeBy}
 use Rattle.rules.specs.Swis.{SwiQueues, swiQueues, top}
 use Rattle.rules.specs.Dispatch.{dispatched, swiDispatched, swiDue, taskDispatched, taskDue, highestPosted, activeLevel, started, highestReady, front}
@@ -39,9 +41,9 @@ level-some : (ws ls : List ℕ) → 0 < length (line ls activeLine) → activeLe
 unfolding activeLevel
 level-some ws ls h = rw (lt-ltb 0 (length (line ls activeLine)) h)
 
-pub posted-high : (ls : List ℕ) → IsHighest 16 (λ p. anyone ls (postedLine p)) (highestPosted ls)
+pub posted-high : (ls : List ℕ) → IsHighest swiLevels (λ p. anyone ls (postedLine p)) (highestPosted ls)
 unfolding highestPosted
-posted-high ls = high-is 16 (λ p. anyone ls (postedLine p))
+posted-high ls = high-is swiLevels (λ p. anyone ls (postedLine p))
 
 -- what a start, or none, leaves
 record SwisSettled (t : Tables) (x : SwiQueues) : Type 0 where
@@ -60,7 +62,7 @@ module _ (t : Tables) (a : Almost t) where
     unfolding swiDue
     due-above = ltb-true _ _ (and-eq-true-iff (eqb (state (t .state) DEPTH) 0 && not (eqb (state (t .state) SWIS) 0)) _ .0 due .1)
 
-    low : p < 16
+    low : p < swiLevels
     unfolding p
     low = omega (arith, posted-high (t .lines) .high, due-above)
 
@@ -127,7 +129,7 @@ module _ (t : Tables) (a : Almost t) where
 
 -- the state that dispatch leaves
 record Stated (ts ws ls st : List ℕ) : Type 0 where
-  size : length st ≡ 6
+  size : length st ≡ stateWidth
   state : Means (stateRule ts st)
   dispatch : Means (dispatchRule ws ls st)
 

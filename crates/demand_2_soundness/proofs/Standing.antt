@@ -11,7 +11,7 @@ use borrow.Author.Tests.{eq-eqb, ne-eqb, lt-ltb, le-ltb, le-leb, lt-leb, ltb-tru
 use Rattle.basics.specs.Lists.{bit, count}
 use Rattle.basics.specs.Rule.{Means, _is_, every}
 use Rattle.basics.proofs.Laws.{same?, lt-or-le, count-first}
-use Rattle.rules.specs.Tables.{Typed, taskCount, swiCount, swiWidth, ready, task, swi, mostLevels, levels, PRIORITY, POSTED}
+use Rattle.rules.specs.Tables.{Typed, taskCount, swiCount, swiWidth, ready, task, swi, mostLevels, levels, PRIORITY, POSTED, swiLevels}
 use Rattle.rules.specs.Lines.{lineCount, nowhere, readyLine, postedLine, activeLine, line, anyone, frontOf, homeBy, taskHome, swiHome}
 use Rattle.rules.specs.Sound.{Sound, isPosted, homeIn, membersRule, onceRule, tasksRule, swiRule}
 use Rattle.rules.specs.declared.Tables.{Tables}
@@ -41,11 +41,11 @@ module _ (home : ℕ → ℕ) (ls : List ℕ) (j : ℕ) where
 
 -- ---- the lines of tasks, and of posted Swis
 pub of-tasks : (j : ℕ) → OfTasks j → (j < lineCount) × (isPosted j ≡ false) × (j ≢ activeLine)
-of-tasks j (inl l) = (omega arith, rw (lt-leb 32 j l), omega arith)
-of-tasks j (inr (a, b)) = (b, rw (le-leb 32 j (omega arith), le-ltb j activeLine (omega arith)), omega arith)
+of-tasks j (inl l) = (omega arith, rw (lt-leb (postedLine 0) j l), omega arith)
+of-tasks j (inr (a, b)) = (b, rw (le-leb (postedLine 0) j (omega arith), le-ltb j activeLine (omega arith)), omega arith)
 
-pub posted-line-is : (p : ℕ) → p < 16 → isPosted (postedLine p) ≡ true
-posted-line-is p l = rw (le-leb 32 (postedLine p) (omega arith), lt-ltb (postedLine p) activeLine (omega arith))
+pub posted-line-is : (p : ℕ) → p < swiLevels → isPosted (postedLine p) ≡ true
+posted-line-is p l = rw (le-leb (postedLine 0) (postedLine p) (omega arith), lt-ltb (postedLine p) activeLine (omega arith))
 
 -- ---- the home of a Swi
 module _ (ws : List ℕ) (x : ℕ) where
@@ -78,7 +78,7 @@ module _ (ts ws ls : List ℕ) (members : Means (membersRule ts ws ls)) where
   task-members : (j : ℕ) → OfTasks j → Means (every (line ls j) (λ x. taskHome ts x is j))
   task-members j o = let (h, posted, n) = of-tasks j o in rw posted at (members j h n)
 
-  swi-members : (p : ℕ) → p < 16 → Means (every (line ls (postedLine p)) (λ x. swiHome ws x is postedLine p))
+  swi-members : (p : ℕ) → p < swiLevels → Means (every (line ls (postedLine p)) (λ x. swiHome ws x is postedLine p))
   swi-members p l = rw (posted-line-is p l) at (members (postedLine p) (omega arith) (λ e. omega arith))
 
   sound-standing : Means (onceRule taskCount (taskHome ts) ls) → Means (onceRule swiCount (swiHome ws) ls) → Standing ts ws ls
@@ -129,7 +129,7 @@ module _ (t : Tables) (a : Almost t) where
       (λ (l : j < postedLine 0). of-task (inl l))
       (λ (g : postedLine 0 ≤ j).
       ⊎-elim
-      (λ (l : j < activeLine). let e : postedLine (j - 32) ≡ j = omega arith in rw e at (of-swi (j - 32) (omega arith)))
+      (λ (l : j < activeLine). let e : postedLine (j - postedLine 0) ≡ j = omega arith in rw e at (of-swi (j - postedLine 0) (omega arith)))
       (λ (l : activeLine ≤ j). of-task (inr (omega arith, h)))
       (lt-or-le j activeLine))
       (lt-or-le j (postedLine 0))
@@ -137,7 +137,7 @@ module _ (t : Tables) (a : Almost t) where
       of-task : OfTasks j → Means (every (line (t .lines) j) (λ x. homeIn (t .tasks) (t .swis) j x is j))
       of-task o = rw (of-tasks j o .1) (stands-all (taskHome (t .tasks)) (t .lines) j (λ x. a .standing .tasks x j o))
 
-      of-swi : (p : ℕ) → p < 16 → Means (every (line (t .lines) (postedLine p)) (λ x. homeIn (t .tasks) (t .swis) (postedLine p) x is postedLine p))
+      of-swi : (p : ℕ) → p < swiLevels → Means (every (line (t .lines) (postedLine p)) (λ x. homeIn (t .tasks) (t .swis) (postedLine p) x is postedLine p))
       of-swi p l = rw (posted-line-is p l) (stands-all (swiHome (t .swis)) (t .lines) (postedLine p) (λ x. a .standing .swis x p l))
 
   pub task-once : Means (onceRule taskCount (taskHome (t .tasks)) (t .lines))

@@ -11,7 +11,7 @@ use lib.Seq.{getD-at}
 use Rattle.basics.specs.Lists.{bit, count, without}
 use Rattle.basics.specs.Rule.{Means}
 use Rattle.basics.proofs.Laws.{same?, count-snoc, count-without, count-without-other, putAt-back}
-use Rattle.rules.specs.Tables.{swiCount, swi, withSwi, PRIORITY, INITIAL, TRIGGER, POSTED, TAKEN, USED}
+use Rattle.rules.specs.Tables.{swiCount, swi, withSwi, PRIORITY, INITIAL, TRIGGER, POSTED, TAKEN, USED, swiWidth, swiLevels}
 use Rattle.rules.specs.Lines.{lineCount, lineMost, lineWidth, line, outOf, joined, atBack, postedLine, activeLine, swiHome}
 use Rattle.rules.specs.Swis.{swiQueues, top}
 use Rattle.rules.specs.Dispatch.{started}
@@ -28,7 +28,7 @@ use Rattle.demand_2_soundness.proofs.Aside.{not-of-swis}
 use Rattle.demand_2_soundness.proofs.Standing.{home-unposted}
 use Rattle.demand_2_soundness.proofs.SwiTables.{SwiChanged, swi-almost, swi-below, posted-in-use, posted-there, active-most, length-swi, swi-same, swi-row, swi-other, named-kept, rule-used}
 
-module _ (t : Tables) (a : Almost t) (i p : ℕ) (low : p < 16) (home : swiHome (t .swis) i ≡ postedLine p) where
+module _ (t : Tables) (a : Almost t) (i p : ℕ) (low : p < swiLevels) (home : swiHome (t .swis) i ≡ postedLine p) where
   is-posted : (swi (t .swis) i POSTED ≡ 1) × (swi (t .swis) i PRIORITY ≡ p)
   is-posted = posted-there (t .swis) (t .lines) (a .swis) i p low home
 
@@ -68,7 +68,7 @@ module _ (t : Tables) (a : Almost t) (i p : ℕ) (low : p < 16) (home : swiHome 
       ∙ swi-row one i TRIGGER (swi (t .swis) i INITIAL) x f n
       ∙ swi-row (t .swis) i TAKEN (swi (t .swis) i TRIGGER) x f n
 
-  length-two : length two ≡ 96
+  length-two : length two ≡ swiCount * swiWidth
   unfolding one two
   length-two = length-swi one i TRIGGER (swi (t .swis) i INITIAL) ∙ length-swi (t .swis) i TAKEN (swi (t .swis) i TRIGGER) ∙ a .typed .swis
 
@@ -91,7 +91,7 @@ module _ (t : Tables) (a : Almost t) (i p : ℕ) (low : p < 16) (home : swiHome 
   unfolding ks ls
   other j n m = entered-other ks activeLine i atBack j n ∙ left-other (t .lines) (postedLine p) i j m
 
-  stays : (q : ℕ) → q < 16 → q ≢ p → line ls (postedLine q) ≡ line (t .lines) (postedLine q)
+  stays : (q : ℕ) → q < swiLevels → q ≢ p → line ls (postedLine q) ≡ line (t .lines) (postedLine q)
   stays q h n =
       other (postedLine q) (λ (e : postedLine q ≡ activeLine). omega arith) (λ (e : postedLine q ≡ postedLine p). n (omega arith))
 
@@ -119,14 +119,14 @@ module _ (t : Tables) (a : Almost t) (i p : ℕ) (low : p < 16) (home : swiHome 
   count-active x = ap (count x) active ∙ count-snoc x i (line (t .lines) activeLine)
 
   -- ---- where the posted Swis stand
-  counts : (x q : ℕ) → x ≢ i → q < 16 → count x (line ls (postedLine q)) ≡ count x (line (t .lines) (postedLine q))
+  counts : (x q : ℕ) → x ≢ i → q < swiLevels → count x (line ls (postedLine q)) ≡ count x (line (t .lines) (postedLine q))
   counts x q n h =
       ⊎-elim
       (λ (e : q ≡ p). rw (e, gone) (count-without-other x i (line (t .lines) (postedLine p)) n))
       (λ (m : q ≢ p). ap (count x) (stays q h m))
       (same? q p)
 
-  stands : (q : ℕ) → q < 16 → count i (line ls (postedLine q)) ≡ bit (eqb (swiHome ws i) (postedLine q))
+  stands : (q : ℕ) → q < swiLevels → count i (line ls (postedLine q)) ≡ bit (eqb (swiHome ws i) (postedLine q))
   stands q h =
       let away : swiHome ws i ≢ postedLine q = λ (e : swiHome ws i ≡ postedLine q). omega (arith, e, home-unposted ws i unposted) in
       rw (ne-eqb (swiHome ws i) (postedLine q) away)
@@ -194,7 +194,7 @@ module _ (t : Tables) (a : Almost t) (i p : ℕ) (low : p < 16) (home : swiHome 
   unfolding started one two ws
   started-priority = priority-stays i ∙ is-posted .1
 
-  pub started-stays : (q : ℕ) → q < 16 → q ≢ p
+  pub started-stays : (q : ℕ) → q < swiLevels → q ≢ p
       → line (started i (postedLine p) (swiQueues (t .swis) (t .lines)) .lines) (postedLine q) ≡ line (t .lines) (postedLine q)
   unfolding started ks ls
   started-stays = stays

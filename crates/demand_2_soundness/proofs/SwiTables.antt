@@ -1,5 +1,5 @@
 -- One Swi's row, and the lines in which Swis stand, change alone: what has to hold of them, so that all rules but those on the state are kept.
-use Prim.Native.Nat.{ℕ, _≤_, _<_}
+use Prim.Native.Nat.{ℕ, _≤_, _<_, _*_}
 use mathlib.Core.Path.{_≡_, _∙_}
 use mathlib.Core.Logic.{_≢_, _⊎_, inl, inr, ⊎-elim}
 use mathlib.Core.List.{List}
@@ -9,8 +9,8 @@ use lib.ListN.{length}
 use Rattle.basics.specs.Lists.{bit, count}
 use Rattle.basics.specs.Rule.{Means}
 use Rattle.basics.proofs.Laws.{same?, lt-or-le, at-most}
-use Rattle.rules.specs.Tables.{swiCount, swiWidth, clockCount, swi, withSwi, clock, USED, PRIORITY, POSTED, TAKEN}
-use Rattle.rules.specs.Lines.{semaphoreLine, mailboxLine, eventLine, postedLine, activeLine, line, swiHome}
+use Rattle.rules.specs.Tables.{swiCount, swiWidth, clockCount, swi, withSwi, clock, USED, PRIORITY, POSTED, TAKEN, swiLevels}
+use Rattle.rules.specs.Lines.{semaphoreLine, mailboxLine, eventLine, postedLine, activeLine, line, swiHome, lineCount, lineWidth}
 use Rattle.rules.specs.Swis.{SwiQueues}
 use Rattle.rules.specs.Sound.{linesRule, semaphoreRule, eventRule, mailboxRule, swiRule, swisRule, activeRule, clockRule}
 use Rattle.rules.specs.Step.{withPosts}
@@ -24,27 +24,27 @@ use Rattle.demand_2_soundness.proofs.Actives.{rises-most}
 use Rattle.demand_2_soundness.proofs.Objects.{each-but}
 
 -- ---- the rule of a Swi in use
-pub rule-used : (ws ls : List ℕ) (x : ℕ) → swi ws x USED ≡ 1 → swi ws x PRIORITY < 16 → swi ws x POSTED < 2
+pub rule-used : (ws ls : List ℕ) (x : ℕ) → swi ws x USED ≡ 1 → swi ws x PRIORITY < swiLevels → swi ws x POSTED < 2
     → (count x (line ls activeLine) ≡ 0 → swi ws x TAKEN ≡ 0) → Means (swiRule ws ls x)
 unfolding swiRule
 rule-used ws ls x u p o c = (omega arith, (λ z. absurd (omega arith), (p, (o, c))))
 
 -- ---- Swi i's row changes, it may come into a line of Swis or leave one, and nothing else is touched
 pub record SwiChanged (t : Tables) (i : ℕ) (p : SwiQueues) : Type 0 where
-  pub swisLength : length (p .swis) ≡ 96
-  pub linesLength : length (p .lines) ≡ 2673
+  pub swisLength : length (p .swis) ≡ swiCount * swiWidth
+  pub linesLength : length (p .lines) ≡ lineCount * lineWidth
   pub lines : Means (linesRule (p .lines))
   pub ofTasks : (j : ℕ) → OfTasks j → line (p .lines) j ≡ line (t .lines) j
   pub rows : (x f : ℕ) → x ≢ i → swi (p .swis) x f ≡ swi (t .swis) x f
-  pub posted : (x q : ℕ) → x ≢ i → q < 16 → count x (line (p .lines) (postedLine q)) ≡ count x (line (t .lines) (postedLine q))
+  pub posted : (x q : ℕ) → x ≢ i → q < swiLevels → count x (line (p .lines) (postedLine q)) ≡ count x (line (t .lines) (postedLine q))
   pub actives : (x : ℕ) → x ≢ i → count x (line (p .lines) activeLine) ≡ count x (line (t .lines) activeLine)
   pub named : (n : ℕ) → n < clockCount → clock (t .clocks) n .used ≡ 1 → swi (p .swis) (clock (t .clocks) n .swi) USED ≡ 1
-  pub stands : (q : ℕ) → q < 16 → count i (line (p .lines) (postedLine q)) ≡ bit (eqb (swiHome (p .swis) i) (postedLine q))
+  pub stands : (q : ℕ) → q < swiLevels → count i (line (p .lines) (postedLine q)) ≡ bit (eqb (swiHome (p .swis) i) (postedLine q))
   pub rule : Means (swiRule (p .swis) (p .lines) i)
   pub active : Means (activeRule (p .swis) (p .lines))
 
 module _ (t : Tables) (a : Almost t) (i : ℕ) (p : SwiQueues) (k : SwiChanged t i p) where
-  standing : (x q : ℕ) → q < 16 → count x (line (p .lines) (postedLine q)) ≡ bit (eqb (swiHome (p .swis) x) (postedLine q))
+  standing : (x q : ℕ) → q < swiLevels → count x (line (p .lines) (postedLine q)) ≡ bit (eqb (swiHome (p .swis) x) (postedLine q))
   standing x q h =
       ⊎-elim
       (λ (e : x ≡ i). rw e (k .stands q h))
@@ -96,7 +96,7 @@ module _ (ws ls : List ℕ) (rules : Means (swisRule ws ls)) where
   unfolding swiRule
   used-one x n = omega (arith, rules x (swi-below ws x USED n) .0)
 
-  pub priority-below : (x : ℕ) → swi ws x PRIORITY < 16
+  pub priority-below : (x : ℕ) → swi ws x PRIORITY < swiLevels
   unfolding swiRule
   priority-below x =
       ⊎-elim (λ h. rules x h .1 .1 .0) (λ h. omega (arith, field-out swiWidth swiCount ws x PRIORITY h)) (lt-or-le x swiCount)
@@ -117,7 +117,7 @@ module _ (ws ls : List ℕ) (rules : Means (swisRule ws ls)) where
       used-one x (λ z. n (r .1 .0 z .1 .1 .1))
 
   -- whose home is a line of posted Swis is posted at that priority
-  pub posted-there : (x q : ℕ) → q < 16 → swiHome ws x ≡ postedLine q → (swi ws x POSTED ≡ 1) × (swi ws x PRIORITY ≡ q)
+  pub posted-there : (x q : ℕ) → q < swiLevels → swiHome ws x ≡ postedLine q → (swi ws x POSTED ≡ 1) × (swi ws x PRIORITY ≡ q)
   posted-there x q h e =
       ⊎-elim
       (λ z. absurd (omega (arith, e, home-unposted ws x z)))
@@ -129,14 +129,14 @@ module _ (ws ls : List ℕ) (rules : Means (swisRule ws ls)) where
     active-used x h = of-member (λ y. swi ws y USED ≡ 1) (line ls activeLine) (active .0) x h
 
     -- "rise strictly in priority", and priorities are below 16
-    pub active-most : length (line ls activeLine) ≤ 16
-    active-most = rises-most (λ x. swi ws x PRIORITY) (line ls activeLine) (active .1) 16 (λ k h. priority-below _)
+    pub active-most : length (line ls activeLine) ≤ swiLevels
+    active-most = rises-most (λ x. swi ws x PRIORITY) (line ls activeLine) (active .1) swiLevels (λ k h. priority-below _)
 
 -- ---- room in a line of posted Swis
-module _ (t : Tables) (a : Almost t) (q : ℕ) (low : q < 16) where
-  pub posted-most : length (line (t .lines) (postedLine q)) ≤ 16
+module _ (t : Tables) (a : Almost t) (q : ℕ) (low : q < swiLevels) where
+  pub posted-most : length (line (t .lines) (postedLine q)) ≤ swiLevels
   posted-most =
-      at-most 16 (line (t .lines) (postedLine q))
+      at-most swiLevels (line (t .lines) (postedLine q))
       (λ y. rw (a .standing .swis y q low) (bit-le (eqb (swiHome (t .swis) y) (postedLine q))))
       (λ y h. a .standing .swis y q low ∙ bit-other (swiHome (t .swis) y) (postedLine q) (λ e. omega (arith, e, swi-out (t .swis) y h)))
 
@@ -145,7 +145,7 @@ module _ (ws : List ℕ) (i f v : ℕ) where
   pub length-swi : length (withSwi ws i f v) ≡ length ws
   length-swi = length-withField swiWidth swiCount ws i f v
 
-  pub swi-same : length ws ≡ 96 → i < swiCount → f < swiWidth → swi (withSwi ws i f v) i f ≡ v
+  pub swi-same : length ws ≡ swiCount * swiWidth → i < swiCount → f < swiWidth → swi (withSwi ws i f v) i f ≡ v
   swi-same n h q = field-same swiWidth swiCount ws i f v (omega arith) h q
 
   pub swi-row : (x g : ℕ) → x ≢ i → swi (withSwi ws i f v) x g ≡ swi ws x g

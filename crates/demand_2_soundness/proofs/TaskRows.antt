@@ -1,5 +1,5 @@
 -- A task's row: what is read after it is stored, and in which line its rule lets it stand.
-use Prim.Native.Nat.{ℕ, _≤_, _<_}
+use Prim.Native.Nat.{ℕ, _≤_, _<_, _*_}
 use mathlib.Core.Path.{_≡_, refl, ap}
 use mathlib.Core.Logic.{_≢_, _⊎_, inl, inr, ⊎-elim}
 use mathlib.Core.List.{List}
@@ -9,6 +9,7 @@ use borrow.Author.Tests.{ne-eqb}
 use Rattle.basics.specs.Rule.{Means}
 use Rattle.basics.proofs.Laws.{same?}
 use Rattle.rules.specs.Tables.{taskCount, taskWidth, mostLevels, levels, ready, atSemaphore, atEvent, reading, writing, inactive, notInUse, task, taskWords, withTask, noTask}
+use Rattle.rules.specs.Tables.{semaphoreCount, eventCount, mailboxCount}
 use Rattle.rules.specs.Lines.{nowhere, semaphoreLine, mailboxLine, eventLine, readyLine, homeBy, homeOf, taskHome}
 use Rattle.rules.specs.Sound.{otherRule, taskRule, tasksRule}
 use Rattle.rules.specs.declared.Task.{Task}
@@ -22,7 +23,7 @@ module _ (ts : List ℕ) (i : ℕ) where
   unfolding withTask
   length-withTask k = length-withRow taskWidth taskCount ts i (taskWords k)
 
-  pub task-same : (k : Task) → length ts ≡ 256 → i < taskCount → task (withTask ts i k) i ≡ k
+  pub task-same : (k : Task) → length ts ≡ taskCount * taskWidth → i < taskCount → task (withTask ts i k) i ≡ k
   unfolding task withTask
   task-same k all lt =
       let f : (f : ℕ) → f < taskWidth → _ = row-same taskWidth taskCount ts i (taskWords k) (omega arith) refl lt in
@@ -49,7 +50,8 @@ module _ (ts : List ℕ) (i : ℕ) where
   in-use n = task-in (λ e. n (ap (λ (k : Task). k .mode) e))
 
 -- a row that its rule allows
-pub tasks-withTask : (st : List ℕ) (ts : List ℕ) (i : ℕ) (k : Task) → length ts ≡ 256 → i < taskCount → Means (tasksRule (levels st) ts) → Means (taskRule (levels st) i k)
+pub tasks-withTask : (st : List ℕ) (ts : List ℕ) (i : ℕ) (k : Task) → length ts ≡ taskCount * taskWidth → i < taskCount
+    → Means (tasksRule (levels st) ts) → Means (taskRule (levels st) i k)
     → Means (tasksRule (levels st) (withTask ts i k))
 tasks-withTask st ts i k all lt rule row x h =
     ⊎-elim (λ (e : x ≡ i). rw (e, task-same ts i k all lt) row) (λ (n : x ≢ i). rw (task-other ts i k x n) (rule x h)) (same? x i)
@@ -69,9 +71,9 @@ home-out ts x h = ap homeOf (task-out ts x h)
 -- a row's line, with the mode that it has there and the range of what names it
 pub data Stands (k : Task) : Type 0 where
   isReady : k .mode ≡ ready → k .priority < mostLevels → homeOf k ≡ readyLine (k .priority) → Stands k
-  isAtSemaphore : k .mode ≡ atSemaphore → k .object < 16 → homeOf k ≡ semaphoreLine (k .object) → Stands k
-  isAtEvent : k .mode ≡ atEvent → k .object < 8 → homeOf k ≡ eventLine (k .object) → Stands k
-  isAtMailbox : (k .mode ≡ reading) ⊎ (k .mode ≡ writing) → k .object < 8 → homeOf k ≡ mailboxLine (k .object) → Stands k
+  isAtSemaphore : k .mode ≡ atSemaphore → k .object < semaphoreCount → homeOf k ≡ semaphoreLine (k .object) → Stands k
+  isAtEvent : k .mode ≡ atEvent → k .object < eventCount → homeOf k ≡ eventLine (k .object) → Stands k
+  isAtMailbox : (k .mode ≡ reading) ⊎ (k .mode ≡ writing) → k .object < mailboxCount → homeOf k ≡ mailboxLine (k .object) → Stands k
   isNowhere : homeOf k ≡ nowhere → Stands k
 
 other-stands : (st : List ℕ) (k : Task) → Means (otherRule (levels st) k) → Stands k
@@ -125,21 +127,21 @@ ready-row k (isAtEvent m l e) p h q = absurd (omega arith)
 ready-row k (isAtMailbox m l e) p h q = absurd (omega arith)
 ready-row k (isNowhere e) p h q = absurd (omega arith)
 
-pub semaphore-row : (k : Task) → Stands k → (s : ℕ) → s < 16 → homeOf k ≡ semaphoreLine s → (k .mode ≡ atSemaphore) × (k .object ≡ s)
+pub semaphore-row : (k : Task) → Stands k → (s : ℕ) → s < semaphoreCount → homeOf k ≡ semaphoreLine s → (k .mode ≡ atSemaphore) × (k .object ≡ s)
 semaphore-row k (isReady m l e) s h q = absurd (omega arith)
 semaphore-row k (isAtSemaphore m l e) s h q = (m, omega arith)
 semaphore-row k (isAtEvent m l e) s h q = absurd (omega arith)
 semaphore-row k (isAtMailbox m l e) s h q = absurd (omega arith)
 semaphore-row k (isNowhere e) s h q = absurd (omega arith)
 
-pub event-row : (k : Task) → Stands k → (n : ℕ) → n < 8 → homeOf k ≡ eventLine n → (k .mode ≡ atEvent) × (k .object ≡ n)
+pub event-row : (k : Task) → Stands k → (n : ℕ) → n < eventCount → homeOf k ≡ eventLine n → (k .mode ≡ atEvent) × (k .object ≡ n)
 event-row k (isReady m l e) n h q = absurd (omega arith)
 event-row k (isAtSemaphore m l e) n h q = absurd (omega arith)
 event-row k (isAtEvent m l e) n h q = (m, omega arith)
 event-row k (isAtMailbox m l e) n h q = absurd (omega arith)
 event-row k (isNowhere e) n h q = absurd (omega arith)
 
-pub mailbox-row : (k : Task) → Stands k → (n : ℕ) → n < 8 → homeOf k ≡ mailboxLine n → ((k .mode ≡ reading) ⊎ (k .mode ≡ writing)) × (k .object ≡ n)
+pub mailbox-row : (k : Task) → Stands k → (n : ℕ) → n < mailboxCount → homeOf k ≡ mailboxLine n → ((k .mode ≡ reading) ⊎ (k .mode ≡ writing)) × (k .object ≡ n)
 mailbox-row k (isReady m l e) n h q = absurd (omega arith)
 mailbox-row k (isAtSemaphore m l e) n h q = absurd (omega arith)
 mailbox-row k (isAtEvent m l e) n h q = absurd (omega arith)

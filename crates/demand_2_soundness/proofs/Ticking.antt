@@ -100,7 +100,7 @@ clocks-tick t a =
 
 -- ---- the tasks
 -- ticks are left of a sleep or a limited wait only
-waits-of : (st : List ℕ) (i : ℕ) (k : Task) → Means (taskRule (levels st) i k) → k .left ≢ 0 → (i ≢ 0) × ((1 < k .mode) × (k .mode < 7))
+waits-of : (st : List ℕ) (i : ℕ) (k : Task) → Means (taskRule (levels st) i k) → k .left ≢ 0 → (i ≢ 0) × ((1 < k .mode) × (k .mode < terminated))
 waits-of st i k row some =
     let n : i ≢ 0 = λ z. some (row .0 z .1 .1 .0 .1 .0) in
     let r = row-other _ i k n row in

@@ -1,4 +1,6 @@
 -- A wait begins or ends: the current task, the rows that a wait has, and what is due once the current task waits.
+-- In this order: tests; the parts of a task's rule by name; ticks of a limit; the rows of waits; the current task of sound tables; what is due by the
+-- lines of Swis and the state; a wait begins; a wait ends.
 use Prim.Native.Nat.{ℕ, zero, suc, _<_, _≤_}
 use mathlib.Core.Path.{_≡_, refl, sym, ap, _∙_}
 use mathlib.Core.Logic.{_≢_, _⊎_, inl, inr, ⊎-elim}
@@ -13,6 +15,7 @@ use Rattle.basics.specs.Rule.{Means, _is_, _isnt_, _under_, _and_, _or_}
 use Rattle.basics.proofs.Laws.{same?}
 use Rattle.rules.specs.Answer.{T, S, I}
 use Rattle.rules.specs.Tables.{Typed, taskCount, semaphoreCount, eventCount, mailboxCount, levels, wordEnd, forever, minusOne, notInUse, ready, sleeping, atSemaphore, atEvent, reading, writing, terminated, inactive, task, state, current, DEPTH, SWIS, TASKS, CURRENT}
+use Rattle.rules.specs.Tables.{swiLevels}
 use Rattle.rules.specs.Lines.{postedLine, activeLine, anyone, taskQueues, moved, atBack}
 use Rattle.rules.specs.Waits.{switchOff, idle, ticksFor, waiting, readied, woken}
 use Rattle.rules.specs.Swis.{top}
@@ -35,7 +38,7 @@ both a b = and-eq-true-iff a b .0
 
 -- ---- a row of a task other than task 0: the parts of its rule by name
 pub record Other (st : List ℕ) (k : Task) : Type 0 where
-  pub range : k .mode < 9
+  pub range : k .mode < suc inactive
   pub outcome : k .outcome < 2
   pub unmet : k .outcome ≡ 1 → k .value ≡ 0
   pub whenFree : k .mode ≡ notInUse → Means ((k .priority is 0) and noWait k and (k .outcome is 0) and (k .value is 0))
@@ -82,7 +85,8 @@ pub row-other : (st : List ℕ) (i : ℕ) (k : Task) → i ≢ 0 → Means (task
 row-other st i k n m = other-parts _ k (m .1 n)
 
 -- a row with nothing of a wait: not in use, ready, terminated or inactive
-pub rest-row : (st : List ℕ) (i : ℕ) (k : Task) → i ≢ 0 → Means (noWait k) → (k .mode < 2) ⊎ ((6 < k .mode) × (k .mode < 9)) → k .outcome < 2
+pub rest-row : (st : List ℕ) (i : ℕ) (k : Task) → i ≢ 0 → Means (noWait k) → (k .mode < sleeping) ⊎ ((writing < k .mode) × (k .mode < suc inactive))
+    → k .outcome < 2
     → (k .outcome ≡ 1 → k .value ≡ 0)
     → (k .mode ≡ notInUse → Means ((k .priority is 0) and (k .outcome is 0) and (k .value is 0)))
     → (k .mode ≡ inactive → k .priority ≡ minusOne)
@@ -91,26 +95,27 @@ pub rest-row : (st : List ℕ) (i : ℕ) (k : Task) → i ≢ 0 → Means (noWai
 rest-row st i k n clear m small unmet free low level =
     other-row _ i k n
     (record {
-      range = ⊎-elim (λ (h : k .mode < 2). omega arith) (λ (h : (6 < k .mode) × (k .mode < 9)). h .1) m;
+      range = ⊎-elim (λ (h : k .mode < sleeping). omega arith) (λ (h : (writing < k .mode) × (k .mode < suc inactive)). h .1) m;
       outcome = small;
       unmet = unmet;
       whenFree = λ e. let (p, (o, v)) = free e in (p, (clear, (o, v)));
       whenReady = λ _. clear;
-      whenSleeping = λ e. absurd (out 2 (omega arith) (omega arith) e);
-      whenAtSemaphore = λ e. absurd (out 3 (omega arith) (omega arith) e);
-      whenAtEvent = λ e. absurd (out 4 (omega arith) (omega arith) e);
-      whenReading = λ e. absurd (out 5 (omega arith) (omega arith) e);
-      whenWriting = λ e. absurd (out 6 (omega arith) (omega arith) e);
+      whenSleeping = λ e. absurd (out sleeping (omega arith) (omega arith) e);
+      whenAtSemaphore = λ e. absurd (out atSemaphore (omega arith) (omega arith) e);
+      whenAtEvent = λ e. absurd (out atEvent (omega arith) (omega arith) e);
+      whenReading = λ e. absurd (out reading (omega arith) (omega arith) e);
+      whenWriting = λ e. absurd (out writing (omega arith) (omega arith) e);
       whenTerminated = λ _. clear;
       whenInactive = λ e. (low e, clear);
       level = level;
     })
   where
-    out : (x : ℕ) → 2 ≤ x → x ≤ 6 → k .mode ≡ x → ⊥
-    out x a b e = ⊎-elim (λ (h : k .mode < 2). omega arith) (λ (h : (6 < k .mode) × (k .mode < 9)). omega arith) m
+    out : (x : ℕ) → sleeping ≤ x → x ≤ writing → k .mode ≡ x → ⊥
+    out x a b e = ⊎-elim (λ (h : k .mode < sleeping). omega arith) (λ (h : (writing < k .mode) × (k .mode < suc inactive)). omega arith) m
 
 -- a row of a wait, but its priority and the ticks left of its limit
-pub still-waiting : (st : List ℕ) (i : ℕ) (k : Task) → i ≢ 0 → Means (taskRule (levels st) i k) → 1 < k .mode → k .mode < 7 → (p l : ℕ) → (0 < p) × (p < levels st)
+pub still-waiting : (st : List ℕ) (i : ℕ) (k : Task) → i ≢ 0 → Means (taskRule (levels st) i k) → 1 < k .mode → k .mode < terminated
+    → (p l : ℕ) → (0 < p) × (p < levels st)
     → l ≤ k .left
     → (k .mode ≡ sleeping → l ≢ 0)
     → Means
@@ -139,8 +144,8 @@ still-waiting st i k n row low high p l level less some =
       whenAtEvent = λ e. let ((o, h), xy) = r .whenAtEvent e in ((o, omega arith), xy);
       whenReading = λ e. let ((o, h), xy) = r .whenReading e in ((o, omega arith), xy);
       whenWriting = λ e. let ((o, h), y) = r .whenWriting e in ((o, omega arith), y);
-      whenTerminated = λ (e : k .mode ≡ 7). absurd (omega arith);
-      whenInactive = λ (e : k .mode ≡ 8). absurd (omega arith);
+      whenTerminated = λ (e : k .mode ≡ terminated). absurd (omega arith);
+      whenInactive = λ (e : k .mode ≡ inactive). absurd (omega arith);
       level = λ _. level;
     })
 
@@ -165,7 +170,7 @@ module _ (st : List ℕ) (i : ℕ) (k : Task) (n : i ≢ 0) (row : Means (taskRu
       rest-row _ i (readied k o v) n (refl, (refl, (refl, refl))) (inl (omega arith)) small unmet (λ e. absurd (omega arith)) (λ e. absurd (omega arith))
       (λ _. row-other _ i k n row .level used)
 
-  module _ (mode object limit x y : ℕ) (low : 1 < mode) (high : mode < 7) where
+  module _ (mode object limit x y : ℕ) (low : 1 < mode) (high : mode < terminated) where
     abbrev w : Task
     w = waiting k mode object limit x y
 
@@ -188,8 +193,8 @@ module _ (st : List ℕ) (i : ℕ) (k : Task) (n : i ≢ 0) (row : Means (taskRu
           whenAtEvent = ofEvent;
           whenReading = ofReader;
           whenWriting = ofWriter;
-          whenTerminated = λ (e : mode ≡ 7). absurd (omega arith);
-          whenInactive = λ (e : mode ≡ 8). absurd (omega arith);
+          whenTerminated = λ (e : mode ≡ terminated). absurd (omega arith);
+          whenInactive = λ (e : mode ≡ inactive). absurd (omega arith);
           level = λ _. row-other _ i k n row .level used;
         })
 
@@ -225,8 +230,8 @@ module _ (st : List ℕ) (i : ℕ) (k : Task) (n : i ≢ 0) (row : Means (taskRu
         (λ _. ((h, ticks-under limit word), refl))
 
 -- a mode from ready to terminated is one of a task in use, at its priority
-pub used-at : (mode : ℕ) → 0 < mode → mode < 8 → (mode ≢ notInUse) × (mode ≢ inactive)
-used-at mode low high = (λ (e : mode ≡ 0). omega arith, λ (e : mode ≡ 8). omega arith)
+pub used-at : (mode : ℕ) → 0 < mode → mode < inactive → (mode ≢ notInUse) × (mode ≢ inactive)
+used-at mode low high = (λ (e : mode ≡ 0). omega arith, λ (e : mode ≡ inactive). omega arith)
 
 -- ---- the current task of sound tables: a task, and ready
 pub current-in : (st : List ℕ) → state st CURRENT < taskCount → current st ≡ state st CURRENT
@@ -278,8 +283,8 @@ module _ (ws ls ls′ st : List ℕ) (same : SwisStay ls ls′) where
   pub swi-due-same : swiDue ws ls′ st ≡ swiDue ws ls st
   unfolding swiDue activeLevel highestPosted top
   swi-due-same =
-      let h : highestBelow 16 (λ p. anyone ls′ (postedLine p)) ≡ highestBelow 16 (λ p. anyone ls (postedLine p)) =
-      high-same (λ p. anyone ls′ (postedLine p)) (λ p. anyone ls (postedLine p)) 16 (λ p l. anyone-same (postedLine p) (omega arith) (omega arith)) in
+      let h : highestBelow swiLevels (λ p. anyone ls′ (postedLine p)) ≡ highestBelow swiLevels (λ p. anyone ls (postedLine p)) =
+      high-same (λ p. anyone ls′ (postedLine p)) (λ p. anyone ls (postedLine p)) swiLevels (λ p l. anyone-same (postedLine p) (omega arith) (omega arith)) in
       rw (h, same activeLine (omega arith) (omega arith))
 
   pub task-due-same : taskDue ls′ st ≡ taskDue ls st
@@ -319,17 +324,17 @@ waits-settle t typed s c off k row welcome place =
 
 -- ---- a wait ends
 -- a mode without a line of waiters asks nothing of an object
-pub welcome-none : (t : Tables) (i : ℕ) (k : Task) → (k .mode < 3) ⊎ (6 < k .mode) → Welcome t i k
+pub welcome-none : (t : Tables) (i : ℕ) (k : Task) → (k .mode < atSemaphore) ⊎ (writing < k .mode) → Welcome t i k
 welcome-none t i k h =
     record {
-      semaphore = λ e. absurd (out 3 (omega arith) (omega arith) e);
-      event = λ e. absurd (out 4 (omega arith) (omega arith) e);
-      reader = λ e. absurd (out 5 (omega arith) (omega arith) e);
-      writer = λ e. absurd (out 6 (omega arith) (omega arith) e);
+      semaphore = λ e. absurd (out atSemaphore (omega arith) (omega arith) e);
+      event = λ e. absurd (out atEvent (omega arith) (omega arith) e);
+      reader = λ e. absurd (out reading (omega arith) (omega arith) e);
+      writer = λ e. absurd (out writing (omega arith) (omega arith) e);
     }
   where
-    out : (x : ℕ) → 3 ≤ x → x ≤ 6 → k .mode ≡ x → ⊥
-    out x low high e = ⊎-elim (λ (l : k .mode < 3). omega arith) (λ (l : 6 < k .mode). omega arith) h
+    out : (x : ℕ) → atSemaphore ≤ x → x ≤ writing → k .mode ≡ x → ⊥
+    out x low high e = ⊎-elim (λ (l : k .mode < atSemaphore). omega arith) (λ (l : writing < k .mode). omega arith) h
 
 pub welcome-ready : (t : Tables) (i : ℕ) (k : Task) → k .mode ≡ ready → Welcome t i k
 welcome-ready t i k e = welcome-none t i k (inl (omega arith))

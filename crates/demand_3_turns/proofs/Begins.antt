@@ -5,13 +5,13 @@ use mathlib.Core.Logic.{_≢_, inl}
 use mathlib.Core.Bool.{false}
 use mathlib.Core.List.{List, [], _∷_, _++_}
 use native.Mathlib.Omega.{arith}
-use borrow.Author.Tests.{eqb-false, lt-ltb, ltb-false}
+use borrow.Author.Tests.{lt-ltb, ltb-false}
 use lib.Dec.{ltb}
 use Rattle.basics.specs.Lists.{count, ahead}
 use Rattle.basics.specs.Rule.{Means}
 use Rattle.basics.proofs.Laws.{putAt-back, without-absent}
 use Rattle.rules.specs.Answer.{nowWaiting, asked}
-use Rattle.rules.specs.Tables.{Typed, forever, atSemaphore, semaphoreCount, semaphoreWidth, task, current, semaphore, USED, KIND, COUNT, levels}
+use Rattle.rules.specs.Tables.{Typed, forever, atSemaphore, semaphoreCount, semaphoreWidth, task, current, semaphore, USED, KIND, COUNT, levels, wordEnd}
 use Rattle.rules.specs.Lines.{line, semaphoreLine, homeBy, taskHome, taskQueues, moved}
 use Rattle.rules.specs.Waits.{ticksFor, waiting}
 use Rattle.rules.specs.Semaphores as Semaphores
@@ -26,7 +26,7 @@ use Rattle.runs.specs.Turn.{beforeAt}
 use Rattle.demand_1_refusals.proofs.First.{by-bool}
 use Rattle.demand_1_refusals.proofs.Known.{callFor}
 use Rattle.demand_2_soundness.proofs.Groups.{Almost}
-use Rattle.demand_2_soundness.proofs.Codes.{accepted-is, object-used}
+use Rattle.demand_2_soundness.proofs.Codes.{accepted-is, used-object}
 use Rattle.demand_2_soundness.proofs.Members.{bit-other}
 use Rattle.demand_2_soundness.proofs.Standing.{sound-almost}
 use Rattle.demand_2_soundness.proofs.Moves.{moved-into, moved-row}
@@ -36,7 +36,7 @@ use Rattle.demand_3_turns.proofs.Made.{Accepted, by-answer, tasks-after
 use Rattle.demand_3_turns.proofs.Turns.{Waiter}
 use Rattle.rules.specs.declared.Call.{Call}
 
-module _ (t : Tables) (typed : Typed t) (sound : Sound t) (s : ℕ) (word : s < 4294967296) (arrival : semaphore (t .semaphores) s KIND < 2)
+module _ (t : Tables) (typed : Typed t) (sound : Sound t) (s : ℕ) (word : s < wordEnd) (arrival : semaphore (t .semaphores) s KIND < 2)
     (waits : made t (asked 0x22 s forever 0 0) .answer .outcome ≡ nowWaiting) where
   abbrev q : Call
   q = asked 0x22 s forever 0 0
@@ -64,7 +64,7 @@ module _ (t : Tables) (typed : Typed t) (sound : Sound t) (s : ℕ) (word : s < 
   here : s < semaphoreCount
   unfolding callOf Semaphores.semaphoreCall Semaphores.pendCases
   here =
-      row-used semaphoreWidth semaphoreCount (t .semaphores) s USED (eqb-false _ _ (object-used _ _ (accepted-is _ (ok .cases) .at3) (accepted-is _ (ok .cases) .at11)))
+      row-used semaphoreWidth semaphoreCount (t .semaphores) s USED (used-object _ _ (accepted-is _ (ok .cases) .at3) (accepted-is _ (ok .cases) .at11))
 
   other : i ≢ 0
   unfolding callOf Semaphores.semaphoreCall Semaphores.pendCases Semaphores.pendWaits

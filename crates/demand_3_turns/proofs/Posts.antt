@@ -1,5 +1,5 @@
 -- What an accepted post does at each of the three kinds: it wakes the first who waits there (`Wakes`), or its value is 0 and nobody is readied.
-use Prim.Native.Nat.{ℕ}
+use Prim.Native.Nat.{ℕ, _*_}
 use mathlib.Core.Path.{_≡_, refl, ap, _∙_}
 use mathlib.Core.Logic.{_≢_, _⊎_, inl, inr, ⊎-elim}
 use mathlib.Core.Bool.{true, false}
@@ -11,7 +11,7 @@ use lib.ListN.{length}
 use borrow.Author.Tests.{ltb-true}
 use Rattle.basics.proofs.Laws.{same?}
 use Rattle.rules.specs.Answer.{Effect, accepted, done, notMet, nowWaiting}
-use Rattle.rules.specs.Tables.{Typed, taskCount, reading, writing, task, event, current, BITS}
+use Rattle.rules.specs.Tables.{Typed, taskCount, reading, writing, task, event, current, BITS, taskWidth}
 use Rattle.rules.specs.Lines.{anyone, semaphoreLine, eventLine, mailboxLine, TaskQueues, taskQueues, moved, atBack}
 use Rattle.rules.specs.Waits.{WaitTables, waitTables, withQueues}
 use Rattle.rules.specs.Semaphores as Semaphores
@@ -32,7 +32,7 @@ use Rattle.demand_3_turns.proofs.Wakes.{ServesFirst}
 use Rattle.rules.specs.declared.Call.{Call}
 
 -- who moves gets the row k, and every other row stays
-moved-or-same : (place : List ℕ → ℕ) (i : ℕ) (k : Task) (ts ls : List ℕ) → length ts ≡ 256
+moved-or-same : (place : List ℕ → ℕ) (i : ℕ) (k : Task) (ts ls : List ℕ) → length ts ≡ taskCount * taskWidth
     → (x : ℕ) → (task (moved place i k (taskQueues ts ls) .tasks) x ≡ task ts x) ⊎ ((x ≡ i) × (task (moved place i k (taskQueues ts ls) .tasks) x ≡ k))
 unfolding moved
 moved-or-same place i k ts ls full x =

@@ -5,13 +5,13 @@ use mathlib.Core.Logic.{_≢_, _⊎_, inl, inr, ⊎-elim}
 use mathlib.Core.Bool.{true}
 use mathlib.Core.List.{List}
 use native.Mathlib.Omega.{arith}
-use borrow.Author.Tests.{eqb-false, ne-eqb, ltb-true}
+use borrow.Author.Tests.{ne-eqb, ltb-true}
 use lib.ListN.{length}
 use Rattle.basics.specs.Lists.{count}
 use Rattle.basics.proofs.Laws.{same?, count-first}
 use Rattle.rules.specs.Answer.{codeOf}
-use Rattle.rules.specs.Tables.{semaphoreCount, semaphoreWidth, eventCount, eventWidth, mailboxCount, mailboxWidth}
-use Rattle.rules.specs.Lines.{line, anyone, frontOf, semaphoreLine, eventLine, mailboxLine, nowhere, taskHome}
+use Rattle.rules.specs.Tables.{semaphoreCount, semaphoreWidth, eventCount, eventWidth, mailboxCount, mailboxWidth, USED, CAPACITY}
+use Rattle.rules.specs.Lines.{line, anyone, frontOf, semaphoreLine, eventLine, mailboxLine, nowhere, taskHome, postedLine}
 use Rattle.rules.specs.Semaphores as Semaphores
 use Rattle.rules.specs.Events as Events
 use Rattle.rules.specs.Mailboxes as Mailboxes
@@ -21,7 +21,7 @@ use Rattle.rules_laws.proofs.Rows.{row-used}
 use Rattle.rules_laws.proofs.Lines.{line-out}
 use Rattle.demand_1_refusals.proofs.Known.{callFor}
 use Rattle.demand_2_soundness.proofs.Groups.{OfTasks, Standing}
-use Rattle.demand_2_soundness.proofs.Codes.{accepted-is, object-used}
+use Rattle.demand_2_soundness.proofs.Codes.{accepted-is, used-object}
 use Rattle.demand_2_soundness.proofs.Members.{bit-eq}
 use Rattle.demand_3_turns.proofs.Same.{servedLine}
 use Rattle.rules.specs.declared.Call.{Call}
@@ -36,16 +36,18 @@ module _ (t : Tables) (q : Call) (z : codeOf (callFor t q .cases) ≡ 0) where
   pub of-post : q .number ≡ 0x23 → q .a < semaphoreCount
   unfolding callOf Semaphores.semaphoreCall Semaphores.postCases
   of-post e =
-      row-used semaphoreWidth semaphoreCount (t .semaphores) (q .a) 0 (eqb-false _ _ (object-used _ _ (accepted-is _ (rw e at z) .at3) (accepted-is _ (rw e at z) .at11)))
+      row-used semaphoreWidth semaphoreCount (t .semaphores) (q .a) USED (used-object _ _ (accepted-is _ (rw e at z) .at3) (accepted-is _ (rw e at z) .at11))
 
   pub of-event : q .number ≡ 0x33 → q .a < eventCount
   unfolding callOf Events.eventCall Events.postCases
-  of-event e = row-used eventWidth eventCount (t .events) (q .a) 0 (eqb-false _ _ (object-used _ _ (accepted-is _ (rw e at z) .at3) (accepted-is _ (rw e at z) .at11)))
+  of-event e = row-used eventWidth eventCount (t .events) (q .a) USED (used-object _ _ (accepted-is _ (rw e at z) .at3) (accepted-is _ (rw e at z) .at11))
 
   pub of-mailbox : (q .number ≡ 0x42) ⊎ (q .number ≡ 0x43) → q .a < mailboxCount
   unfolding callOf Mailboxes.mailboxCall Mailboxes.postCases Mailboxes.pendCases
-  of-mailbox (inl e) = row-used mailboxWidth mailboxCount (t .mailboxes) (q .a) 0 (eqb-false _ _ (object-used _ _ (accepted-is _ (rw e at z) .at3) (accepted-is _ (rw e at z) .at11)))
-  of-mailbox (inr e) = row-used mailboxWidth mailboxCount (t .mailboxes) (q .a) 0 (eqb-false _ _ (object-used _ _ (accepted-is _ (rw e at z) .at3) (accepted-is _ (rw e at z) .at11)))
+  of-mailbox (inl e) =
+      row-used mailboxWidth mailboxCount (t .mailboxes) (q .a) CAPACITY (used-object _ _ (accepted-is _ (rw e at z) .at3) (accepted-is _ (rw e at z) .at11))
+  of-mailbox (inr e) =
+      row-used mailboxWidth mailboxCount (t .mailboxes) (q .a) CAPACITY (used-object _ _ (accepted-is _ (rw e at z) .at3) (accepted-is _ (rw e at z) .at11))
 
   pub reaches : Reaches q
   unfolding servedLine
@@ -68,7 +70,7 @@ module _ (t : Tables) (q : Call) (z : codeOf (callFor t q .cases) ≡ 0) where
       (same? (q .number) 0x23)
 
 -- the line is one of tasks, or none
-pub reached-line : (q : Call) → Reaches q → (servedLine q < 32) ⊎ (servedLine q ≡ nowhere)
+pub reached-line : (q : Call) → Reaches q → (servedLine q < postedLine 0) ⊎ (servedLine q ≡ nowhere)
 reached-line q (atSemaphore n h e) = inl (omega arith)
 reached-line q (atEvent h e) = inl (omega arith)
 reached-line q (atMailbox h e) = inl (omega arith)
@@ -84,7 +86,7 @@ module _ (ts ws ls : List ℕ) (standing : Standing ts ws ls) (i : ℕ) where
   pub not-first : (q : Call) → Reaches q → taskHome ts i ≢ servedLine q → anyone ls (servedLine q) ≡ true → frontOf ls (servedLine q) ≢ i
   not-first q r apart some e =
       ⊎-elim
-      (λ (h : servedLine q < 32). apart (first-home (servedLine q) (inl h) some e))
+      (λ (h : servedLine q < postedLine 0). apart (first-home (servedLine q) (inl h) some e))
       (λ (n : servedLine q ≡ nowhere).
       omega (arith, ltb-true 0 (length (line ls (servedLine q))) some, ap length (line-out ls (servedLine q) (omega arith))))
       (reached-line q r)

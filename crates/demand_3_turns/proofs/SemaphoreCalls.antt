@@ -14,7 +14,7 @@ use Rattle.rules.specs.Semaphores.{placeIn, createEffect, deleteEffect, pendCas
 use Rattle.rules.specs.Dispatch.{context}
 use Rattle.rules.specs.declared.Tables.{Tables}
 use Rattle.rules_laws.proofs.Rows.{row-used}
-use Rattle.demand_2_soundness.proofs.Codes.{accepted-is, object-used}
+use Rattle.demand_2_soundness.proofs.Codes.{accepted-is, used-object}
 use Rattle.demand_2_soundness.proofs.Objects.{in-task}
 use Rattle.demand_3_turns.proofs.Same.{servedLine, Unmoved, Arrival}
 use Rattle.demand_3_turns.proofs.Leaves.{Left, Leaves, by-number, by-test, unknown-leaves, stay, moves, current-other, first-moves}
@@ -56,6 +56,6 @@ module _ (t : Tables) (typed : Typed t) (q : Call) (i : ℕ) (u : Unmoved t q i)
   semaphores-leave =
       by-number t i queuesOf (q .number) 0x20 _ _ (λ _ _. stay t i)
       (by-number t i queuesOf (q .number) 0x21 _ _ (λ _ _. stay t i)
-      (by-number t i queuesOf (q .number) 0x22 _ _ (λ _ z. pend-leaves (accepted-is _ z .at2) (eqb-false _ _ (object-used _ _ (accepted-is _ z .at3) (accepted-is _ z .at11))))
+      (by-number t i queuesOf (q .number) 0x22 _ _ (λ _ z. pend-leaves (accepted-is _ z .at2) (used-object _ _ (accepted-is _ z .at3) (accepted-is _ z .at11)))
       (by-number t i queuesOf (q .number) 0x23 _ _ (λ n _. post-leaves n)
       (by-number t i queuesOf (q .number) 0x24 _ _ (λ _ _. stay t i) (unknown-leaves t i queuesOf tq)))))

@@ -1,5 +1,5 @@
 -- What a movement of another task leaves task i: its row, its place in each line that is served in arrival order, and those before it.
-use Prim.Native.Nat.{ℕ, _<_}
+use Prim.Native.Nat.{ℕ, _<_, _*_}
 use mathlib.Core.Path.{_≡_, refl, sym, _∙_}
 use mathlib.Core.Logic.{_≢_, ⊎-elim}
 use mathlib.Core.Bool.{false}
@@ -10,7 +10,7 @@ use borrow.Author.Tests.{lt-ltb, le-ltb}
 use Rattle.basics.specs.Lists.{count, ahead, without, putAt}
 use Rattle.basics.proofs.Laws.{same?, count-snoc, count-without-other, putAt-back, ahead-snoc, ahead-without, without-sub}
 use Rattle.rules.specs.Tables.{taskCount, task, withTask}
-use Rattle.rules.specs.Lines.{lineCount, lineMost, line, outOf, entered, homeOf, taskHome, TaskQueues, taskQueues, moved}
+use Rattle.rules.specs.Lines.{lineCount, lineMost, line, outOf, entered, homeOf, taskHome, TaskQueues, taskQueues, moved, lineWidth}
 use Rattle.rules.specs.Tasks.{blocked}
 use Rattle.rules.specs.declared.Task.{Task}
 use Rattle.rules_laws.proofs.Rows.{by-range}
@@ -104,7 +104,7 @@ module _ (i : ℕ) (A : ℕ → Type 0) where
 
   -- ---- another task moves: at the back, or at any place into a line that lacks A
   module _ (w : ℕ) (other : w ≢ i) where
-    pub left-place : (ls : List ℕ) → length ls ≡ 2673 → (h j : ℕ) → SamePlace i (line ls j) (line (outOf h w ls) j)
+    pub left-place : (ls : List ℕ) → length ls ≡ lineCount * lineWidth → (h j : ℕ) → SamePlace i (line ls j) (line (outOf h w ls) j)
     left-place ls all h j =
         ⊎-elim
         (λ (e : j ≡ h).
@@ -114,7 +114,7 @@ module _ (i : ℕ) (A : ℕ → Type 0) where
         (λ (n : j ≢ h). place-same i _ _ (left-other ls h w j n))
         (same? j h)
 
-    pub entered-place : (ls : List ℕ) → length ls ≡ 2673 → (place : List ℕ → ℕ) (h j : ℕ) → (j ≡ h → (xs : List ℕ) → place xs ≡ length xs)
+    pub entered-place : (ls : List ℕ) → length ls ≡ lineCount * lineWidth → (place : List ℕ → ℕ) (h j : ℕ) → (j ≡ h → (xs : List ℕ) → place xs ≡ length xs)
         → SamePlace i (line ls j) (line (entered place h w ls) j)
     entered-place ls all place h j back =
         ⊎-elim
@@ -128,7 +128,7 @@ module _ (i : ℕ) (A : ℕ → Type 0) where
         (λ (n : j ≢ h). place-same i _ _ (entered-other ls h w place j n))
         (same? j h)
 
-    module _ (x : TaskQueues) (all : length (x .lines) ≡ 2673) (place : List ℕ → ℕ) (k : Task)
+    module _ (x : TaskQueues) (all : length (x .lines) ≡ lineCount * lineWidth) (place : List ℕ → ℕ) (k : Task)
         (back : A (homeOf k) → (xs : List ℕ) → place xs ≡ length xs) where
       -- the lines once it has left its own
       abbrev mid : List ℕ

@@ -6,7 +6,7 @@ use mathlib.Core.List.{List}
 use native.Mathlib.Omega.{arith}
 use lib.Dec.{eqb, ltb}
 use lib.ListN.{length}
-use Rattle.rules.specs.Tables.{swiCount, clockCount, swi, clock, PRIORITY, TRIGGER, POSTED}
+use Rattle.rules.specs.Tables.{swiCount, clockCount, swi, clock, PRIORITY, TRIGGER, POSTED, swiLevels}
 use Rattle.rules.specs.Lines.{line, frontOf, outOf, atBack, postedLine, activeLine}
 use Rattle.rules.specs.Swis.{SwiQueues, swiQueues, posted, triggered}
 use Rattle.rules.specs.Tick.{ClockTables, clockTables, clockTick, clocksTicked, aged}
@@ -37,7 +37,7 @@ ended-aside ls x =
 
 -- dispatch: a posted Swi starts
 module _ (ws ls st : List ℕ) where
-  started-aside : (p x : ℕ) → p < 16 → Aside ls (started x (postedLine p) (swiQueues ws ls) .lines)
+  started-aside : (p x : ℕ) → p < swiLevels → Aside ls (started x (postedLine p) (swiQueues ws ls) .lines)
   unfolding started
   started-aside p x l =
       record {
@@ -56,7 +56,7 @@ module _ (ws ls st : List ℕ) where
 
 -- ---- posts: every Swi has a priority below 16
 pub record Posting (ls : List ℕ) (p : SwiQueues) : Type 0 where
-  pub low : (x : ℕ) → swi (p .swis) x PRIORITY < 16
+  pub low : (x : ℕ) → swi (p .swis) x PRIORITY < swiLevels
   pub aside : Aside ls (p .lines)
 
 module _ (ls : List ℕ) (p : SwiQueues) (k : Posting ls p) where

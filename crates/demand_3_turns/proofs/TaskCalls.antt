@@ -14,7 +14,7 @@ use Rattle.rules.specs.Tasks.{freeTask, blocked, placedAt, withPriority, reprio
 use Rattle.rules.specs.declared.Tables.{Tables}
 use Rattle.rules.specs.declared.Task.{Task}
 use Rattle.rules_laws.proofs.Calls.{chosen}
-use Rattle.demand_2_soundness.proofs.Codes.{accepted-is, object-used}
+use Rattle.demand_2_soundness.proofs.Codes.{accepted-is, used-object}
 use Rattle.demand_2_soundness.proofs.TaskRows.{task-same, in-use}
 use Rattle.demand_2_soundness.proofs.Objects.{free-is}
 use Rattle.demand_3_turns.proofs.Same.{Unmoved, Arrival}
@@ -81,7 +81,7 @@ module _ (t : Tables) (typed : Typed t) (q : Call) (i : ℕ) (u : Unmoved t q i)
   tasks-leave =
       by-number t i whole (q .number) 0x00 _ _ (λ _ z. create-leaves (accepted-is _ z .at6))
       (by-number t i whole (q .number) 0x01 _ _ (λ n z. delete-leaves n (not-false _ (accepted-is _ z .at5)))
-      (by-number t i whole (q .number) 0x02 _ _ (λ n z. reprioritized-leaves n (eqb-false _ _ (object-used _ _ (accepted-is _ z .at3) (accepted-is _ z .at11))))
+      (by-number t i whole (q .number) 0x02 _ _ (λ n z. reprioritized-leaves n (used-object _ _ (accepted-is _ z .at3) (accepted-is _ z .at11)))
       (by-number t i whole (q .number) 0x03 _ _ (λ _ z. current-moves t typed q i u (called-by-task _ (accepted-is _ z .at2)) _)
       (by-number t i whole (q .number) 0x04 _ _ (λ _ z. current-moves t typed q i u (called-by-task _ (accepted-is _ z .at2)) _)
       (by-number t i whole (q .number) 0x05 _ _ (λ _ z. sleep-leaves (called-by-task _ (accepted-is _ z .at2)))

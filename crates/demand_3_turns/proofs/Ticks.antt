@@ -1,5 +1,5 @@
 -- Calls 74 to 78 leave a task that has not its last tick its row and its place.
-use Prim.Native.Nat.{ℕ, zero, suc, _≤_}
+use Prim.Native.Nat.{ℕ, zero, suc, _≤_, _*_}
 use mathlib.Core.Path.{_≡_, refl, sym, ap, _∙_}
 use mathlib.Core.Logic.{_≢_}
 use native.Mathlib.Omega.{arith}
@@ -7,8 +7,8 @@ use borrow.Author.Tests.{eqb-true, eqb-false}
 use lib.Dec.{eqb}
 use lib.ListN.{length}
 use Rattle.basics.specs.Find.{rising}
-use Rattle.rules.specs.Tables.{Typed, taskCount, task}
-use Rattle.rules.specs.Lines.{TaskQueues, taskQueues, atBack}
+use Rattle.rules.specs.Tables.{Typed, taskCount, task, taskWidth}
+use Rattle.rules.specs.Lines.{TaskQueues, taskQueues, atBack, lineCount, lineWidth}
 use Rattle.rules.specs.Sound.{Sound}
 use Rattle.rules.specs.Waits.{readied}
 use Rattle.rules.specs.Tick.{TickTables, tickTables, oneLess, endedWith, taskTick, clocksTicked, ticked, switchCall}
@@ -28,7 +28,7 @@ less : (k : Task) → k .left ≢ 0 → SameRow k (oneLess k)
 less k n = record { mode = refl; object = refl; priority = λ _. refl; endless = λ z. absurd (n z); result = (refl, refl) }
 
 -- ---- the tasks' ticks, in rising number
-module _ (i : ℕ) (A : ℕ → Type 0) (x : TaskQueues) (tasks : length (x .tasks) ≡ 256) (lines : length (x .lines) ≡ 2673)
+module _ (i : ℕ) (A : ℕ → Type 0) (x : TaskQueues) (tasks : length (x .tasks) ≡ taskCount * taskWidth) (lines : length (x .lines) ≡ lineCount * lineWidth)
     (lasts : task (x .tasks) i .left ≢ 1) where
   -- those below n have had theirs, and where i is not among them it has the ticks that it had
   record Ticking (n : ℕ) (y : TaskQueues) : Type 0 where
@@ -47,7 +47,7 @@ module _ (i : ℕ) (A : ℕ → Type 0) (x : TaskQueues) (tasks : length (x .tas
   unfolding taskTick
   tick-goes n y k =
       let w = task (y .tasks) n in
-      let full : length (y .tasks) ≡ 256 = k .so-far .taskLength ∙ tasks in
+      let full : length (y .tasks) ≡ taskCount * taskWidth = k .so-far .taskLength ∙ tasks in
       chosen (λ (z : TaskQueues). Ticking (suc n) z) (eqb (w .left) 0) _ _
       (λ _. goes n y y k (in-refl i A y) (λ _. refl))
       (λ some.

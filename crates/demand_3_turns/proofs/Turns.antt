@@ -1,4 +1,5 @@
 -- One call and a task's turn: a ready task that does not run, and a task that waits without end at a semaphore in arrival order.
+-- In this order: what both have; a ready task; a waiter without end.
 use Prim.Native.Nat.{ℕ, _+_, _<_, _≤_}
 use mathlib.Core.Path.{_≡_, sym, ap, subst, _∙_}
 use mathlib.Core.Logic.{_≢_, _⊎_, inl, inr, ⊎-elim}

@@ -25,7 +25,7 @@ further s i k m u q qs b le x =
       post = x .post;
       rest = x .rest;
       split = ap (λ (l : List Call). q ∷ l) (x .split);
-      waits = (b, x .waits);
+      blocked = (b, x .blocked);
       few = omega (arith, x .few);
       posted = x .posted;
       moment = x .moment;
@@ -58,7 +58,7 @@ module _ (s i : ℕ) where
         post = q;
         rest = qs;
         split = refl;
-        waits = w .blocked;
+        blocked = w .blocked;
         few = omega arith;
         posted = x .post;
         moment = next u q;

@@ -1,4 +1,5 @@
 -- Demands 1 and 2 hold of a list of calls: what is refused is looked at case by case, and an accepted list is its calls one after the other.
+-- In this order: a list fits or is bad; what it leaves; demand 1; demand 2; the whole; its words; the same calls one by one.
 use Prim.{tt}
 use Prim.Native.Nat.{ℕ, suc, _*_, _/_, _%_, _<_, _≤_}
 use mathlib.Core.Path.{_≡_, refl, sym, ap, subst, _∙_}
@@ -18,7 +19,7 @@ use Rattle.rules.proofs.Agree.{sound-means, means-sound}
 use Rattle.rules.specs.declared.Answer.{Answer}
 use Rattle.rules.specs.declared.Tables.{Tables}
 use Rattle.runs.specs.Run.{ByType, made, next, after, Each}
-use Rattle.runs.specs.CallList.{callsOf, answersTo, wordsOf, badList, Handed, handed, allMade, nothingDone, handOver}
+use Rattle.runs.specs.CallList.{callsOf, answersTo, wordsOf, badList, Handed, handed, allMade, nothingDone, handOver, mostCalls, callWords, answerWords}
 use Rattle.runs.proofs.CallList.{length-first, length-answers, length-words, answers-stand, laid-out, calls-laid-out, unsound-left, bad-left, good-left}
 use Rattle.demand_1_refusals.proofs.First.{by-bool}
 use Rattle.demand_2_soundness.proofs.Nothing.{nothing-left}
@@ -36,9 +37,9 @@ module _ (ws room : List ℕ) where
   of-test : Fits ws room → badList (length ws) (length room) ≡ false
   unfolding badList
   of-test f =
-      let n : length ws / 5 ≡ f .calls = omega (arith, f .multiple) in
-      let whole : length ws % 5 ≡ 0 = omega (arith, f .multiple) in
-      rw (n, eq-eqb (length ws % 5) 0 whole, le-ltb 256 (f .calls) (f .most), le-ltb (length room) (f .calls * 3) (f .space))
+      let n : length ws / callWords ≡ f .calls = omega (arith, f .multiple) in
+      let whole : length ws % callWords ≡ 0 = omega (arith, f .multiple) in
+      rw (n, eq-eqb (length ws % callWords) 0 whole, le-ltb mostCalls (f .calls) (f .most), le-ltb (length room) (f .calls * answerWords) (f .space))
 
   pub no-fit : badList (length ws) (length room) ≡ true → Fits ws room → ⊥
   no-fit bad f = true≢false (sym bad ∙ of-test f)
@@ -47,22 +48,25 @@ module _ (ws room : List ℕ) where
   unfolding badList
   fits good =
       ⊎-elim
-      (λ (whole : length ws % 5 ≡ 0).
+      (λ (whole : length ws % callWords ≡ 0).
       ⊎-elim
-      (λ (many : 256 < length ws / 5).
-      absurd (true≢false (sym (rw (eq-eqb (length ws % 5) 0 whole, lt-ltb 256 (length ws / 5) many)) ∙ good)))
-      (λ (few : length ws / 5 ≤ 256).
+      (λ (many : mostCalls < length ws / callWords).
+      absurd (true≢false (sym (rw (eq-eqb (length ws % callWords) 0 whole, lt-ltb mostCalls (length ws / callWords) many)) ∙ good)))
+      (λ (few : length ws / callWords ≤ mostCalls).
       ⊎-elim
-      (λ (short : length room < length ws / 5 * 3).
+      (λ (short : length room < length ws / callWords * answerWords).
       absurd
       (true≢false
-      (sym (rw (eq-eqb (length ws % 5) 0 whole, le-ltb 256 (length ws / 5) few, lt-ltb (length room) (length ws / 5 * 3) short)) ∙ good)))
-      (λ (enough : length ws / 5 * 3 ≤ length room).
-      record { calls = length ws / 5; multiple = omega arith; most = few; space = enough })
-      (lt-or-le (length room) (length ws / 5 * 3)))
-      (lt-or-le 256 (length ws / 5)))
-      (λ (odd : length ws % 5 ≢ 0). absurd (true≢false (sym (rw (ne-eqb (length ws % 5) 0 odd)) ∙ good)))
-      (same? (length ws % 5) 0)
+      (sym
+      (rw (eq-eqb (length ws % callWords) 0 whole, le-ltb mostCalls (length ws / callWords) few)
+      (rw (lt-ltb (length room) (length ws / callWords * answerWords) short)))
+      ∙ good)))
+      (λ (enough : length ws / callWords * answerWords ≤ length room).
+      record { calls = length ws / callWords; multiple = omega arith; most = few; space = enough })
+      (lt-or-le (length room) (length ws / callWords * answerWords)))
+      (lt-or-le mostCalls (length ws / callWords)))
+      (λ (odd : length ws % callWords ≢ 0). absurd (true≢false (sym (rw (ne-eqb (length ws % callWords) 0 odd)) ∙ good)))
+      (same? (length ws % callWords) 0)
 
 -- ---- what a list leaves: code 10 on tables that are not sound, code 4 where it does not fit, all calls made else
 module _ (t : Tables) (ws room : List ℕ) where
@@ -80,8 +84,8 @@ module _ (t : Tables) (ws room : List ℕ) where
 -- ---- demand 1
 calls-fit : (ws room : List ℕ) → Fits ws room → length (callsOf ws) * 3 ≤ length room
 calls-fit ws room f =
-    let n : length ws / 5 ≡ f .calls = omega (arith, f .multiple) in
-    omega (arith, length-first (length ws / 5) ws, n, f .space)
+    let n : length ws / callWords ≡ f .calls = omega (arith, f .multiple) in
+    omega (arith, length-first (length ws / callWords) ws, n, f .space)
 
 -- a refusal with code k
 refused-list : (t : Tables) (room : List ℕ) (k : ℕ) → nothingDone t room k ≡ handed t room (answer k 0 0) (threadOf t)
@@ -150,7 +154,7 @@ module _ (t : Tables) (ws room : List ℕ) (s : Sound t) where
         typed = λ typed. typed;
         sound = s;
         thread = rw (means-sound t s);
-        settled = nothing-left t s;
+        nothingLeft = nothing-left t s;
       }
 
   good-kept : Each ByType t (callsOf ws) → ListKept t ws (allMade t (callsOf ws) room)
@@ -164,7 +168,7 @@ module _ (t : Tables) (ws room : List ℕ) (s : Sound t) where
         typed = types;
         sound = sound;
         thread = refl;
-        settled = nothing-left (after t (callsOf ws)) sound;
+        nothingLeft = nothing-left (after t (callsOf ws)) sound;
       }
 
   made-code : allMade t (callsOf ws) room .answer .code ≡ 0
@@ -192,8 +196,8 @@ promised-list t ws room e types =
 -- ---- a list that fits is its calls' words, one after the other
 pub lists-are-words : ListsAreWords
 lists-are-words ws room f =
-    let n : length ws / 5 ≡ f .calls = omega (arith, f .multiple) in
-    laid-out (length ws / 5) ws (omega (arith, n, f .multiple))
+    let n : length ws / callWords ≡ f .calls = omega (arith, f .multiple) in
+    laid-out (length ws / callWords) ws (omega (arith, n, f .multiple))
 
 pub calls-are-lists : CallsAreLists
 calls-are-lists = calls-laid-out

@@ -1,4 +1,5 @@
 -- `readAt` answers exactly what stands at a position, of any bytes and any position: its tests are gone through one after the other.
+-- In this order: the version; what `readAt` answers, test by test; the layout: an answer exactly where it stands; arguments and moves.
 use Prim.Native.Nat.{ℕ, suc, _+_, _-_, _*_, _<_, _≤_}
 use mathlib.Core.Path.{_≡_, refl, sym, ap, subst, _∙_}
 use mathlib.Core.Bool.{true, false, _&&_, cond as if, and-false}
@@ -10,7 +11,8 @@ use lib.Dec.{eqb, ltb}
 use lib.ListN.{length, take, drop, getD, take-append-drop, length-append, length-drop}
 use lib.Seq.{drop-cons, drop-drop, getD-drop, take-at, length-take-le}
 use Rattle.basics.proofs.Laws.{same?, lt-or-le}
-use Rattle.rules.specs.Log.{versionOf, isVersion, halfAt, readIn, readAt, argumentBytes, handedOut, argument, moveTo}
+use Rattle.rules.specs.Log.{versionOf, isVersion, halfAt, readIn, readAt, argumentBytes, handedOut, argument, moveTo, recordBytes, recordLength, versionByte}
+use Rattle.rules.specs.Log.{argumentsLength, numberByte, firstArgument}
 use Rattle.rules.specs.declared.Read.{Read}
 use Rattle.rules.specs.declared.Read.the-variants.{Record, End, Cut, Length, Version}
 use Rattle.demands.specs.Log.{LengthAt, RecordAt, OtherVersion, StandsAt, LogLayout, HandsOut, BigEndian, OnlyRecordsMove}
@@ -56,17 +58,18 @@ module _ (s : List ℕ) (at : ℕ) where
   next i j h e = drop-cons s i 0 h ∙ ap (λ (k : ℕ). getD s i 0 ∷ drop k s) e
 
   module _ (number : ℕ) (arguments : List ℕ) (r : RecordAt s at number arguments) where
-    whole : at + 20 ≤ length s
+    whole : at + recordBytes ≤ length s
     whole = omega (arith, length-drop at s, ap length (r .bytes), length-append arguments (r .rest), r .sixteen)
 
     begins : getD s at 0 ≡ 0x00
     begins = let e : at + 0 ≡ at = omega arith in rw e at (byte _ (r .bytes) 0)
 
     -- its argument bytes are the sixteen behind the call number
-    pub arguments-are : argumentBytes s (at + 4) ≡ arguments
+    pub arguments-are : argumentBytes s (at + firstArgument) ≡ arguments
     unfolding argumentBytes
     arguments-are =
-        ap (take 16) (sym (drop-drop 4 at s) ∙ ap (drop 4) (r .bytes)) ∙ take-at arguments (r .rest) 16 (r .sixteen)
+        ap (take argumentsLength) (sym (drop-drop firstArgument at s) ∙ ap (drop firstArgument) (r .bytes))
+        ∙ take-at arguments (r .rest) argumentsLength (r .sixteen)
 
   -- ---- the tests one after the other
   past : length s < at → readAt s at ≡ Cut at
@@ -83,10 +86,11 @@ module _ (s : List ℕ) (at : ℕ) where
       rw (le-ltb (length s) at (omega arith), ne-eqb (length s) at (λ (q : length s ≡ at). omega arith), eq-eqb (length s - at) 1 (omega arith))
 
   -- with two bytes or more: their number, how many follow, and the version
-  module _ (two : at + 2 ≤ length s) where
+  module _ (two : at + versionByte ≤ length s) where
     tested : readAt s at
-        ≡ if (eqb (halfAt s at) 18)
-        (if (ltb (length s - at) 20) (Cut at) (if (isVersion (versionOf s) && eqb (getD s (at + 2) 0) (versionOf s)) (Record (getD s (at + 3) 0) (at + 4)) (Version at)))
+        ≡ if (eqb (halfAt s at) recordLength)
+        (if (ltb (length s - at) recordBytes) (Cut at)
+        (if (isVersion (versionOf s) && eqb (getD s (at + versionByte) 0) (versionOf s)) (Record (getD s (at + numberByte) 0) (at + firstArgument)) (Version at)))
         (Length at)
     unfolding readIn
     tested =
@@ -97,40 +101,40 @@ module _ (s : List ℕ) (at : ℕ) where
         )
 
     wrong : (LengthAt s at → ⊥) → readAt s at ≡ Length at
-    wrong n = rw (tested, ne-eqb (halfAt s at) 18 (λ (e : halfAt s at ≡ 18). n (two, omega arith, omega arith)))
+    wrong n = rw (tested, ne-eqb (halfAt s at) recordLength (λ (e : halfAt s at ≡ recordLength). n (two, omega arith, omega arith)))
 
   module _ (l : LengthAt s at) where
-    good : eqb (halfAt s at) 18 ≡ true
-    good = let (_, a, b) = l in eq-eqb (halfAt s at) 18 (omega arith)
+    good : eqb (halfAt s at) recordLength ≡ true
+    good = let (_, a, b) = l in eq-eqb (halfAt s at) recordLength (omega arith)
 
-    short : length s < at + 20 → readAt s at ≡ Cut at
-    short h = rw (tested (l .0), good, lt-ltb (length s - at) 20 (omega (arith, l .0)))
+    short : length s < at + recordBytes → readAt s at ≡ Cut at
+    short h = rw (tested (l .0), good, lt-ltb (length s - at) recordBytes (omega (arith, l .0)))
 
-    module _ (h : at + 20 ≤ length s) where
-      strange : OtherVersion s (getD s (at + 2) 0) → readAt s at ≡ Version at
-      strange n = rw (tested (l .0), good, le-ltb (length s - at) 20 (omega arith), version-other s (getD s (at + 2) 0) n)
+    module _ (h : at + recordBytes ≤ length s) where
+      strange : OtherVersion s (getD s (at + versionByte) 0) → readAt s at ≡ Version at
+      strange n = rw (tested (l .0), good, le-ltb (length s - at) recordBytes (omega arith), version-other s (getD s (at + versionByte) 0) n)
 
-      read : SameVersion s (getD s (at + 2) 0) → readAt s at ≡ Record (getD s (at + 3) 0) (at + 4)
-      read e = rw (tested (l .0), good, le-ltb (length s - at) 20 (omega arith), version-same s (getD s (at + 2) 0) e)
+      read : SameVersion s (getD s (at + versionByte) 0) → readAt s at ≡ Record (getD s (at + numberByte) 0) (at + firstArgument)
+      read e = rw (tested (l .0), good, le-ltb (length s - at) recordBytes (omega arith), version-same s (getD s (at + versionByte) 0) e)
 
-      record-there : SameVersion s (getD s (at + 2) 0) → RecordAt s at (getD s (at + 3) 0) (argumentBytes s (at + 4))
+      record-there : SameVersion s (getD s (at + versionByte) 0) → RecordAt s at (getD s (at + numberByte) 0) (argumentBytes s (at + firstArgument))
       unfolding argumentBytes
       record-there e =
           record {
-            rest = drop 16 (drop (at + 4) s);
+            rest = drop argumentsLength (drop (at + firstArgument) s);
             bytes =
                 rw (
                   next at (at + 1) (omega arith) (omega arith),
-                  next (at + 1) (at + 2) (omega arith) (omega arith),
-                  next (at + 2) (at + 3) (omega arith) (omega arith),
-                  next (at + 3) (at + 4) (omega arith) (omega arith),
+                  next (at + 1) (at + versionByte) (omega arith) (omega arith),
+                  next (at + versionByte) (at + numberByte) (omega arith) (omega arith),
+                  next (at + numberByte) (at + firstArgument) (omega arith) (omega arith),
                   l .1,
                   l .2,
                   e .0,
-                  take-append-drop 16 (drop (at + 4) s),
+                  take-append-drop argumentsLength (drop (at + firstArgument) s),
                 );
             version = e .1;
-            sixteen = length-take-le 16 (drop (at + 4) s) (omega (arith, length-drop (at + 4) s));
+            sixteen = length-take-le argumentsLength (drop (at + firstArgument) s) (omega (arith, length-drop (at + firstArgument) s));
           }
 
   -- ---- what is answered stands there, and what stands there is answered
@@ -145,22 +149,22 @@ module _ (s : List ℕ) (at : ℕ) where
       ⊎-elim
       (λ (e : length s ≡ at + 1). rw (one e) (refl, inr (inl e)))
       (λ (m : length s ≢ at + 1).
-      let two : at + 2 ≤ length s = omega arith in
+      let two : at + versionByte ≤ length s = omega arith in
       ⊎-elim
-      (λ (e : halfAt s at ≡ 18).
+      (λ (e : halfAt s at ≡ recordLength).
       let l : LengthAt s at = (two, omega arith, omega arith) in
       ⊎-elim
-      (λ (h : length s < at + 20). rw (short l h) (refl, inr (inr (l, h))))
-      (λ (h : at + 20 ≤ length s).
+      (λ (h : length s < at + recordBytes). rw (short l h) (refl, inr (inr (l, h))))
+      (λ (h : at + recordBytes ≤ length s).
       ⊎-elim
-      (λ (v : SameVersion s (getD s (at + 2) 0)). rw (read l h v) (refl, record-there l h v))
-      (λ (v : OtherVersion s (getD s (at + 2) 0)). rw (strange l h v) (refl, h, l, v))
-      (version? s (getD s (at + 2) 0)))
-      (lt-or-le (length s) (at + 20)))
-      (λ (e : halfAt s at ≢ 18).
+      (λ (v : SameVersion s (getD s (at + versionByte) 0)). rw (read l h v) (refl, record-there l h v))
+      (λ (v : OtherVersion s (getD s (at + versionByte) 0)). rw (strange l h v) (refl, h, l, v))
+      (version? s (getD s (at + versionByte) 0)))
+      (lt-or-le (length s) (at + recordBytes)))
+      (λ (e : halfAt s at ≢ recordLength).
       let differs : LengthAt s at → ⊥ = λ l. let (_, a, b) = l in e (omega arith) in
       rw (wrong two differs) (refl, omega arith, differs))
-      (same? (halfAt s at) 18))
+      (same? (halfAt s at) recordLength))
       (same? (length s) (at + 1)))
       (same? (length s) at))
       (lt-or-le (length s) at)
@@ -170,7 +174,7 @@ module _ (s : List ℕ) (at : ℕ) where
       let h = whole number (argumentBytes s start) r in
       let at-byte = byte _ (r .bytes) in
       read (omega arith, begins number (argumentBytes s start) r, at-byte 1) h (at-byte 2, r .version)
-      ∙ ap (λ (n : ℕ). Record n (at + 4)) (at-byte 3)
+      ∙ ap (λ (n : ℕ). Record n (at + firstArgument)) (at-byte 3)
       ∙ ap (Record number) (sym e)
   only End e = none e
   only (Cut n) (e, inl h) = rw e (past h)
@@ -190,9 +194,9 @@ big-endian bytes n = let e : n * 4 + 2 + 1 ≡ n * 4 + 3 = omega arith in rw e (
 pub record-hands-out : HandsOut
 unfolding handedOut
 record-hands-out s at number arguments r =
-    rw (le-ltb (length s) (at + 4 + 16) (omega (arith, whole s at number arguments r))) (arguments-are s at number arguments r)
+    rw (le-ltb (length s) (at + firstArgument + argumentsLength) (omega (arith, whole s at number arguments r))) (arguments-are s at number arguments r)
 
-record-moves : (s : List ℕ) (at number start : ℕ) → readAt s at ≡ Record number start → moveTo (readAt s at) at ≡ at + 20
+record-moves : (s : List ℕ) (at number start : ℕ) → readAt s at ≡ Record number start → moveTo (readAt s at) at ≡ at + recordBytes
 unfolding moveTo
 record-moves s at number start e = let (d, _) = log-layout s at (Record number start) .0 e in rw e (omega arith)
 

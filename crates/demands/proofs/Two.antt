@@ -62,7 +62,7 @@ module _ (t : Tables) (typed : Typed t) (s : Sound t) (q : Call) (w : Words q) w
         typed = next-typed t typed s q w;
         sound = next-sound t typed s q w;
         thread = subst (λ (r : Step). r .thread ≡ running (r .tables .lines) (r .tables .state)) (sym (is-step t s q)) (step-thread t q);
-        settled = nothing-left (next t q) (next-sound t typed s q w);
+        nothingLeft = nothing-left (next t q) (next-sound t typed s q w);
       }
 
 pub demand-2 : DemandTwo

@@ -54,7 +54,7 @@ pub record ListKept (t : Tables) (words : List ℕ) (s : Handed) : Type 0 where
   pub typed : Typed t → Typed (s .tables)
   pub sound : Sound (s .tables)
   pub thread : s .thread ≡ running (s .tables .lines) (s .tables .state)
-  pub settled : dispatched (s .tables .swis) (s .tables .lines) (s .tables .state)
+  pub nothingLeft : dispatched (s .tables .swis) (s .tables .lines) (s .tables .state)
       ≡ dispatchTables (s .tables .swis) (s .tables .lines) (s .tables .state)
 
 -- ---- what the entry promises of a list handed over on any tables: the whole, and with it demands 1 and 2

@@ -22,7 +22,7 @@ pub record Kept (t : Tables) (q : Call) (s : Step) : Type 0 where
   pub sound : Sound (s .tables)
   -- the running thread is the one that the dispatch rule names on them, and dispatch has nothing left to do
   pub thread : s .thread ≡ running (s .tables .lines) (s .tables .state)
-  pub settled : dispatched (s .tables .swis) (s .tables .lines) (s .tables .state)
+  pub nothingLeft : dispatched (s .tables .swis) (s .tables .lines) (s .tables .state)
       ≡ dispatchTables (s .tables .swis) (s .tables .lines) (s .tables .state)
 
 -- the demand: of sound tables whose arrays have their types' lengths, and any call whose arguments are words

@@ -5,14 +5,14 @@ use mathlib.Core.Path.{_≡_, refl, sym, subst}
 use mathlib.Core.Logic.{_≢_, ⊎-elim}
 use mathlib.Core.List.{List, [], _∷_, _++_}
 use native.Mathlib.Omega.{arith}
-use borrow.Author.Tests.{eq-eqb, ne-eqb}
+use borrow.Author.Tests.{ne-eqb}
 use Rattle.basics.specs.Lists.{zeros, count, ahead}
 use Rattle.basics.proofs.Laws.{same?}
 use Rattle.rules.specs.Answer.{nowWaiting, asked}
 use Rattle.rules.specs.Tables.{mostLevels, forever, ready, atSemaphore, terminated, tables, task, current, levels, semaphore, KIND}
 use Rattle.rules.specs.Lines.{line, semaphoreLine, activeLine, readyLine}
 use Rattle.rules.specs.Dispatch.{running, highestReady}
-use Rattle.rules.specs.Fresh.{freshWith, madeFresh}
+use Rattle.rules.specs.Fresh.{freshWith, madeFresh, noEvents, noMailboxes, noSwis, noClocks, freeHeap}
 use Rattle.rules.specs.declared.Tables.{Tables}
 use Rattle.rules.specs.declared.Thread.the-variants.{Task}
 use Rattle.rules.proofs.Runs.{Line, _⇒_, said, says, calls, T, createTask, end, createSemaphore, post}
@@ -24,7 +24,8 @@ use Rattle.runs.specs.Turn.{BlockedOn, ServedIn, ReadyAt, queueAt, AtFront, Und
 use Rattle.demands.specs.Three.{pend, Turn, Queues}
 use Rattle.demands.proofs.Two.{made-fresh-safe}
 use Rattle.demands.proofs.Three.{demand-3}
-use Rattle.demands_examples.proofs.BySteps.{asks, pass, inWords, Leads, leads, anything, blocked, undisturbed, stays-blocked, stays-undisturbed, gone-at-last, none-higher}
+use Rattle.demands_examples.proofs.BySteps.{asks, pass, inWords, Leads, leads, anything, blocked, undisturbed, stays-undisturbed, gone-at-last}
+use Rattle.demands_examples.proofs.BySteps.{served-there, unhindered-there}
 use Rattle.demands_examples.proofs.Stated.{WhenServed, Readied, Begins, begun-there}
 use Rattle.rules.specs.declared.Call.{Call}
 
@@ -55,7 +56,7 @@ unfoldable pub tablesOf : List ℕ → List ℕ → List ℕ → List ℕ → �
 tablesOf rows waiters at15 at20 current =
     tables (ready ∷ (zeros 7 ++ (rows ++ zeros 224)))
     (linesWith (semaphoreLine 0 has waiters ∷ readyLine 0 has (0 ∷ []) ∷ readyLine 15 has at15 ∷ readyLine 20 has at20 ∷ []))
-    (1 ∷ zeros 47) (zeros 16) (zeros 80) (zeros 96) (zeros 80) (zeros 256)
+    (1 ∷ zeros 47) noEvents noMailboxes noSwis noClocks freeHeap
     (0 ∷ 1 ∷ 1 ∷ 0 ∷ current ∷ mostLevels ∷ [])
 
 abbrev row : ℕ → ℕ → List ℕ
@@ -118,15 +119,8 @@ waits = let e = to-begun .answers .so in cc
 begins : Begins 2 start 2 (1 ∷ []) begun
 unfolding after
 begins =
-    record {
-      typed = to-start .typed;
-      sound = to-start .sound;
-      kind = omega (arith, in-start .2);
-      waits = waits;
-      task = in-start .0;
-      behind = in-start .1;
-      now = to-begun .now;
-    }
+    let (task, behind, kind) = in-start in
+    record { typed = to-start .typed; sound = to-start .sound; kind = omega arith; waits = waits; task = task; behind = behind; now = to-begun .now }
 
 pub turn : Turn 0 2 (1 ∷ []) begun
 turn = begun-there 2 Turn start 2 (1 ∷ []) begun begins demand-3
@@ -150,20 +144,8 @@ in-moment = ((refl, refl), refl, refl, refl)
 unfoldable served : ServedIn 0 2 1 begun run
 unfolding after
 served =
-    record {
-      before = asks (calls flood);
-      post = asked 0x23 0 0 0 0;
-      rest = later;
-      split = refl;
-      waits = stays-blocked 0 2 begun (asks (calls flood)) (to-flooded .all) (rw (to-flooded .now) in-flooded);
-      few = omega (arith, to-flooded .posts);
-      posted = rw (to-flooded .now) (eq-eqb _ 0 accepted);
-      moment = moment;
-      now = rw (to-flooded .now) (sym (to-moment .now));
-      ready = in-moment .0 .0;
-      outcome = in-moment .2;
-      value = in-moment .3;
-    }
+    served-there 2 1 1 begun flooded moment flood later to-flooded (omega arith) in-flooded accepted (to-moment .now)
+    (in-moment .0 .0, in-moment .2, in-moment .3)
 
 -- ---- its turn in the queue of priority 20: task 1 ends
 in-ending : ReadyAt 20 2 ending × (queueAt 20 ending ≡ 2 ∷ []) × (highestReady (levels (ending .state)) (ending .lines) ≡ 21) × (line (ending .lines) activeLine ≡ [])
@@ -186,7 +168,7 @@ all-gone x h =
     (same? 1 x)
 
 readied-there : (P : ℕ → ℕ → Tables → Type 0) → Readied P → P 20 2 moment
-unfolding served
+unfolding served served-there
 readied-there P every =
     subst (λ (p : ℕ). P p 2 moment) (in-moment .0 .1) (begun-there 2 (WhenServed P) start 2 (1 ∷ []) begun begins every run (whole .words) served)
 
@@ -199,14 +181,7 @@ front = rw (to-ending .now) at (queues .front later (to-ending .words) quiet all
 
 pub unhindered : Unhindered 20 ending
 unfolding tablesOf ending
-unhindered =
-    record {
-      higher = λ r over under. none-higher ending r (omega (arith, in-ending .2)) under;
-      depth = refl;
-      active = in-ending .3;
-      swis = λ e. omega (arith, e);
-      tasks = λ e. omega (arith, e);
-    }
+unhindered = unhindered-there 20 ending (in-ending .2) (in-ending .3) refl refl refl
 
 pub at-last : running (ending .lines) (ending .state) ≡ Task 2
 at-last =

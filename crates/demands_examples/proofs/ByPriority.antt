@@ -8,7 +8,7 @@ use Rattle.basics.specs.Lists.{zeros}
 use Rattle.rules.specs.Answer.{nowWaiting}
 use Rattle.rules.specs.Tables.{forever, ready, atSemaphore, tables, current, semaphore, KIND}
 use Rattle.rules.specs.Lines.{line, semaphoreLine, readyLine}
-use Rattle.rules.specs.Fresh.{fresh}
+use Rattle.rules.specs.Fresh.{fresh, noEvents, noMailboxes, noSwis, noClocks, freeHeap}
 use Rattle.rules.specs.declared.Tables.{Tables}
 use Rattle.rules.proofs.Runs.{Line, _⇒_, said, says, calls, T, createTask, createSemaphore, post}
 use Rattle.rules.proofs.Runs as Runs
@@ -35,7 +35,7 @@ unfoldable pub tablesOf : ℕ → ℕ → ℕ → List ℕ → List ℕ → List
 tablesOf one two priority waiters at5 at6 current =
     tables (ready ∷ (zeros 7 ++ (one ∷ 5 ∷ (zeros 6 ++ (two ∷ priority ∷ zeros 238)))))
     (linesWith (semaphoreLine 0 has waiters ∷ readyLine 0 has (0 ∷ []) ∷ readyLine 5 has at5 ∷ readyLine 6 has at6 ∷ []))
-    (1 ∷ 2 ∷ zeros 46) (zeros 16) (zeros 80) (zeros 96) (zeros 80) (zeros 256)
+    (1 ∷ 2 ∷ zeros 46) noEvents noMailboxes noSwis noClocks freeHeap
     (0 ∷ 1 ∷ 1 ∷ 0 ∷ current ∷ 16 ∷ [])
 
 unfoldable pub start : Tables
@@ -77,15 +77,8 @@ in-overtaken = (refl, refl)
 begins : Begins 3 start 1 [] begun
 unfolding after
 begins =
-    record {
-      typed = to-start .typed;
-      sound = to-start .sound;
-      kind = omega (arith, in-start .0);
-      waits = waits;
-      task = in-start .1;
-      behind = in-start .2;
-      now = to-begun .now;
-    }
+    let (kind, task, behind) = in-start in
+    record { typed = to-start .typed; sound = to-start .sound; kind = omega arith; waits = waits; task = task; behind = behind; now = to-begun .now }
 
 pub not-in-turn : Waits 0 1 0 begun → ⊥
 not-in-turn w =

@@ -1,6 +1,6 @@
 -- Examples for demand 3: a run of calls is computed in one pass. On sound tables a call is its step, so that soundness is not tested anew.
 use Prim.{tt}
-use Prim.Native.Nat.{ℕ, _+_, _<_, _≤_}
+use Prim.Native.Nat.{ℕ, suc, _+_, _<_, _≤_}
 use mathlib.Core.Path.{_≡_, refl, sym, ap, subst, _∙_}
 use mathlib.Core.Logic.{inr}
 use mathlib.Core.Bool.{Bool, true, false, not, _&&_, and-eq-true-iff, false≢true}
@@ -11,8 +11,8 @@ use lib.Dec.{eqb, ltb}
 use Rattle.basics.specs.Lists.{bit, count}
 use Rattle.basics.proofs.Laws.{no-length}
 use Rattle.basics.proofs.Finds.{high-is}
-use Rattle.rules.specs.Tables.{Typed, wordEnd, levels, atSemaphore, task}
-use Rattle.rules.specs.Lines.{readyLine, anyone}
+use Rattle.rules.specs.Tables.{Typed, wordEnd, levels, atSemaphore, ready, task, state, DEPTH, SWIS, TASKS}
+use Rattle.rules.specs.Lines.{line, readyLine, activeLine, anyone}
 use Rattle.rules.specs.Dispatch.{running, highestReady}
 use Rattle.rules.specs.Sound.{Sound}
 use Rattle.rules.specs.Step.{step}
@@ -22,8 +22,8 @@ use Rattle.rules.specs.declared.Thread.{Thread}
 use Rattle.rules.specs.declared.Thread.the-variants.{Task, Swi, Interrupt}
 use Rattle.rules.proofs.Runs.{Line, Said, _runs_, look, said, saw, says, calls, answers}
 use Rattle.rules.proofs.Runs as Runs
-use Rattle.runs.specs.Run.{next, after, Each, Always, AllWords}
-use Rattle.runs.specs.Turn.{BlockedOn, postsOn, ServedIn, queueAt, Undisturbed, Gone}
+use Rattle.runs.specs.Run.{made, next, after, Each, Always, AllWords}
+use Rattle.runs.specs.Turn.{BlockedOn, postsOn, ServedIn, queueAt, Undisturbed, Gone, Unhindered}
 use Rattle.demands.proofs.Two.{demand-2}
 use Rattle.rules.specs.Answer.{asked}
 use Rattle.rules.specs.declared.Call.{Call}
@@ -173,6 +173,27 @@ not-served s i k u qs a x =
     let there = always-there (BlockedOn s i) u (x .before) (x .post) (x .rest) (rw (x .split) at a) in
     omega (arith, there .0, rw (x .now) at (x .ready))
 
+-- who was blocked until the tables v, in which an accepted post on semaphore 0 readies it, is served by that post
+unfoldable pub served-there : (i k n : ℕ) (u v w : Tables) (ls : List Line) (rest : List Call) → Leads (blocked 0 i) 0 u ls n v → n ≤ k
+    → BlockedOn 0 i v → made v (asked 0x23 0 0 0 0) .answer .code ≡ 0 → next v (asked 0x23 0 0 0 0) ≡ w
+    → (task (w .tasks) i .mode ≡ ready) × (task (w .tasks) i .outcome ≡ 0) × (task (w .tasks) i .value ≡ 0)
+    → ServedIn 0 i k u (asks (calls ls) ++ (asked 0x23 0 0 0 0 ∷ rest))
+served-there i k n u v w ls rest l few there accepted now (is-ready, outcome, value) =
+    record {
+      before = asks (calls ls);
+      post = asked 0x23 0 0 0 0;
+      rest = rest;
+      split = refl;
+      blocked = stays-blocked 0 i u (asks (calls ls)) (l .all) (rw (l .now) there);
+      few = omega (arith, l .posts);
+      posted = rw (l .now) (eq-eqb _ 0 accepted);
+      moment = w;
+      now = rw (l .now) (sym now);
+      ready = is-ready;
+      outcome = outcome;
+      value = value;
+    }
+
 -- who has left the queue after all calls is gone
 pub gone-at-last : (p x : ℕ) (t : Tables) (qs : List Call) → count x (queueAt p (after t qs)) ≡ 0 → Gone p x t qs
 unfolding after Gone
@@ -183,3 +204,15 @@ gone-at-last p x t (q ∷ qs) e = inr (inr (gone-at-last p x (next t q) qs e))
 pub none-higher : (t : Tables) (r : ℕ) → highestReady (levels (t .state)) (t .lines) ≤ r → r < levels (t .state) → queueAt r t ≡ []
 unfolding highestReady
 none-higher t r over under = no-length _ (ltb-false 0 _ (high-is (levels (t .state)) (λ p. anyone (t .lines) (readyLine p)) .after r over under))
+
+-- where p is the highest priority at which a task is ready, nothing hinders it at depth 0 with no Swi active and both switches on
+pub unhindered-there : (p : ℕ) (t : Tables) → highestReady (levels (t .state)) (t .lines) ≡ suc p → line (t .lines) activeLine ≡ []
+    → state (t .state) DEPTH ≡ 0 → state (t .state) SWIS ≡ 1 → state (t .state) TASKS ≡ 1 → Unhindered p t
+unhindered-there p t highest none depth swis tasks =
+    record {
+      higher = λ r over under. none-higher t r (omega arith) under;
+      depth = depth;
+      active = none;
+      swis = λ e. omega arith;
+      tasks = λ e. omega arith;
+    }

@@ -5,7 +5,7 @@ use mathlib.Core.Path.{_≡_, refl, sym, subst}
 use mathlib.Core.Logic.{_≢_, inl, inr, ⊎-elim}
 use mathlib.Core.List.{[], _∷_}
 use native.Mathlib.Omega.{arith}
-use borrow.Author.Tests.{eq-eqb, ne-eqb}
+use borrow.Author.Tests.{ne-eqb}
 use Rattle.basics.specs.Lists.{count, ahead}
 use Rattle.basics.proofs.Laws.{same?}
 use Rattle.rules.specs.Answer.{nowWaiting, asked}
@@ -14,14 +14,14 @@ use Rattle.rules.specs.Lines.{line, semaphoreLine, activeLine}
 use Rattle.rules.specs.Dispatch.{running, highestReady}
 use Rattle.rules.specs.declared.Tables.{Tables}
 use Rattle.rules.specs.declared.Thread.the-variants.{Task}
-use Rattle.rules.proofs.Runs.{says, calls}
+use Rattle.rules.proofs.Runs.{says}
 use Rattle.rules.proofs.Faster.{quickly}
 use Rattle.rules.proofs.Standing.{linesWith}
 use Rattle.runs.specs.Run.{made, after, Each}
 use Rattle.runs.specs.Turn.{BlockedOn, ServedIn, ReadyAt, queueAt, AtFront, Undisturbed, Gone, Unhindered}
 use Rattle.demands.specs.Three.{pend, Turn, Queues}
 use Rattle.demands.proofs.Three.{demand-3}
-use Rattle.demands_examples.proofs.BySteps.{asks, stays-blocked, stays-undisturbed, gone-at-last, none-higher}
+use Rattle.demands_examples.proofs.BySteps.{stays-undisturbed, gone-at-last, served-there, unhindered-there}
 use Rattle.demands_examples.proofs.Stated.{WhenServed, Readied, Begins, begun-there}
 use Rattle.demands_examples.proofs.Story.{flood, tablesOf, start, begun, flooded, moment, ending, to-start, to-begun, to-flooded, to-moment, to-ending}
 use Rattle.demands_examples.proofs.Story.{whole, run, later}
@@ -38,15 +38,8 @@ waits = let e = to-begun .answers .so in cc
 pub begins : Begins 2 start 3 (1 ∷ 2 ∷ []) begun
 unfolding after
 begins =
-    record {
-      typed = to-start .typed;
-      sound = to-start .sound;
-      kind = omega (arith, in-start .2);
-      waits = waits;
-      task = in-start .0;
-      behind = in-start .1;
-      now = to-begun .now;
-    }
+    let (task, behind, kind) = in-start in
+    record { typed = to-start .typed; sound = to-start .sound; kind = omega arith; waits = waits; task = task; behind = behind; now = to-begun .now }
 
 pub turn : Turn 0 3 (1 ∷ 2 ∷ []) begun
 turn = begun-there 2 Turn start 3 (1 ∷ 2 ∷ []) begun begins demand-3
@@ -71,20 +64,8 @@ in-moment = ((refl, refl), refl, refl, refl, refl)
 unfoldable pub served : ServedIn 0 3 2 begun run
 unfolding after
 served =
-    record {
-      before = asks (calls flood);
-      post = asked 0x23 0 0 0 0;
-      rest = later;
-      split = refl;
-      waits = stays-blocked 0 3 begun (asks (calls flood)) (to-flooded .all) (rw (to-flooded .now) in-flooded);
-      few = omega (arith, to-flooded .posts);
-      posted = rw (to-flooded .now) (eq-eqb _ 0 accepted);
-      moment = moment;
-      now = rw (to-flooded .now) (sym (to-moment .now));
-      ready = in-moment .0 .0;
-      outcome = in-moment .3;
-      value = in-moment .4;
-    }
+    served-there 3 2 1 begun flooded moment flood later to-flooded (omega arith) in-flooded accepted (to-moment .now)
+    (in-moment .0 .0, in-moment .3, in-moment .4)
 
 -- ---- its turn in the queue: of those before it, 1 yields and 2 ends
 pub in-ending : ReadyAt 5 3 ending × (queueAt 5 ending ≡ 3 ∷ 1 ∷ 4 ∷ []) × (running (ending .lines) (ending .state) ≡ Task 3)
@@ -121,7 +102,7 @@ all-gone x h =
 
 -- ---- what is said of each moment at which a task is readied is said of this one
 pub readied-there : (P : ℕ → ℕ → Tables → Type 0) → Readied P → P 5 3 moment
-unfolding served
+unfolding served served-there
 readied-there P every =
     subst (λ (p : ℕ). P p 3 moment) (in-moment .0 .1) (begun-there 2 (WhenServed P) start 3 (1 ∷ 2 ∷ []) begun begins every run (whole .words) served)
 
@@ -134,14 +115,7 @@ front = rw (to-ending .now) at (queues .front later (to-ending .words) quiet all
 
 pub unhindered : Unhindered 5 ending
 unfolding tablesOf ending
-unhindered =
-    record {
-      higher = λ r over under. none-higher ending r (omega (arith, in-ending .3)) under;
-      depth = refl;
-      active = in-ending .4;
-      swis = λ e. omega (arith, e);
-      tasks = λ e. omega (arith, e);
-    }
+unhindered = unhindered-there 5 ending (in-ending .3) (in-ending .4) refl refl refl
 
 pub at-last : running (ending .lines) (ending .state) ≡ Task 3
 at-last =

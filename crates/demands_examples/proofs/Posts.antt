@@ -13,7 +13,7 @@ use Rattle.basics.specs.Lists.{zeros}
 use Rattle.rules.specs.Answer.{answer, asked}
 use Rattle.rules.specs.Tables.{Typed, fewLevels, forever, ready, tables, semaphore, COUNT}
 use Rattle.rules.specs.Lines.{readyLine}
-use Rattle.rules.specs.Fresh.{fresh, madeFresh}
+use Rattle.rules.specs.Fresh.{fresh, madeFresh, noEvents, noMailboxes, noSwis, noClocks, freeHeap}
 use Rattle.rules.specs.Sound.{Sound}
 use Rattle.rules.specs.declared.Tables.{Tables}
 use Rattle.rules.proofs.Runs.{Line, Said, _⇒_, said, saw, says, look, calls, answers, T, I, createTask, createSemaphore, deleteSemaphore, pend, post}
@@ -117,7 +117,7 @@ runCalls = asks (calls run)
 unfoldable pub now : Tables
 now =
     tables (ready ∷ (zeros 7 ++ (ready ∷ 5 ∷ zeros 246))) (linesWith (readyLine 0 has (0 ∷ []) ∷ readyLine 5 has (1 ∷ []) ∷ []))
-    (1 ∷ 2 ∷ 2 ∷ 1 ∷ 0 ∷ 65535 ∷ 1 ∷ 1 ∷ 1 ∷ zeros 39) (zeros 16) (zeros 80) (zeros 96) (zeros 80) (zeros 256)
+    (1 ∷ 2 ∷ 2 ∷ 1 ∷ 0 ∷ 65535 ∷ 1 ∷ 1 ∷ 1 ∷ zeros 39) noEvents noMailboxes noSwis noClocks freeHeap
     (0 ∷ 1 ∷ 1 ∷ 1 ∷ 1 ∷ 16 ∷ [])
 
 pub to-now : Leads anything 0 fresh run 4 now

@@ -6,7 +6,7 @@ use mathlib.Core.List.{List, [], _∷_, _++_}
 use Rattle.basics.specs.Lists.{zeros}
 use Rattle.rules.specs.Tables.{forever, minusOne, ready, atSemaphore, terminated, tables}
 use Rattle.rules.specs.Lines.{semaphoreLine, readyLine}
-use Rattle.rules.specs.Fresh.{fresh}
+use Rattle.rules.specs.Fresh.{fresh, noEvents, noMailboxes, noSwis, noClocks, freeHeap}
 use Rattle.rules.specs.declared.Tables.{Tables}
 use Rattle.rules.proofs.Runs.{Line, _⇒_, asked, said, calls, T, I, createTask, setPriority, yield, end, lastResult, createSemaphore, deleteSemaphore}
 use Rattle.rules.proofs.Runs.{pend, post, tasksOff, restoreTasks, interruptIn, interruptOut, tick}
@@ -74,7 +74,7 @@ unfoldable pub tablesOf : List ℕ → List ℕ → List ℕ → ℕ → ℕ →
 tablesOf rows waiters queue count ticks current =
     tables (ready ∷ (zeros 7 ++ (rows ++ zeros 216)))
     (linesWith (semaphoreLine 0 has waiters ∷ readyLine 0 has (0 ∷ []) ∷ readyLine 5 has queue ∷ []))
-    (1 ∷ 0 ∷ count ∷ 1 ∷ 0 ∷ 65535 ∷ zeros 42) (zeros 16) (zeros 80) (zeros 96) (zeros 80) (zeros 256)
+    (1 ∷ 0 ∷ count ∷ 1 ∷ 0 ∷ 65535 ∷ zeros 42) noEvents noMailboxes noSwis noClocks freeHeap
     (0 ∷ 1 ∷ 1 ∷ ticks ∷ current ∷ 16 ∷ [])
 
 -- a row: mode, priority, object, left, first, second, outcome, value

@@ -12,7 +12,7 @@ use lib.ListN.{length, getD}
 use Rattle.basics.specs.Lists.{count, ahead, allOf, bit, zeros}
 use Rattle.rules.specs.Answer.{order, answer, asked, Words}
 use Rattle.rules.specs.Tables.{Typed, wordEnd, tables, TASKS}
-use Rattle.rules.specs.Fresh.{fresh, freshWith, freshTasks, freshLines}
+use Rattle.rules.specs.Fresh.{fresh, freshWith, freshTasks, freshLines, noSemaphores, noEvents, noMailboxes, noSwis, noClocks, freeHeap}
 use Rattle.rules.specs.Dispatch.{running}
 use Rattle.rules.specs.Sound.{Sound, sound}
 use Rattle.rules.specs.Step.{stepOf, call}
@@ -37,7 +37,7 @@ use Rattle.rules.specs.declared.Call.{Call}
 
 -- ---- tables that are not sound: fresh ones, but that task 1 is the current one
 unfoldable pub stray : Tables
-stray = tables freshTasks freshLines (zeros 48) (zeros 16) (zeros 80) (zeros 96) (zeros 80) (zeros 256) (0 ∷ 1 ∷ 1 ∷ 0 ∷ 1 ∷ 16 ∷ [])
+stray = tables freshTasks freshLines noSemaphores noEvents noMailboxes noSwis noClocks freeHeap (0 ∷ 1 ∷ 1 ∷ 0 ∷ 1 ∷ 16 ∷ [])
 
 stray-typed : Typed stray
 unfolding stray
@@ -99,7 +99,7 @@ abbrev yields : List Line
 yields = yield ⇒ said 9 0 0 (T 0) ∷ []
 
 unfoldable off : Tables
-off = tables freshTasks freshLines (zeros 48) (zeros 16) (zeros 80) (zeros 96) (zeros 80) (zeros 256) (0 ∷ 1 ∷ 0 ∷ 0 ∷ 0 ∷ 16 ∷ [])
+off = tables freshTasks freshLines noSemaphores noEvents noMailboxes noSwis noClocks freeHeap (0 ∷ 1 ∷ 0 ∷ 0 ∷ 0 ∷ 16 ∷ [])
 
 to-off : Leads anything 0 fresh switchedOff 0 off
 unfolding quickly pass inWords off

@@ -14,7 +14,7 @@ use Rattle.rules.specs.Answer.{answer, done, notMet, nowWaiting, asked}
 use Rattle.rules.specs.Tables.{Typed, forever, ready, tables, semaphore, USED, KIND, COUNT}
 use Rattle.rules.specs.Lines.{readyLine}
 use Rattle.rules.specs.Semaphores.{isBinary}
-use Rattle.rules.specs.Fresh.{fresh}
+use Rattle.rules.specs.Fresh.{fresh, noEvents, noMailboxes, noSwis, noClocks, freeHeap}
 use Rattle.rules.specs.Sound.{Sound}
 use Rattle.rules.specs.declared.Tables.{Tables}
 use Rattle.rules.proofs.Runs.{Line, Said, _⇒_, said, says, calls, answers, T, createTask, createSemaphore, pend, post}
@@ -230,7 +230,7 @@ unfoldable taken : Tables
 taken =
     tables (ready ∷ (zeros 7 ++ (ready ∷ 5 ∷ (zeros 6 ++ (ready ∷ 6 ∷ zeros 238)))))
     (linesWith (readyLine 0 has (0 ∷ []) ∷ readyLine 5 has (1 ∷ []) ∷ readyLine 6 has (2 ∷ []) ∷ []))
-    (1 ∷ zeros 47) (zeros 16) (zeros 80) (zeros 96) (zeros 80) (zeros 256)
+    (1 ∷ zeros 47) noEvents noMailboxes noSwis noClocks freeHeap
     (0 ∷ 1 ∷ 1 ∷ 0 ∷ 2 ∷ 16 ∷ [])
 
 to-taken : Leads anything 0 fresh byTaskTwo 1 taken

@@ -6,6 +6,7 @@ use mathlib.Core.List.{List, [], _∷_, _++_}
 use native.Mathlib.Omega.{arith}
 use lib.ListN.{length, drop}
 use Rattle.basics.specs.Lists.{count, ahead, zeros}
+use Rattle.rules.specs.Fresh.{noEvents, noMailboxes, noSwis, noClocks, freeHeap}
 use Rattle.rules.specs.Tables.{levels, ready, atSemaphore, terminated, tables, task}
 use Rattle.rules.specs.Lines.{line, activeLine, readyLine}
 use Rattle.rules.specs.Dispatch.{running, highestReady}
@@ -96,7 +97,7 @@ unfoldable outranked : Tables
 outranked =
     tables (ready ∷ (zeros 7 ++ (row ready 0 1 ++ (row terminated 0 0 ++ (row ready 0 0 ++ (row ready 0 0 ++ (ready ∷ 6 ∷ zeros 214)))))))
     (linesWith (readyLine 0 has (0 ∷ []) ∷ readyLine 5 has (3 ∷ 1 ∷ 4 ∷ []) ∷ readyLine 6 has (5 ∷ []) ∷ []))
-    (1 ∷ 0 ∷ 1 ∷ 1 ∷ 0 ∷ 65535 ∷ zeros 42) (zeros 16) (zeros 80) (zeros 96) (zeros 80) (zeros 256)
+    (1 ∷ 0 ∷ 1 ∷ 1 ∷ 0 ∷ 65535 ∷ zeros 42) noEvents noMailboxes noSwis noClocks freeHeap
     (0 ∷ 1 ∷ 1 ∷ 3 ∷ 5 ∷ 16 ∷ [])
 
 to-outranked : Leads anything 0 moment outranking 1 outranked

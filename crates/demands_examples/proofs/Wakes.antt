@@ -9,7 +9,7 @@ use native.Mathlib.Omega.{arith}
 use Rattle.basics.specs.Lists.{zeros}
 use Rattle.rules.specs.Tables.{forever, ready, atSemaphore, atEvent, reading, writing, tables}
 use Rattle.rules.specs.Lines.{semaphoreLine, eventLine, mailboxLine, readyLine}
-use Rattle.rules.specs.Fresh.{fresh}
+use Rattle.rules.specs.Fresh.{fresh, noSwis, noClocks, freeHeap}
 use Rattle.rules.specs.declared.Tables.{Tables}
 use Rattle.rules.proofs.Runs.{Line, _⇒_, said, says, T, createTask, createSemaphore, createEvent, createMailbox, pend, post}
 use Rattle.rules.proofs.Runs.{pendEvent, postEvent, pendMailbox, postMailbox}
@@ -63,7 +63,7 @@ tablesOf one two four five seven standing bits first second current =
     tables
     (row ready 0 0 0 0 ++ (one ++ (two ++ (row atSemaphore 5 0 0 0 ++ (four ++ (five ++ (row reading 5 0 0 0 ++ (seven ++ zeros 192))))))))
     (linesWith (readyLine 0 has (0 ∷ []) ∷ standing))
-    (1 ∷ zeros 47) (1 ∷ bits ∷ zeros 14) (empty ++ (first ++ (second ++ zeros 50))) (zeros 96) (zeros 80) (zeros 256)
+    (1 ∷ zeros 47) (1 ∷ bits ∷ zeros 14) (empty ++ (first ++ (second ++ zeros 50))) noSwis noClocks freeHeap
     (0 ∷ 1 ∷ 1 ∷ 0 ∷ current ∷ 16 ∷ [])
 
 -- the rows while all wait

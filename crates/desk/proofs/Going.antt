@@ -19,16 +19,16 @@ use Rattle.rules.proofs.Read as R
 use Rattle.text.specs.Put.{Put}
 use Rattle.text.proofs.Puts.{fits, put-none, put-more}
 use Rattle.call_log.proofs.Records.{record-fits}
-use Rattle.desk_parts.specs.Part.{kept, Left, textBefore, waiting, versionBy, readable, partOf, begunState, begun, turn}
-use Rattle.desk_reads.specs.declared.Ran.{Ran}
+use Rattle.desk_parts.specs.Part.{kept, ReplayState, textBefore, waiting, versionBy, readable, partOf, begunState, begun, turn}
+use Rattle.desk_reads.specs.declared.PartPlace.{PartPlace}
 use Rattle.desk.specs.declared.Progress.{Progress}
-use Rattle.desk_reads.specs.Done.{ranTo, oneFor, Went}
-use Rattle.desk.specs.Done.{comeTo, leftOf, progressOf, behind, Gone, Turned}
+use Rattle.desk_reads.specs.Done.{placeAt, readResult, ReadLeaves}
+use Rattle.desk.specs.Done.{comeTo, replayState, progressOf, behind, PartLeaves, TurnLeaves}
 use Rattle.desk_parts.proofs.Steps.{partAt, part-whole, part-step}
 use Rattle.desk_parts.proofs.Bounds.{part-bounded}
 
 -- ---- what a turn comes to
-pub come-is : (o : ℕ) (r : Ran) (held : ℕ) {offset : ℕ} → offset ≡ kept (o + r .at)
+pub come-is : (o : ℕ) (r : PartPlace) (held : ℕ) {offset : ℕ} → offset ≡ kept (o + r .at)
     → record { held = held; offset = offset; count = r .count; len = r .len; ended = r .ended } ≡ comeTo o r held
 come-is o r held e = rw e
 
@@ -39,23 +39,23 @@ goes-on false b h = (refl, h)
 
 -- ---- part s from offset o on, after n₀ records, with tables t₀ and buffer xs
 -- where nothing follows
-abbrev done : List ℕ → ℕ → ℕ → Tables → Left
+abbrev done : List ℕ → ℕ → ℕ → Tables → ReplayState
 done s o n t = record { text = []; rest = []; offset = kept (o + length s); count = n; tables = t; ended = true }
 
 module _ (last : Bool) (s : List ℕ) (o n₀ : ℕ) (t₀ : Tables) (xs : List ℕ) where
   -- what is still to come
-  abbrev pub rest : Bool → ℕ → ℕ → Tables → Left
+  abbrev pub rest : Bool → ℕ → ℕ → Tables → ReplayState
   rest ended at n t = if ended (done s o n t) (partAt last s o at n t)
 
   -- the text so far, and what is still to come, is all
-  pub record Sofar (t : Tables) (ys : List ℕ) (r : Ran) : Type 0 where
+  pub record Sofar (t : Tables) (ys : List ℕ) (r : PartPlace) : Type 0 where
     pub text : List ℕ
     pub put : Put xs 0 text ys (r .len)
     pub whole : partOf last s o n₀ t₀ ≡ textBefore text (rest (r .ended) (r .at) (r .count) t)
     pub inside : r .at ≤ length s
     pub over : r .ended ≡ true → r .at ≡ length s
 
-  pub sofar-none : {r : Ran} → r ≡ ranTo 0 n₀ 0 false → Sofar t₀ xs r
+  pub sofar-none : {r : PartPlace} → r ≡ placeAt 0 n₀ 0 false → Sofar t₀ xs r
   sofar-none e =
       rw e
       (record { text = []; put = put-none 16384 xs 0; whole = part-whole last s o n₀ t₀; inside = omega arith; over = λ h. absurd (true≢false (sym h)) })
@@ -63,8 +63,8 @@ module _ (last : Bool) (s : List ℕ) (o n₀ : ℕ) (t₀ : Tables) (xs : List 
   -- a read, and what follows it
   read-last : (f : Read) (at n : ℕ) (t : Tables) → f ≡ readIn (versionBy (t .state)) s at → readable last s at ≡ true
       → partAt last s o at n t
-      ≡ textBefore (oneFor f s o n t .text) (rest (oneFor f s o n t .ended) (oneFor f s o n t .at) (oneFor f s o n t .count) (oneFor f s o n t .tables))
-  unfolding oneFor
+      ≡ textBefore (readResult f s o n t .text) (rest (readResult f s o n t .ended) (readResult f s o n t .at) (readResult f s o n t .count) (readResult f s o n t .tables))
+  unfolding readResult
   read-last (Record number start) at n t e h = part-step last s o at n t ∙ rw (h, ← e)
   read-last End at n t e h = part-step last s o at n t ∙ rw (h, ← e, append-nil)
   read-last (Cut k) at n t e h = part-step last s o at n t ∙ rw (h, ← e, append-nil)
@@ -75,8 +75,8 @@ module _ (last : Bool) (s : List ℕ) (o n₀ : ℕ) (t₀ : Tables) (xs : List 
   abbrev Near : ℕ → ℕ → Bool → Type 0
   Near at next ended = (next ≤ length s) × ((ended ≡ true → next ≡ length s) × (length s - next + bit (not ended) < length s - at + 1))
 
-  read-near : (f : Read) (at n : ℕ) (t : Tables) → f ≡ readIn (versionBy (t .state)) s at → Near at (oneFor f s o n t .at) (oneFor f s o n t .ended)
-  unfolding oneFor
+  read-near : (f : Read) (at n : ℕ) (t : Tables) → f ≡ readIn (versionBy (t .state)) s at → Near at (readResult f s o n t .at) (readResult f s o n t .ended)
+  unfolding readResult
   read-near (Record number start) at n t e =
       let k = record-fits _ s at number start (sym e) in (omega arith, (λ h. absurd (true≢false (sym h)), omega arith))
   read-near End at n t e = (omega arith, (λ h. refl, omega arith))
@@ -84,20 +84,20 @@ module _ (last : Bool) (s : List ℕ) (o n₀ : ℕ) (t₀ : Tables) (xs : List 
   read-near (Length k) at n t e = (omega arith, (λ h. refl, omega arith))
   read-near (Version k) at n t e = (omega arith, (λ h. refl, omega arith))
 
-  module _ {t : Tables} {ys : List ℕ} {p : Ran} (w : Sofar t ys p) where
-    module _ (on : (not (p .ended) && readable last s (p .at)) ≡ true) {u : Tables} {zs : List ℕ} {r : Ran}
-        (g : Went (oneFor (readIn (versionBy (t .state)) s (p .at)) s o (p .count) t) u ys (p .len) zs r) where
+  module _ {t : Tables} {ys : List ℕ} {p : PartPlace} (w : Sofar t ys p) where
+    module _ (on : (not (p .ended) && readable last s (p .at)) ≡ true) {u : Tables} {zs : List ℕ} {r : PartPlace}
+        (g : ReadLeaves (readResult (readIn (versionBy (t .state)) s (p .at)) s o (p .count) t) u ys (p .len) zs r) where
       going : (p .ended ≡ false) × (readable last s (p .at) ≡ true)
       going = goes-on (p .ended) (readable last s (p .at)) on
 
-      near : Near (p .at) (oneFor (readIn (versionBy (t .state)) s (p .at)) s o (p .count) t .at) (oneFor (readIn (versionBy (t .state)) s (p .at)) s o (p .count) t .ended)
+      near : Near (p .at) (readResult (readIn (versionBy (t .state)) s (p .at)) s o (p .count) t .at) (readResult (readIn (versionBy (t .state)) s (p .at)) s o (p .count) t .ended)
       near = read-near (readIn (versionBy (t .state)) s (p .at)) (p .at) (p .count) t refl
 
       -- one read more
       pub sofar-next : Sofar u zs r
       sofar-next =
           record {
-            text = w .text ++ oneFor (readIn (versionBy (t .state)) s (p .at)) s o (p .count) t .text;
+            text = w .text ++ readResult (readIn (versionBy (t .state)) s (p .at)) s o (p .count) t .text;
             put = put-more (w .put) (g .line);
             whole =
                 w .whole
@@ -111,10 +111,10 @@ module _ (last : Bool) (s : List ℕ) (o n₀ : ℕ) (t₀ : Tables) (xs : List 
       sofar-less = rw (going .0, g .at, g .ended) (near .1 .1)
 
     -- the replay has ended, or too few bytes are left
-    pub sofar-stops : (not (p .ended) && readable last s (p .at)) ≡ false → Gone (partOf last s o n₀ t₀) s o t xs ys p
+    pub sofar-stops : (not (p .ended) && readable last s (p .at)) ≡ false → PartLeaves (partOf last s o n₀ t₀) s o t xs ys p
     sofar-stops = stops (p .ended) refl
       where
-        stops : (b : Bool) → p .ended ≡ b → (not b && readable last s (p .at)) ≡ false → Gone (partOf last s o n₀ t₀) s o t xs ys p
+        stops : (b : Bool) → p .ended ≡ b → (not b && readable last s (p .at)) ≡ false → PartLeaves (partOf last s o n₀ t₀) s o t xs ys p
         stops true e h =
             rw (w .whole, e)
             (record {
@@ -151,8 +151,8 @@ module _ (last : Bool) (p : Progress) (more : ℕ) (t₀ : Tables) (ps xs : List
   abbrev bytes : List ℕ
   bytes = take (p .held) ps ++ behind ps p more
 
-  abbrev leaves : Left
-  leaves = turn last (behind ps p more) (leftOf t₀ ps xs p)
+  abbrev leaves : ReplayState
+  leaves = turn last (behind ps p more) (replayState t₀ ps xs p)
 
   -- the tables with the state that a log leaves that begins
   abbrev withState : List ℕ → Tables
@@ -160,13 +160,13 @@ module _ (last : Bool) (p : Progress) (more : ℕ) (t₀ : Tables) (ps xs : List
 
   pub turned : {n : ℕ} → n ≡ min (p .held) 2560 + min more 2560 → {s : List ℕ} → s ≡ take n ps
       → {st : List ℕ} → st ≡ begunState (p .count) s (t₀ .state)
-      → {t : Tables} {ys : List ℕ} (r : Ran) → Gone (partOf last s (p .offset) (p .count) (withState st)) s (p .offset) t xs ys r
+      → {t : Tables} {ys : List ℕ} (r : PartPlace) → PartLeaves (partOf last s (p .offset) (p .count) (withState st)) s (p .offset) t xs ys r
       → {qs : List ℕ} {held : ℕ} → (qs ≡ sets ps 0 (drop (r .at) (take n ps))) × (held ≡ length (drop (r .at) (take n ps)))
       → {q : Progress} → q ≡ comeTo (p .offset) r held
-      → Turned leaves t ps qs xs ys q
+      → TurnLeaves leaves t ps qs xs ys q
   turned {n} e {s} f {st} begins {t} {ys} r g {qs} {held} m {q} c =
       let all : take n ps ≡ bytes = rw e (both-are (p .held) more ps size) in
-      let h : Gone leaves bytes (p .offset) t xs ys r = rw (begins, f ∙ all) at g in
+      let h : PartLeaves leaves bytes (p .offset) t xs ys r = rw (begins, f ∙ all) at g in
       let b = part-bounded last bytes (p .offset) (p .count) (begun (p .count) bytes t₀) in
       let short : length bytes ≤ 2560 = omega (arith, ap length all, length-take n ps) in
       let whole = fits 16384 0 (leaves .text) (omega (arith, b .text)) in
@@ -174,7 +174,7 @@ module _ (last : Bool) (p : Progress) (more : ℕ) (t₀ : Tables) (ps xs : List
       let part-is : qs ≡ sets ps 0 (leaves .rest) = m .0 ∙ rw (all, h .rest) in
       let progress-is : q ≡ progressOf leaves =
       c ∙ rw (m .1, all, h .rest, h .offset, h .count, h .text .end, whole, zero-add, h .ended) in
-      let left-is : leftOf t qs ys q ≡ leaves =
+      let left-is : replayState t qs ys q ≡ leaves =
       rw (h .tables, part-is, text-is, progress-is)
       (rw (
         front-is (leaves .rest) ps (omega (arith, b .rest)),

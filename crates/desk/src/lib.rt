@@ -1,9 +1,9 @@
 // The replay of a log that comes part by part, as text. The calls are made on lent tables, and of the log only the bytes of a record
 // that is not whole yet are kept.
-use desk_reads::Ran;
+use desk_reads::PartPlace;
 use desk_reads::begin;
 use desk_reads::next_line;
-use desk_reads::ran_to;
+use desk_reads::place_at;
 use rules::Clocks;
 use rules::Events;
 use rules::Heap;
@@ -22,7 +22,7 @@ ghost use lib.Seq.{sets};
 ghost use Rattle.tables.specs.Lent.{lent, old, new, tablesOld, tablesNew};
 ghost use Rattle.desk_parts.specs.Part.{partOf, turn, start};
 ghost use Rattle.kernel.specs.Safe.{Safe};
-ghost use Rattle.desk.specs.Done.{comeTo, progressOf, Gone, had, came, Turns};
+ghost use Rattle.desk.specs.Done.{comeTo, progressOf, PartLeaves, had, came, Turns};
 
 // A part of a log: the bytes that waited, and those that came.
 pub type Part = [u8; 2560];
@@ -43,13 +43,13 @@ fn records(
     offset: u64,
     count: u64,
     out: &mut Text,
-) -> Ran
+) -> PartPlace
     requires { ⌜ Safe (lent tasks lines semaphores events mailboxes swis clocks heap state) ⌝ }
-    ensures { λ r. ⌜ Gone (partOf last (old log) offset count (tablesOld tasks lines semaphores events mailboxes swis clocks heap state))
+    ensures { λ r. ⌜ PartLeaves (partOf last (old log) offset count (tablesOld tasks lines semaphores events mailboxes swis clocks heap state))
         (old log) offset (tablesNew tasks lines semaphores events mailboxes swis clocks heap state) (old out) (new out) r ⌝ }
     ensures { λ _. ⌜ Safe (tablesNew tasks lines semaphores events mailboxes swis clocks heap state) ⌝ }
 {
-    let mut ran = ran_to(0, count, 0, false);
+    let mut ran = place_at(0, count, 0, false);
     while !ran.ended & (last | (20 <= log.len() - ran.at)) {
         ran = next_line(
             tasks,
@@ -71,7 +71,7 @@ fn records(
 }
 
 // Of the first n bytes, those from `at` on to the front; how many they are.
-fn to_front(part: &mut [u8], at: usize, n: usize) -> usize
+pub fn to_front(part: &mut [u8], at: usize, n: usize) -> usize
     ensures { λ r. ⌜ (new part ≡ sets (old part) 0 (drop at (take n (old part)))) × (r ≡ length (drop at (take n (old part)))) ⌝ }
 {
     let end = basics::least(n, part.len());
@@ -96,7 +96,7 @@ pub struct Progress {
 }
 
 // What a replay has come to where records of a part stopped.
-fn come_to(offset: u64, ran: Ran, held: usize) -> Progress
+fn come_to(offset: u64, ran: PartPlace, held: usize) -> Progress
     ensures { λ r. ⌜ r ≡ comeTo offset ran held ⌝ }
 {
     Progress {

@@ -1,4 +1,5 @@
 -- The texts of a log's parts, one after the other, are the text of the whole log, however it is cut.
+-- In this order: what is read in a part is what is read in the log; a line and what follows it; the version by the tables; one part; all parts.
 use Prim.Native.Nat.{ℕ, zero, suc, _+_, _-_, _*_, _/_, _^_, _≤_, _<_}
 use mathlib.Core.Path.{_≡_, refl, sym, ap, _∙_}
 use mathlib.Core.Logic.{_≢_, _⊎_, inl, inr, ⊎-elim}
@@ -13,7 +14,7 @@ use borrow.Author.Tests.{lt-ltb, le-ltb, eq-eqb, ne-eqb, eqb-true, leb-true}
 use Rattle.basics.proofs.Laws.{same?, lt-or-le}
 use Rattle.rules.specs.Tables.{fewLevels, mostLevels, tables, state, raisedState, LEVELS, levels}
 use Rattle.rules.specs.Fresh.{fresh, freshWith}
-use Rattle.rules.specs.Log.{versionOf, levelsFor, isVersion, halfAt, readIn, readAt, argumentBytes}
+use Rattle.rules.specs.Log.{versionOf, levelsFor, isVersion, halfAt, readIn, readAt, argumentBytes, recordBytes, recordLength, argumentsLength}
 use Rattle.rules.specs.Text.{lineText, lineFeed, wordText, textOf, endWord, cutWord, lengthWord, versionWord}
 use Rattle.rules.specs.Replay.{recordCall, linesFor, linesFrom, replayLines, replayText}
 use Rattle.rules.specs.declared.Read.{Read}
@@ -21,7 +22,7 @@ use Rattle.rules.specs.declared.Read.the-variants.{Record, End, Cut, Length, Ve
 use Rattle.rules.specs.declared.Tables.{Tables}
 use Rattle.rules_laws.proofs.Levels.{levels-kept}
 use Rattle.call_log.proofs.Records.{record-fits, record-version}
-use Rattle.desk_parts.specs.Part.{kept, Left, textBefore, waiting, lastText, over, versionBy, partFor, readable, partOf, begunState, begun, turn, start, written}
+use Rattle.desk_parts.specs.Part.{kept, ReplayState, textBefore, waiting, lastText, over, versionBy, partFor, readable, partOf, begunState, begun, turn, start, written}
 use Rattle.desk_parts.proofs.Steps.{linesAt, lines-step, partAt, part-whole, part-step}
 use Rattle.desk_parts.proofs.Bounds.{no-test}
 
@@ -74,8 +75,8 @@ read-place v s at r e =
     (ltb (length s) at)
     (eqb (length s) at)
     (eqb (length s - at) 1)
-    (eqb (halfAt s at) 18)
-    (ltb (length s - at) 20)
+    (eqb (halfAt s at) recordLength)
+    (ltb (length s - at) recordBytes)
     (isVersion v && eqb (getD s (at + 2) 0) v)
     (getD s (at + 3) 0)
     at)
@@ -108,12 +109,12 @@ module _ (w : List ℕ) (o : ℕ) (s l : List ℕ) (p : Stands w o s l) where
       ∙ ap (λ (x : List ℕ). getD x i 0) (p .bytes)
       ∙ ⊎-elim (λ (q : suc i ≤ length s). List·getD-append s l 0 i q) (λ (e : l ≡ []). rw (e, append-nil s)) h
 
-  module _ (at : ℕ) (q : at ≤ length s) (h : Enough (at + 20)) where
-    fewer : (n : ℕ) → n ≤ 20 → Enough (at + n)
+  module _ (at : ℕ) (q : at ≤ length s) (h : Enough (at + recordBytes)) where
+    fewer : (n : ℕ) → n ≤ recordBytes → Enough (at + n)
     unfolding Enough
-    fewer n k = ⊎-elim (λ (g : at + 20 ≤ length s). inl (omega arith)) inr h
+    fewer n k = ⊎-elim (λ (g : at + recordBytes ≤ length s). inl (omega arith)) inr h
 
-    byte-at : (i : ℕ) → i < 20 → getD w (o + at + i) 0 ≡ getD s (at + i) 0
+    byte-at : (i : ℕ) → i < recordBytes → getD w (o + at + i) 0 ≡ getD s (at + i) 0
     byte-at i k =
         let e : o + at + i ≡ o + (at + i) = omega arith in
         let g : Enough (suc (at + i)) = let f : at + suc i ≡ suc (at + i) = omega arith in rw f at (fewer (suc i) (omega arith)) in
@@ -129,18 +130,19 @@ module _ (w : List ℕ) (o : ℕ) (s l : List ℕ) (p : Stands w o s l) where
         let a : ltb (length w) (o + at) ≡ ltb (length s) at = le-ltb (length w) (o + at) (omega arith) ∙ sym (le-ltb (length s) at q) in
         let b : eqb (length w) (o + at) ≡ eqb (length s) at =
         ⊎-elim
-        (λ (g : at + 20 ≤ length s). eqb-same (length w) (o + at) (length s) at (λ k. absurd (omega arith)) (λ k. absurd (omega arith)))
+        (λ (g : at + recordBytes ≤ length s). eqb-same (length w) (o + at) (length s) at (λ k. absurd (omega arith)) (λ k. absurd (omega arith)))
         (λ (g : l ≡ []). let m = e g in eqb-same (length w) (o + at) (length s) at (λ k. omega arith) (λ k. omega arith))
         h in
         let c : eqb (length w - (o + at)) 1 ≡ eqb (length s - at) 1 =
         ⊎-elim
-        (λ (g : at + 20 ≤ length s). eqb-same (length w - (o + at)) 1 (length s - at) 1 (λ k. absurd (omega arith)) (λ k. absurd (omega arith)))
+        (λ (g : at + recordBytes ≤ length s). eqb-same (length w - (o + at)) 1 (length s - at) 1 (λ k. absurd (omega arith)) (λ k. absurd (omega arith)))
         (λ (g : l ≡ []). let m = e g in eqb-same (length w - (o + at)) 1 (length s - at) 1 (λ k. omega arith) (λ k. omega arith))
         h in
-        let f : ltb (length w - (o + at)) 20 ≡ ltb (length s - at) 20 =
+        let f : ltb (length w - (o + at)) recordBytes ≡ ltb (length s - at) recordBytes =
         ⊎-elim
-        (λ (g : at + 20 ≤ length s). ltb-same (length w - (o + at)) 20 (length s - at) 20 (λ k. absurd (omega arith)) (λ k. omega arith))
-        (λ (g : l ≡ []). let m = e g in ltb-same (length w - (o + at)) 20 (length s - at) 20 (λ k. omega arith) (λ k. omega arith))
+        (λ (g : at + recordBytes ≤ length s).
+        ltb-same (length w - (o + at)) recordBytes (length s - at) recordBytes (λ k. absurd (omega arith)) (λ k. omega arith))
+        (λ (g : l ≡ []). let m = e g in ltb-same (length w - (o + at)) recordBytes (length s - at) recordBytes (λ k. omega arith) (λ k. omega arith))
         h in
         let zero-at : getD w (o + at) 0 ≡ getD s at 0 = rw (z, z′) at (byte-at 0 (omega arith)) in
         rw (a, b, c, f, zero-at, byte-at 1 (omega arith), byte-at 2 (omega arith), byte-at 3 (omega arith))
@@ -148,18 +150,19 @@ module _ (w : List ℕ) (o : ℕ) (s l : List ℕ) (p : Stands w o s l) where
         (ltb (length s) at)
         (eqb (length s) at)
         (eqb (length s - at) 1)
-        (eqb (halfAt s at) 18)
-        (ltb (length s - at) 20)
+        (eqb (halfAt s at) recordLength)
+        (ltb (length s - at) recordBytes)
         (isVersion v && eqb (getD s (at + 2) 0) v)
         (getD s (at + 3) 0)
         o
         at)
 
-    arguments-in : (begin : ℕ) → begin + 16 ≤ at + 20 → begin + 16 ≤ length s → argumentBytes w (o + begin) ≡ argumentBytes s begin
+    arguments-in : (begin : ℕ) → begin + argumentsLength ≤ at + recordBytes → begin + argumentsLength ≤ length s
+        → argumentBytes w (o + begin) ≡ argumentBytes s begin
     unfolding argumentBytes
     arguments-in begin g k =
         rw (← drop-drop begin o w, p .bytes, drop-append-le begin s l (omega arith))
-        (take-append-le 16 (drop begin s) l (omega (arith, length-drop begin s)))
+        (take-append-le argumentsLength (drop begin s) l (omega (arith, length-drop begin s)))
 
 -- ---- a line, and what follows it
 line-first : (x : List ℕ) (ls : List (List ℕ)) (y z : List ℕ) → textOf ls ≡ y ++ z → textOf (x ∷ ls) ≡ ((x ++ lineFeed) ++ y) ++ z
@@ -195,7 +198,7 @@ tables-version v =
 
 version-either : (t : Tables) → (versionBy (t .state) ≡ 1) ⊎ (versionBy (t .state) ≡ 2)
 unfolding versionBy
-version-either t = go (eqb (levels (t .state)) 32)
+version-either t = go (eqb (levels (t .state)) mostLevels)
   where
     go : (b : Bool) → (_≡_ {A = ℕ} (if b 2 1) 1) ⊎ (_≡_ {A = ℕ} (if b 2 1) 2)
     go true = inr refl
@@ -225,11 +228,11 @@ module _ (w : List ℕ) (small : length w < 2 ^ 64) where
   Holds pos n t = ((n ≡ 0) × (pos ≡ 0) × ((t ≡ fresh) ⊎ (t ≡ first))) ⊎ ((n ≢ 0) × (versionBy (t .state) ≡ versionOf w))
 
   -- the text that is still to come
-  unfoldable after : Left → List ℕ
+  unfoldable after : ReplayState → List ℕ
   after m = if (m .ended) [] (textOf (linesAt w (m .offset) (m .count) (by (m .count) (m .tables))))
 
   -- a part's share of text x, and where the rest goes on
-  record Goes (l x : List ℕ) (last : Bool) (m : Left) : Type 0 where
+  record Goes (l x : List ℕ) (last : Bool) (m : ReplayState) : Type 0 where
     text : x ≡ m .text ++ after m
     stands : m .ended ≡ false → Stands w (m .offset) (m .rest) l
     count : m .ended ≡ false → m .count ≤ m .offset
@@ -237,13 +240,13 @@ module _ (w : List ℕ) (small : length w < 2 ^ 64) where
     ends : last ≡ true → m .ended ≡ true
 
   module _ (last : Bool) (o : ℕ) (s l : List ℕ) (p : Stands w o s l) (z : last ≡ true → l ≡ []) where
-    enough : (at : ℕ) → readable last s at ≡ true → Enough w o s l p (at + 20)
+    enough : (at : ℕ) → readable last s at ≡ true → Enough w o s l p (at + recordBytes)
     unfolding Enough
     enough at e =
         ⊎-elim
         (λ (h : last ≡ true). inr (z h))
-        (λ (h : leb 20 (length s - at) ≡ true). inl (omega (arith, leb-true 20 (length s - at) h)))
-        (test-of last (leb 20 (length s - at)) e)
+        (λ (h : leb recordBytes (length s - at) ≡ true). inl (omega (arith, leb-true recordBytes (length s - at) h)))
+        (test-of last (leb recordBytes (length s - at)) e)
 
     module _ (at n : ℕ) (t : Tables) (q : at ≤ length s) (c : n ≤ o + at) (h : Holds (o + at) n t) where
       offset-is : kept (o + at) ≡ o + at
@@ -260,7 +263,7 @@ module _ (w : List ℕ) (small : length w < 2 ^ 64) where
                 (record { bytes = sym (drop-drop at o w) ∙ rw (p .bytes) (drop-append-le at s l q); inside = omega (arith, long w o s l p) });
             count = λ _. rw offset-is c;
             holds = λ _. rw offset-is h;
-            ends = λ h. absurd (no-test last (leb 20 (length s - at)) e h);
+            ends = λ h. absurd (no-test last (leb recordBytes (length s - at)) e h);
           }
 
       -- the last line
@@ -276,7 +279,7 @@ module _ (w : List ℕ) (small : length w < 2 ^ 64) where
           }
 
       -- a line, and what follows it
-      line-goes : (y : List ℕ) (ls : List (List ℕ)) (m : Left) → Goes l (textOf ls) last m → Goes l (textOf (y ∷ ls)) last (textBefore (y ++ lineFeed) m)
+      line-goes : (y : List ℕ) (ls : List (List ℕ)) (m : ReplayState) → Goes l (textOf ls) last m → Goes l (textOf (y ∷ ls)) last (textBefore (y ++ lineFeed) m)
       unfolding after
       line-goes y ls m g =
           record { text = line-first y ls (m .text) (after m) (g .text); stands = g .stands; count = g .count; holds = g .holds; ends = g .ends }
@@ -319,7 +322,7 @@ module _ (w : List ℕ) (small : length w < 2 ^ 64) where
       abbrev Next : Type 0
       Next =
           (next m : ℕ) (u : Tables)
-          → next ≡ at + 20 → next ≤ length s → m ≤ o + next → m ≢ 0 → versionBy (u .state) ≡ versionOf w
+          → next ≡ at + recordBytes → next ≤ length s → m ≤ o + next → m ≢ 0 → versionBy (u .state) ≡ versionOf w
           → Goes l (textOf (linesAt w (o + next) m u)) last (partAt last s o next m u)
 
       read-goes : (r : Read) → readIn (versionBy (t .state)) s at ≡ r → readable last s at ≡ true → (n ≡ 0 → t ≡ first)
@@ -331,13 +334,13 @@ module _ (w : List ℕ) (small : length w < 2 ^ 64) where
           let a : argumentBytes w (o + begin) ≡ argumentBytes s begin =
           arguments-in w o s l p at q (enough at b) begin (omega arith) (omega arith) in
           let m : kept (n + 1) ≡ suc n = omega (arith, long w o s l p) in
-          let x : o + begin + 16 ≡ o + (begin + 16) = omega arith in
+          let x : o + begin + argumentsLength ≡ o + (begin + argumentsLength) = omega arith in
           rw (a, m, x)
           (line-goes
           (lineText (suc n) (recordCall t number (argumentBytes s begin) .answer) (recordCall t number (argumentBytes s begin) .thread))
-          (linesAt w (o + (begin + 16)) (suc n) (recordCall t number (argumentBytes s begin) .tables))
-          (partAt last s o (begin + 16) (suc n) (recordCall t number (argumentBytes s begin) .tables))
-          (ih (begin + 16) (suc n) (recordCall t number (argumentBytes s begin) .tables) (omega arith) (omega arith) (omega arith) (λ e. omega arith)
+          (linesAt w (o + (begin + argumentsLength)) (suc n) (recordCall t number (argumentBytes s begin) .tables))
+          (partAt last s o (begin + argumentsLength) (suc n) (recordCall t number (argumentBytes s begin) .tables))
+          (ih (begin + argumentsLength) (suc n) (recordCall t number (argumentBytes s begin) .tables) (omega arith) (omega arith) (omega arith) (λ e. omega arith)
           (same-version (t .state) _ (levels-kept t number _ _ _ _) ∙ goes-on b begun number begin e)))
       read-goes End e b begun ih = ended-goes End (wordText endWord n) refl
       read-goes (Cut k) e b begun ih = ended-goes (Cut k) (wordText cutWord (o + k)) (rw (fault-is (Cut k) e))
@@ -352,7 +355,7 @@ module _ (w : List ℕ) (small : length w < 2 ^ 64) where
           (read-goes (readIn (versionBy (t .state)) s at) refl e (begun refl) ih)
       test-goes false e begun ih = waits-goes e
 
-    goes : (k at n : ℕ) (t : Tables) → length s - at < 20 * k → at ≤ length s → n ≤ o + at → Holds (o + at) n t
+    goes : (k at n : ℕ) (t : Tables) → length s - at < recordBytes * k → at ≤ length s → n ≤ o + at → Holds (o + at) n t
         → (readable last s at ≡ true → n ≡ 0 → t ≡ first)
         → Goes l (textOf (linesAt w (o + at) n (by n t))) last (partAt last s o at n t)
     goes zero at n t f q c h begun = absurd (omega arith)
@@ -369,14 +372,14 @@ module _ (w : List ℕ) (small : length w < 2 ^ 64) where
         (rw add-zero at (goes (suc (length s)) 0 n t (omega arith) (omega arith) (omega arith) (rw add-zero h) begun))
 
   -- ---- part by part
-  after-none : (m : Left) → m .ended ≡ true → after m ≡ []
+  after-none : (m : ReplayState) → m .ended ≡ true → after m ≡ []
   unfolding after
   after-none m e = rw e
 
-  abbrev rest-of : Left → List ℕ
+  abbrev rest-of : ReplayState → List ℕ
   rest-of m = textOf (linesAt w (m .offset) (m .count) (by (m .count) (m .tables)))
 
-  after-is : (m : Left) (x : List ℕ) (b : Bool) → m .ended ≡ b → (m .ended ≡ false → x ≡ rest-of m) → if b [] x ≡ if b [] (rest-of m)
+  after-is : (m : ReplayState) (x : List ℕ) (b : Bool) → m .ended ≡ b → (m .ended ≡ false → x ≡ rest-of m) → if b [] x ≡ if b [] (rest-of m)
   after-is m x true e f = refl
   after-is m x false e f = f e
 
@@ -410,7 +413,7 @@ module _ (w : List ℕ) (small : length w < 2 ^ 64) where
       (λ (h : length s ≤ 2). let none : getD s 2 0 ≡ 0 = List·getD-eq-default s 0 {n = 2} h in rw none f)
       (lt-or-le 2 (length s))
 
-  module _ (last : Bool) (s l : List ℕ) (m : Left) (p : Stands w (m .offset) s l) (z : last ≡ true → l ≡ []) (h : Holds (m .offset) (m .count) (m .tables)) where
+  module _ (last : Bool) (s l : List ℕ) (m : ReplayState) (p : Stands w (m .offset) s l) (z : last ≡ true → l ≡ []) (h : Holds (m .offset) (m .count) (m .tables)) where
     abbrev t : Tables
     t = begun (m .count) s (m .tables)
 
@@ -436,7 +439,7 @@ module _ (w : List ℕ) (small : length w < 2 ^ 64) where
         (λ f. absurd (f .0 none))
         h
 
-  written-is : (cs : List (List ℕ)) (m : Left) → Stands w (m .offset) (m .rest) (flatten cs) → m .count ≤ m .offset
+  written-is : (cs : List (List ℕ)) (m : ReplayState) → Stands w (m .offset) (m .rest) (flatten cs) → m .count ≤ m .offset
       → Holds (m .offset) (m .count) (m .tables)
       → written cs m ≡ rest-of m
   unfolding written after flatten
@@ -472,4 +475,4 @@ pub parts-are-whole : (cs : List (List ℕ)) → length (flatten cs) < 2 ^ 64 �
 unfolding replayText replayLines
 parts-are-whole cs small =
     written-is (flatten cs) small cs start (record { bytes = refl; inside = omega arith }) (omega arith) (inl (refl, refl, inl refl))
-    ∙ ap (λ (k : ℕ). textOf (linesFrom (suc (k / 20)) (flatten cs) 0 0 (freshWith (levelsFor (versionOf (flatten cs)))))) (sub-zero (length (flatten cs)))
+    ∙ ap (λ (k : ℕ). textOf (linesFrom (suc (k / recordBytes)) (flatten cs) 0 0 (freshWith (levelsFor (versionOf (flatten cs)))))) (sub-zero (length (flatten cs)))

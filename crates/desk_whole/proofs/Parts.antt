@@ -17,11 +17,11 @@ use Rattle.rules.specs.Replay.{replayText}
 use Rattle.rules.specs.declared.Tables.{Tables}
 use Rattle.text.specs.Put.{fitting, PutIn}
 use Rattle.text.proofs.Puts.{put-none, put-more}
-use Rattle.desk_parts.specs.Part.{Left, begun, turn, start, written}
+use Rattle.desk_parts.specs.Part.{ReplayState, begun, turn, start, written}
 use Rattle.desk_parts.proofs.Bounds.{Bounded, part-bounded}
 use Rattle.desk_parts.proofs.Whole.{parts-are-whole}
 use Rattle.desk.specs.declared.Progress.{Progress}
-use Rattle.desk.specs.Done.{leftOf, progressOf, behind, Turned}
+use Rattle.desk.specs.Done.{replayState, progressOf, behind, TurnLeaves}
 use Rattle.desk_whole.specs.Printed.{Printed}
 
 -- ---- the log from a place on
@@ -89,7 +89,7 @@ module _ (w xs : List ℕ) where
     pub size : length ps ≡ 2560
     pub few : p .held < 20
     pub inside : from ≤ length w
-    pub whole : (cs : List (List ℕ)) → flatten cs ≡ drop from w → replayText w ≡ text ++ if (p .ended) [] (written cs (leftOf t ps ts p))
+    pub whole : (cs : List (List ℕ)) → flatten cs ≡ drop from w → replayText w ≡ text ++ if (p .ended) [] (written cs (replayState t ps ts p))
 
   -- nothing is read yet
   pub sofar-none : {t : Tables} (ps ts : List ℕ) {p : Progress} → t ≡ fresh → length ps ≡ 2560 → p ≡ progressOf start → length w < 2 ^ 64
@@ -116,10 +116,10 @@ module _ (w xs : List ℕ) where
       room = omega (arith, v .few)
 
       -- what the turn leaves
-      abbrev next : Left
-      next = turn (eqb more 0) (take more (drop from w)) (leftOf t ps ts p)
+      abbrev next : ReplayState
+      next = turn (eqb more 0) (take more (drop from w)) (replayState t ps ts p)
 
-      next-is : turn (eqb more 0) (behind qs p more) (leftOf t qs ts p) ≡ next
+      next-is : turn (eqb more 0) (behind qs p more) (replayState t qs ts p) ≡ next
       next-is =
           rw (
             stay ps (p .held) (drop from w) qs more n (v .size) room,
@@ -160,18 +160,18 @@ module _ (w xs : List ℕ) where
       last-whole e cs =
           let last : eqb more 0 ≡ true = eq-eqb more 0 e in
           let ends : next .ended ≡ true = bounded .ends last in
-          v .whole [] (sym (nothing e)) ∙ rw (on, ends, last, e) (sym (append-nil (v .text ++ turn true [] (leftOf t ps ts p) .text)))
+          v .whole [] (sym (nothing e)) ∙ rw (on, ends, last, e) (sym (append-nil (v .text ++ turn true [] (replayState t ps ts p) .text)))
 
       module _ {u : Tables} {qs′ ts′ : List ℕ} {q : Progress}
-          (g : Turned (turn (eqb more 0) (behind qs p more) (leftOf t qs ts p)) u qs qs′ ts ts′ q) where
-        turned : Turned next u qs qs′ ts ts′ q
+          (g : TurnLeaves (turn (eqb more 0) (behind qs p more) (replayState t qs ts p)) u qs qs′ ts ts′ q) where
+        turned : TurnLeaves next u qs qs′ ts ts′ q
         turned = rw next-is at g
 
         few-wait : q .held < 20
         few-wait = omega (arith, ap (λ (r : Progress). r .held) (turned .progress), bounded .rest)
 
         text-is : take (q .len) ts′ ≡ next .text
-        text-is = ap (λ (l : Left). l .text) (turned .left)
+        text-is = ap (λ (l : ReplayState). l .text) (turned .left)
 
         -- less is left
         pub sofar-less : length w - (from + more) + bit (not (q .ended)) < length w - from + bit (not (p .ended))

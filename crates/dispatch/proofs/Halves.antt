@@ -10,7 +10,7 @@ use borrow.Author.Tests.{eq-eqb, ne-eqb}
 use Rattle.basics.specs.Find.{highestBelow}
 use Rattle.basics.proofs.Laws.{lt-or-le}
 use Rattle.basics.proofs.Finds.{high-is, high-one}
-use Rattle.rules.specs.Tables.{mostLevels, state, LEVELS, levels}
+use Rattle.rules.specs.Tables.{fewLevels, mostLevels, state, LEVELS, levels}
 use Rattle.rules.specs.Lines.{anyone, readyLine}
 use Rattle.rules.specs.Dispatch.{highestReady}
 
@@ -47,24 +47,24 @@ module _ (n m : ℕ) (f : ℕ → Bool) where
             (lt-or-le j n);
       }
 
--- ---- the ready queues: what is found from 0 on with 16 levels; with 32 in the upper half, or, where that is empty, from 0 on
+-- ---- the ready queues: what is found from 0 on with the few levels; with the most in the upper half, or, where that is empty, from 0 on
 abbrev From : List ℕ → ℕ → ℕ → Type 0
-From ls from r = r ≡ highestBelow 16 (λ p. anyone ls (readyLine (from + p)))
+From ls from r = r ≡ highestBelow fewLevels (λ p. anyone ls (readyLine (from + p)))
 
 module _ (st ls : List ℕ) where
   pub of-few : state st LEVELS ≢ mostLevels → {r : ℕ} → From ls 0 r → r ≡ highestReady (levels st) ls
   unfolding levels highestReady
-  of-few n e = rw (ne-eqb (state st LEVELS) mostLevels n) (e ∙ from-zero 16 (λ p. anyone ls (readyLine p)))
+  of-few n e = rw (ne-eqb (state st LEVELS) mostLevels n) (e ∙ from-zero fewLevels (λ p. anyone ls (readyLine p)))
 
-  module _ (most : state st LEVELS ≡ mostLevels) {u : ℕ} (up : From ls 16 u) where
-    pub of-upper : u ≢ 0 → 16 + u ≡ highestReady (levels st) ls
+  module _ (most : state st LEVELS ≡ mostLevels) {u : ℕ} (up : From ls fewLevels u) where
+    pub of-upper : u ≢ 0 → fewLevels + u ≡ highestReady (levels st) ls
     unfolding levels highestReady
     of-upper n =
         let some : 0 < u = omega arith in
-        rw (eq-eqb (state st LEVELS) mostLevels most, up) (sym (high-upper 16 16 (λ p. anyone ls (readyLine p)) (rw up at some)))
+        rw (eq-eqb (state st LEVELS) mostLevels most, up) (sym (high-upper fewLevels fewLevels (λ p. anyone ls (readyLine p)) (rw up at some)))
 
     pub of-lower : u ≡ 0 → {r : ℕ} → From ls 0 r → r ≡ highestReady (levels st) ls
     unfolding levels highestReady
     of-lower z e =
         let f : ℕ → Bool = λ p. anyone ls (readyLine p) in
-        rw (eq-eqb (state st LEVELS) mostLevels most) (e ∙ from-zero 16 f ∙ sym (high-lower 16 16 f (sym up ∙ z)))
+        rw (eq-eqb (state st LEVELS) mostLevels most) (e ∙ from-zero fewLevels f ∙ sym (high-lower fewLevels fewLevels f (sym up ∙ z)))

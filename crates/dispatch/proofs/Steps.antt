@@ -7,14 +7,15 @@ use mathlib.Core.List.{List}
 use borrow.Author.Tests.{eq-eqb, ne-eqb}
 use lib.Dec.{ltb}
 use lib.ListN.{set}
-use Rattle.rules.specs.Tables.{levels, swi, withSwi, state, DEPTH, SWIS}
+use Rattle.rules.specs.Tables.{levels, swi, withSwi, state, INITIAL, TRIGGER, POSTED, TAKEN, DEPTH, SWIS, CURRENT}
 use Rattle.rules.specs.Lines.{frontOf, outOf, joined, postedLine, activeLine}
 use Rattle.rules.specs.Swis.{SwiQueues, swiQueues}
 use Rattle.rules.specs.Dispatch.{started, swiDue, activeLevel, highestPosted, swiDispatched, taskDue, front, taskDispatched}
 
 -- a Swi starts
 pub started-is : (ws ls : List ℕ) (i j : ℕ) {n v u : ℕ} {ws₁ ws₂ ws₃ ls₁ ls₂ : List ℕ}
-    → n ≡ i → v ≡ swi ws n 3 → u ≡ swi ws n 2 → ws₁ ≡ withSwi ws n 5 v → ws₂ ≡ withSwi ws₁ n 3 u → ws₃ ≡ withSwi ws₂ n 4 0
+    → n ≡ i → v ≡ swi ws n TRIGGER → u ≡ swi ws n INITIAL
+    → ws₁ ≡ withSwi ws n TAKEN v → ws₂ ≡ withSwi ws₁ n TRIGGER u → ws₃ ≡ withSwi ws₂ n POSTED 0
     → ls₁ ≡ outOf j i ls → ls₂ ≡ joined activeLine i ls₁
     → swiQueues ws₃ ls₂ ≡ started i j (swiQueues ws ls)
 unfolding started
@@ -36,7 +37,7 @@ module _ (ws ls st : List ℕ) where
 
 -- one is due, and starts; or none is
 module _ (ws ls st : List ℕ) {t : Bool} (is : t ≡ swiDue ws ls st) where
-  pub swi-starts : t ≡ true → {h k j i : ℕ} {x : SwiQueues} → h ≡ highestPosted ls → k ≡ h - 1 → j ≡ 32 + k → i ≡ frontOf ls j
+  pub swi-starts : t ≡ true → {h k j i : ℕ} {x : SwiQueues} → h ≡ highestPosted ls → k ≡ h - 1 → j ≡ postedLine k → i ≡ frontOf ls j
       → x ≡ started i j (swiQueues ws ls) → x ≡ swiDispatched st (swiQueues ws ls)
   unfolding swiDispatched
   swi-starts w a b c d e =
@@ -48,7 +49,7 @@ module _ (ws ls st : List ℕ) {t : Bool} (is : t ≡ swiDue ws ls st) where
   no-swi w = rw (sym is ∙ w)
 
 module _ (ls st : List ℕ) {t : Bool} (is : t ≡ taskDue ls st) where
-  pub task-chosen : t ≡ true → {i v : ℕ} → i ≡ front (levels st) ls → v ≡ i → set st 4 v ≡ taskDispatched ls st
+  pub task-chosen : t ≡ true → {i v : ℕ} → i ≡ front (levels st) ls → v ≡ i → set st CURRENT v ≡ taskDispatched ls st
   unfolding taskDispatched
   task-chosen w a b = rw (b, a, sym is ∙ w)
 

@@ -7,7 +7,7 @@ use borrow.Author.Tests.{eqb-true}
 use lib.Dec.{eqb}
 use Rattle.rules.specs.Answer.{Effect, withAnswer, CallRule, codeOf, refused, answered}
 use Rattle.rules.specs.Lines.{taskQueues}
-use Rattle.rules.specs.Waits.{waitTables}
+use Rattle.rules.specs.Waits.{WaitTables, waitTables}
 use Rattle.rules.specs.Dispatch.{DispatchTables, dispatchTables, dispatched}
 use Rattle.rules.specs.Sound.{Sound}
 use Rattle.rules.specs.Step.{inRange, callOf, settled}
@@ -17,7 +17,7 @@ use Rattle.demand_2_soundness.proofs.Groups.{SwisStay}
 use Rattle.demand_2_soundness.proofs.Chosen.{chosen}
 use Rattle.demand_2_soundness.proofs.Nothing.{tasks-left, nothing-left}
 use Rattle.demand_2_soundness.proofs.Standing.{task-0-never-waits}
-use Rattle.demand_2_soundness.proofs.Quiet.{tasks-quiet, semaphores-quiet, events-quiet, mailboxes-quiet}
+use Rattle.demand_2_soundness.proofs.Quiet.{Leaves, tasks-quiet, semaphores-quiet, events-quiet, mailboxes-quiet}
 use Rattle.dispatch_after.specs.Settle.{tasksOnly, bothParts, leftBy, partsSettled, settledAfter}
 use Rattle.dispatch_after.specs.declared.Parts.{Parts}
 
@@ -44,6 +44,11 @@ module _ (t : Tables) (s : Sound t) where
   of-tasks true ls same none = sym (tasks-left t s ls same)
   of-tasks false ls same none = rw (none refl) (sym (nothing-left t s))
 
+  of-kind : {A : Type 0} {linesOf : A → List ℕ} {moves : ℕ → ℕ → Bool} {e : Effect A} → Leaves linesOf (t .lines) moves e
+      → partsSettled (tasksOnly (moves (e .answer .outcome) (e .answer .value))) (t .swis) (linesOf (e .next)) (t .state)
+      ≡ dispatched (t .swis) (linesOf (e .next)) (t .state)
+  of-kind l = of-tasks _ _ (l .swis) (l .none)
+
   nothing : partsSettled (tasksOnly false) (t .swis) (t .lines) (t .state) ≡ dispatched (t .swis) (t .lines) (t .state)
   nothing = of-tasks false (t .lines) (λ j low high. refl) (λ _. refl)
 
@@ -51,31 +56,17 @@ module _ (t : Tables) (s : Sound t) where
     settles : Settles (λ o v. leftBy number o v) (callOf t x number a b c d)
     unfolding callOf leftBy
     settles =
+        let waits : List ℕ → WaitTables = waitTables (t .tasks) (t .lines) in
+        let never = task-0-never-waits t s in
         ranged (inRange number 0x00)
-        (record {
-          rule = λ z.
-              let l = tasks-quiet (taskQueues (t .tasks) (t .lines)) (t .state) (s .tasks) (t .state) x number a b c d .leaves z in
-              of-tasks _ _ (l .swis) (l .none);
-        })
+        (record { rule = λ z. of-kind (tasks-quiet (taskQueues (t .tasks) (t .lines)) (t .state) (s .tasks) (t .state) x number a b c d .leaves z) })
         (ranged (inRange number 0x10) whole
         (ranged (inRange number 0x20)
-        (record {
-          rule = λ z.
-              let l = semaphores-quiet (waitTables (t .tasks) (t .lines) (t .semaphores)) (t .state) (s .tasks) (task-0-never-waits t s) (t .state) x number a b c d .leaves z in
-              of-tasks _ _ (l .swis) (l .none);
-        })
+        (record { rule = λ z. of-kind (semaphores-quiet (waits (t .semaphores)) (t .state) (s .tasks) never (t .state) x number a b c d .leaves z) })
         (ranged (inRange number 0x30)
-        (record {
-          rule = λ z.
-              let l = events-quiet (waitTables (t .tasks) (t .lines) (t .events)) (t .state) (s .tasks) (task-0-never-waits t s) (t .state) x number a b c d .leaves z in
-              of-tasks _ _ (l .swis) (l .none);
-        })
+        (record { rule = λ z. of-kind (events-quiet (waits (t .events)) (t .state) (s .tasks) never (t .state) x number a b c d .leaves z) })
         (ranged (inRange number 0x40)
-        (record {
-          rule = λ z.
-              let l = mailboxes-quiet (waitTables (t .tasks) (t .lines) (t .mailboxes)) (t .state) (s .tasks) (task-0-never-waits t s) (t .state) x number a b c d .leaves z in
-              of-tasks _ _ (l .swis) (l .none);
-        })
+        (record { rule = λ z. of-kind (mailboxes-quiet (waits (t .mailboxes)) (t .state) (s .tasks) never (t .state) x number a b c d .leaves z) })
         (ranged (inRange number 0x50) (record { rule = λ _. nothing })
         (ranged (inRange number 0x60) (record { rule = λ _. nothing }) whole))))))
 

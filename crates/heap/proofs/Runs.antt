@@ -13,17 +13,18 @@ use Rattle.basics.proofs.Laws.{lt-or-le}
 use Rattle.basics.proofs.Finds.{all-none, all-step, all-end, all-at, all-make, all-no}
 use Rattle.basics.proofs.Finds.{Passed, first-starts, first-goes, first-here, first-none, IsFirst, first-is, first-below-is}
 use Rattle.basics.proofs.Finds.{high-goes, high-here, high-is, high-one, IsHighest}
+use Rattle.rules.specs.Tables.{heapUnits}
 use Rattle.rules.specs.Heap.{unit, isRun, lowestRun}
 use Rattle.heap.specs.Free.{isFree, noneFree, firstFree, freeFrom, adjacent}
 
-pub unit-in : (h : List ℕ) (u : ℕ) → u < 256 → unit h u ≡ getD h u 0
-unit-in h u l = rw (lt-ltb u 256 l)
+pub unit-in : (h : List ℕ) (u : ℕ) → u < heapUnits → unit h u ≡ getD h u 0
+unit-in h u l = rw (lt-ltb u heapUnits l)
 
-free-in : (h : List ℕ) (u : ℕ) → u < 256 → isFree h u ≡ eqb (getD h u 0) 0
+free-in : (h : List ℕ) (u : ℕ) → u < heapUnits → isFree h u ≡ eqb (getD h u 0) 0
 free-in h u l = ap (λ (e : ℕ). eqb e 0) (unit-in h u l)
 
-free-past : (h : List ℕ) (u : ℕ) → 256 ≤ u → isFree h u ≡ true
-free-past h u l = rw (le-ltb u 256 l)
+free-past : (h : List ℕ) (u : ℕ) → heapUnits ≤ u → isFree h u ≡ true
+free-past h u l = rw (le-ltb u heapUnits l)
 
 -- a search goes on past numbers that all lack f
 passed-on : (n : ℕ) (f : ℕ → Bool) (r d i : ℕ) → i + d ≤ n → ((j : ℕ) → i ≤ j → j < i + d → f j ≡ false) → Passed n f r i → Passed n f r (i + d)
@@ -78,20 +79,20 @@ module _ (h : List ℕ) (u : ℕ) where
 module _ (h : List ℕ) (u : ℕ) where
   pub free-on16 : noneFree h u ≡ true → firstFree h (u + 16) ≡ firstFree h u
   unfolding firstFree Passed
-  free-on16 e = passed-on 256 (isFree h) (firstFree h u) 16 u (omega (arith, none-low h u e)) (none-at h u e) refl
+  free-on16 e = passed-on heapUnits (isFree h) (firstFree h u) 16 u (omega (arith, none-low h u e)) (none-at h u e) refl
 
-  module _ (l : u < 256) where
+  module _ (l : u < heapUnits) where
     pub free-here : getD h u 0 ≡ 0 → firstFree h u ≡ u
     unfolding firstFree Passed
-    free-here e = sym (first-here 256 (isFree h) (firstFree h u) u l (free-in h u l ∙ eq-eqb _ 0 e) refl)
+    free-here e = sym (first-here heapUnits (isFree h) (firstFree h u) u l (free-in h u l ∙ eq-eqb _ 0 e) refl)
 
     pub free-on : getD h u 0 ≢ 0 → firstFree h (u + 1) ≡ firstFree h u
     unfolding firstFree Passed
-    free-on e = first-goes 256 (isFree h) (firstFree h u) u l (free-in h u l ∙ ne-eqb _ 0 e) refl
+    free-on e = first-goes heapUnits (isFree h) (firstFree h u) u l (free-in h u l ∙ ne-eqb _ 0 e) refl
 
-  pub free-end : 256 ≤ u → firstFree h u ≡ u
+  pub free-end : heapUnits ≤ u → firstFree h u ≡ u
   unfolding firstFree firstFrom
-  free-end l = let q : 256 - u ≡ 0 = omega arith in rw q
+  free-end l = let q : heapUnits - u ≡ 0 = omega arith in rw q
 
 -- four in a turn: those that are not free are passed one after the other
 module _ (h : List ℕ) (u : ℕ) (l : u < 253) where
@@ -119,12 +120,12 @@ notFree h j = not (isFree h j)
 
 -- of the units before e those from p on are free: the search has those before p left
 pub record FreeTo (h : List ℕ) (e p : ℕ) : Type 0 where
-  pub within : p ≤ 256
+  pub within : p ≤ heapUnits
   pub passed : highestBelow p (notFree h) ≡ highestBelow e (notFree h)
 
 module _ (h : List ℕ) (e : ℕ) where
   -- units past the heap count as free, so the search starts at its end
-  pub from-start : {p : ℕ} → p ≡ min e 256 → FreeTo h e p
+  pub from-start : {p : ℕ} → p ≡ min e heapUnits → FreeTo h e p
   from-start {p} q =
       let low = high-is p (notFree h) in
       let after : (j : ℕ) → highestBelow p (notFree h) ≤ j → j < e → notFree h j ≡ false = λ j a b.
@@ -157,11 +158,11 @@ module _ (h : List ℕ) (e : ℕ) where
 -- ---- how many adjacent units have entry e, n at most
 module _ (h : List ℕ) (u n e : ℕ) where
   unfoldable pub Counted : ℕ → Type 0
-  Counted k = Passed (min n (256 - u)) (other h u e) (adjacent h u n e) k
+  Counted k = Passed (min n (heapUnits - u)) (other h u e) (adjacent h u n e) k
 
-  pub counted-past : 256 ≤ u → 0 ≡ adjacent h u n e
+  pub counted-past : heapUnits ≤ u → 0 ≡ adjacent h u n e
   unfolding adjacent firstBelow firstFrom
-  counted-past l = let q : min n (256 - u) ≡ 0 = omega arith in rw q
+  counted-past l = let q : min n (heapUnits - u) ≡ 0 = omega arith in rw q
 
   pub counted-none : Counted 0
   unfolding Counted adjacent
@@ -169,14 +170,14 @@ module _ (h : List ℕ) (u n e : ℕ) where
 
   pub counted-most : {k : ℕ} → k ≡ adjacent h u n e → k ≤ n
   unfolding adjacent
-  counted-most q = omega (arith, first-below-is (min n (256 - u)) (other h u e) .high)
+  counted-most q = omega (arith, first-below-is (min n (heapUnits - u)) (other h u e) .high)
 
   module _ (k : ℕ) (s : Counted k) where
-    pub counted-all : k ≤ min n (256 - u) → min n (256 - u) ≤ k → k ≡ adjacent h u n e
+    pub counted-all : k ≤ min n (heapUnits - u) → min n (heapUnits - u) ≤ k → k ≡ adjacent h u n e
     unfolding Counted
-    counted-all a b = omega (arith, first-none (min n (256 - u)) (other h u e) (adjacent h u n e) k b a s)
+    counted-all a b = omega (arith, first-none (min n (heapUnits - u)) (other h u e) (adjacent h u n e) k b a s)
 
-    module _ (l : k < min n (256 - u)) where
+    module _ (l : k < min n (heapUnits - u)) where
       in-heap : unit h (u + k) ≡ getD h (u + k) 0
       in-heap = unit-in h (u + k) (omega arith)
 
@@ -191,9 +192,9 @@ module _ (h : List ℕ) (u n e : ℕ) where
 -- ---- a run of n free units
 -- no run starts before u
 pub record NoRun (h : List ℕ) (n u : ℕ) : Type 0 where
-  pub short : n ≤ 256
-  pub within : u ≤ 256
-  pub passed : Passed 256 (isRun h n) (lowestRun h n) u
+  pub short : n ≤ heapUnits
+  pub within : u ≤ heapUnits
+  pub passed : Passed heapUnits (isRun h n) (lowestRun h n) u
 
 module _ (h : List ℕ) (n : ℕ) where
   -- none starts where a unit of it is not free, or is past the heap
@@ -203,43 +204,44 @@ module _ (h : List ℕ) (n : ℕ) where
       let q : u + (p - u) ≡ p = omega arith in
       let f : ℕ → Bool = λ k. isFree h (u + k) in
       let t : false ≡ f (p - u) = rw q (sym e) in
-      rw (sym (all-no f n (p - u) (omega arith) t refl)) (and-false (leb (u + n) 256))
+      rw (sym (all-no f n (p - u) (omega arith) t refl)) (and-false (leb (u + n) heapUnits))
 
-  too-long : (u : ℕ) → 256 < u + n → isRun h n u ≡ false
+  too-long : (u : ℕ) → heapUnits < u + n → isRun h n u ≡ false
   unfolding isRun
-  too-long u l = rw (lt-leb (u + n) 256 l)
+  too-long u l = rw (lt-leb (u + n) heapUnits l)
 
   -- a search that has come to u goes on at v where no run starts between them
-  skipped : (u v : ℕ) → u ≤ v → v ≤ 256 → ((j : ℕ) → u ≤ j → j < v → isRun h n j ≡ false) → Passed 256 (isRun h n) (lowestRun h n) u
-      → Passed 256 (isRun h n) (lowestRun h n) v
+  skipped : (u v : ℕ) → u ≤ v → v ≤ heapUnits → ((j : ℕ) → u ≤ j → j < v → isRun h n j ≡ false) → Passed heapUnits (isRun h n) (lowestRun h n) u
+      → Passed heapUnits (isRun h n) (lowestRun h n) v
   skipped u v a b none p =
       let q : u + (v - u) ≡ v = omega arith in
-      rw q at (passed-on 256 (isRun h n) (lowestRun h n) (v - u) u (omega arith) (λ j c d. none j c (omega arith)) p)
+      rw q at (passed-on heapUnits (isRun h n) (lowestRun h n) (v - u) u (omega arith) (λ j c d. none j c (omega arith)) p)
 
-  starts : Passed 256 (isRun h n) (lowestRun h n) 0
+  starts : Passed heapUnits (isRun h n) (lowestRun h n) 0
   unfolding lowestRun
-  starts = first-starts 256 (isRun h n)
+  starts = first-starts heapUnits (isRun h n)
 
   -- a run that starts at u or later ends past the heap
-  none-left : (u : ℕ) → u ≤ 256 → 256 < u + n → Passed 256 (isRun h n) (lowestRun h n) u → 256 ≡ lowestRun h n
+  none-left : (u : ℕ) → u ≤ heapUnits → heapUnits < u + n → Passed heapUnits (isRun h n) (lowestRun h n) u → heapUnits ≡ lowestRun h n
   none-left u a l p =
-      first-none 256 (isRun h n) (lowestRun h n) 256 (omega arith) (omega arith) (skipped u 256 a (omega arith) (λ j c d. too-long j (omega arith)) p)
+      first-none heapUnits (isRun h n) (lowestRun h n) heapUnits (omega arith) (omega arith)
+      (skipped u heapUnits a (omega arith) (λ j c d. too-long j (omega arith)) p)
 
-  pub run-never : 256 < n → 256 ≡ lowestRun h n
+  pub run-never : heapUnits < n → heapUnits ≡ lowestRun h n
   run-never l = none-left 0 (omega arith) (omega arith) starts
 
-  pub run-start : n ≤ 256 → NoRun h n 0
+  pub run-start : n ≤ heapUnits → NoRun h n 0
   run-start l = record { short = l; within = omega arith; passed = starts }
 
   module _ (u : ℕ) (s : NoRun h n u) where
-    pub run-end : 256 - n < u → 256 ≡ lowestRun h n
+    pub run-end : heapUnits - n < u → heapUnits ≡ lowestRun h n
     run-end l = none-left u (s .within) (omega (arith, s .short)) (s .passed)
 
-    module _ (p : ℕ) (l : u ≤ 256 - n) (start : p ≡ freeFrom h u (u + n)) where
+    module _ (p : ℕ) (l : u ≤ heapUnits - n) (start : p ≡ freeFrom h u (u + n)) where
       last : IsHighest (u + n) (notFree h) (highestBelow (u + n) (notFree h))
       last = high-is (u + n) (notFree h)
 
-      fits : u + n ≤ 256
+      fits : u + n ≤ heapUnits
       fits = omega (arith, s .short)
 
       -- only for n = 0 does 256 pass the loop's test, and there the search ends with 256
@@ -248,22 +250,22 @@ module _ (h : List ℕ) (n : ℕ) where
       run-here e =
           let f = all-make (λ j. isFree h (u + j)) n (λ j b. not-false _ (last .after (u + j) (omega arith) (omega arith))) in
           ⊎-elim
-          (λ (c : u < 256). first-here 256 (isRun h n) (lowestRun h n) u c (rw (le-leb (u + n) 256 fits) f) (s .passed))
-          (λ (c : 256 ≤ u). omega (arith, first-none 256 (isRun h n) (lowestRun h n) u c (s .within) (s .passed)))
-          (lt-or-le u 256)
+          (λ (c : u < heapUnits). first-here heapUnits (isRun h n) (lowestRun h n) u c (rw (le-leb (u + n) heapUnits fits) f) (s .passed))
+          (λ (c : heapUnits ≤ u). omega (arith, first-none heapUnits (isRun h n) (lowestRun h n) u c (s .within) (s .passed)))
+          (lt-or-le u heapUnits)
 
       module _ (e : p ≢ u) {v : ℕ} (first : v ≡ firstFree h p) where
         is-last : IsHighest (u + n) (notFree h) p
         unfolding freeFrom
         is-last = let q : highestBelow (u + n) (notFree h) ≡ p = omega arith in rw q at last
 
-        next : IsFirst p 256 (isFree h) v
+        next : IsFirst p heapUnits (isFree h) v
         unfolding firstFree
         next =
-            let q : p + (256 - p) ≡ 256 = omega (arith, is-last .high, fits) in
-            rw (sym first) at (rw q at (first-is p (256 - p) (isFree h)))
+            let q : p + (heapUnits - p) ≡ heapUnits = omega (arith, is-last .high, fits) in
+            rw (sym first) at (rw q at (first-is p (heapUnits - p) (isFree h)))
 
-        pub run-later : 256 - v < 256 - u
+        pub run-later : heapUnits - v < heapUnits - u
         unfolding freeFrom
         run-later = omega (arith, is-last .high, fits, next .low)
 

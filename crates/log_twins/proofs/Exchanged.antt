@@ -9,12 +9,13 @@ use borrow.Author.Tests.{eq-eqb, ne-eqb}
 use lib.Dec.{eqb}
 use lib.ListN.{length, getD}
 use Rattle.basics.proofs.Laws.{same?}
+use Rattle.rules.specs.Log.{recordBytes, versionByte}
 use Rattle.rules_laws.proofs.Calls.{chosen}
 use Rattle.log_twins.specs.Twin.{exchanged, twinFrom, HasTwin}
 
 -- what the twin has at a place of the log where the log has x
 abbrev twinAt : ℕ → ℕ → ℕ
-twinAt place x = if (eqb (place % 20) 2) (exchanged x) x
+twinAt place x = if (eqb (place % recordBytes) versionByte) (exchanged x) x
 
 twin-long : (place : ℕ) (s : List ℕ) → length (twinFrom place s) ≡ length s
 unfolding twinFrom
@@ -24,7 +25,7 @@ twin-long place (x ∷ xs) = ap suc (twin-long (suc place) xs)
 -- past its end a log has 0, and so has its twin
 twin-has : (place : ℕ) (s : List ℕ) (i : ℕ) → getD (twinFrom place s) i 0 ≡ twinAt (place + i) (getD s i 0)
 unfolding twinFrom
-twin-has place [] i = chosen (λ (y : ℕ). 0 ≡ y) (eqb ((place + i) % 20) 2) _ _ (λ _. refl) (λ _. refl)
+twin-has place [] i = chosen (λ (y : ℕ). 0 ≡ y) (eqb ((place + i) % recordBytes) versionByte) _ _ (λ _. refl) (λ _. refl)
 twin-has place (x ∷ xs) zero = let e : place + 0 ≡ place = omega arith in rw e
 twin-has place (x ∷ xs) (suc i) = let e : place + suc i ≡ suc place + i = omega arith in rw e (twin-has (suc place) xs i)
 
@@ -43,11 +44,11 @@ module _ (s : List ℕ) (i : ℕ) where
   here : getD (twinFrom 0 s) i 0 ≡ twinAt i (getD s i 0)
   here = let e : 0 + i ≡ i = omega arith in rw e at (twin-has 0 s i)
 
-  version-exchanged : i % 20 ≡ 2 → getD (twinFrom 0 s) i 0 ≡ exchanged (getD s i 0)
-  version-exchanged e = here ∙ rw (eq-eqb (i % 20) 2 e)
+  version-exchanged : i % recordBytes ≡ versionByte → getD (twinFrom 0 s) i 0 ≡ exchanged (getD s i 0)
+  version-exchanged e = here ∙ rw (eq-eqb (i % recordBytes) versionByte e)
 
-  others-same : i % 20 ≢ 2 → getD (twinFrom 0 s) i 0 ≡ getD s i 0
-  others-same n = here ∙ rw (ne-eqb (i % 20) 2 n)
+  others-same : i % recordBytes ≢ versionByte → getD (twinFrom 0 s) i 0 ≡ getD s i 0
+  others-same n = here ∙ rw (ne-eqb (i % recordBytes) versionByte n)
 
 pub has-twin : HasTwin
 has-twin s two =

@@ -9,17 +9,18 @@ use lib.Dec.{eqb}
 use lib.ListN.{length, getD, take, drop, length-take, length-drop}
 use lib.Seq.{ext-getD, getD-take, getD-drop}
 use Rattle.basics.proofs.Laws.{same?}
-use Rattle.rules.specs.Log.{versionOf, readIn, readAt, argumentBytes, argument}
+use Rattle.rules.specs.Tables.{wordEnd}
+use Rattle.rules.specs.Log.{versionOf, readIn, readAt, argumentBytes, argument, recordBytes, argumentsLength, versionByte, numberByte, firstArgument}
 use Rattle.log_twins.specs.Twin.{Bytes, Twins}
 use Rattle.rules.specs.Answer.{asked, Words}
 
 -- ---- an argument is a word
-part-byte : (s : List ℕ) → Bytes s → (start i : ℕ) → i < 16 → getD (argumentBytes s start) i 0 < 256
+part-byte : (s : List ℕ) → Bytes s → (start i : ℕ) → i < argumentsLength → getD (argumentBytes s start) i 0 < 256
 unfolding argumentBytes
-part-byte s bytes start i h = rw (getD-take 16 (drop start s) i 0 h, getD-drop start s i 0) (bytes (start + i))
+part-byte s bytes start i h = rw (getD-take argumentsLength (drop start s) i 0 h, getD-drop start s i 0) (bytes (start + i))
 
 module _ (s : List ℕ) (bytes : Bytes s) (start : ℕ) where
-  argument-word : (n : ℕ) → n < 4 → argument (argumentBytes s start) n < 4294967296
+  argument-word : (n : ℕ) → n < 4 → argument (argumentBytes s start) n < wordEnd
   argument-word n h =
       omega (
         arith,
@@ -46,7 +47,7 @@ module _ (s w : List ℕ) (twins : Twins s w) where
   short-same h = ext-getD 0 w s (twins .long) (λ i low. twins .others i (λ e. omega (arith, twins .long)))
 
   -- a version is the log's own where its twin's is
-  version-same : (i : ℕ) → i % 20 ≡ 2 → eqb (getD w i 0) 1 ≡ eqb (getD s i 0) 2
+  version-same : (i : ℕ) → i % recordBytes ≡ versionByte → eqb (getD w i 0) 1 ≡ eqb (getD s i 0) 2
   version-same i e =
       ⊎-elim
       (λ (two : getD s i 0 ≡ 2). rw (two, twins .versions i e .0 two))
@@ -58,29 +59,32 @@ module _ (s w : List ℕ) (twins : Twins s w) where
     version-two = twins .begins some
 
     pub version-one : versionOf w ≡ 1
-    version-one = twins .versions 2 refl .0 version-two
+    version-one = twins .versions versionByte refl .0 version-two
 
-    module _ (at : ℕ) (begins : at % 20 ≡ 0) where
+    module _ (at : ℕ) (begins : at % recordBytes ≡ 0) where
       pub read-alike : readAt w at ≡ readAt s at
       unfolding readIn
       read-alike =
           rw (
             version-two,
             version-one,
-            version-same (at + 2) (omega arith),
+            version-same (at + versionByte) (omega arith),
             twins .long,
             twins .others at (λ e. omega arith),
             twins .others (at + 1) (λ e. omega arith),
-            twins .others (at + 3) (λ e. omega arith),
+            twins .others (at + numberByte) (λ e. omega arith),
           )
 
-      pub arguments-same : argumentBytes w (at + 4) ≡ argumentBytes s (at + 4)
+      pub arguments-same : argumentBytes w (at + firstArgument) ≡ argumentBytes s (at + firstArgument)
       unfolding argumentBytes
       arguments-same =
-          let n = ap (λ (k : ℕ). min 16 (k - (at + 4))) (twins .long) in
-          ext-getD 0 (take 16 (drop (at + 4) w)) (take 16 (drop (at + 4) s))
-          (rw (length-take 16 (drop (at + 4) w), length-take 16 (drop (at + 4) s), length-drop (at + 4) w, length-drop (at + 4) s) n)
+          let n = ap (λ (k : ℕ). min argumentsLength (k - (at + firstArgument))) (twins .long) in
+          let ws = drop (at + firstArgument) w in
+          let ss = drop (at + firstArgument) s in
+          ext-getD 0 (take argumentsLength ws) (take argumentsLength ss)
+          (rw (length-take argumentsLength ws, length-take argumentsLength ss, length-drop (at + firstArgument) w, length-drop (at + firstArgument) s) n)
           (λ i h.
-          let low : i < 16 = omega (arith, length-take 16 (drop (at + 4) w)) in
-          rw (getD-take 16 (drop (at + 4) w) i 0 low, getD-take 16 (drop (at + 4) s) i 0 low, getD-drop (at + 4) w i 0, getD-drop (at + 4) s i 0)
-          (twins .others (at + 4 + i) (λ e. omega arith)))
+          let low : i < argumentsLength = omega (arith, length-take argumentsLength ws) in
+          rw (getD-take argumentsLength ws i 0 low, getD-take argumentsLength ss i 0 low)
+          (rw (getD-drop (at + firstArgument) w i 0, getD-drop (at + firstArgument) s i 0)
+          (twins .others (at + firstArgument + i) (λ e. omega arith))))

@@ -9,7 +9,7 @@ use Rattle.basics.proofs.Laws.{lt-or-le}
 use Rattle.rules.specs.Tables.{Typed, raised, fewLevels, mostLevels, state, LEVELS}
 use Rattle.rules.specs.Fresh.{fresh, freshWith}
 use Rattle.rules.specs.Sound.{Sound}
-use Rattle.rules.specs.Log.{readAt, argumentBytes, argument}
+use Rattle.rules.specs.Log.{readAt, argumentBytes, argument, recordBytes, argumentsLength}
 use Rattle.rules.specs.Text.{lineText}
 use Rattle.rules.specs.Replay.{linesFor, linesFrom, replayLines, replayText}
 use Rattle.rules.specs.declared.Tables.{Tables}
@@ -51,10 +51,10 @@ fresh-raised = refl
 module _ (s w : List ℕ) (bytes : Bytes s) (twins : Twins s w) (low : LowLog s) (some : 2 < length s) where
   -- at most k lines from a position on
   abbrev LinesAlike : ℕ → Type 0
-  LinesAlike k = (at n : ℕ) (t : Tables) → at % 20 ≡ 0 → Few t → linesFrom k s at n (raised t) ≡ linesFrom k w at n t
+  LinesAlike k = (at n : ℕ) (t : Tables) → at % recordBytes ≡ 0 → Few t → linesFrom k s at n (raised t) ≡ linesFrom k w at n t
 
   -- what is printed for what stands at a position, if the lines after it are alike
-  first-alike : (k at n : ℕ) (t : Tables) → at % 20 ≡ 0 → Few t → LinesAlike k → (r : Read) → readAt s at ≡ r
+  first-alike : (k at n : ℕ) (t : Tables) → at % recordBytes ≡ 0 → Few t → LinesAlike k → (r : Read) → readAt s at ≡ r
       → linesFor r s n (raised t) (λ later u. linesFrom k s later (suc n) u) ≡ linesFor r w n t (λ later u. linesFrom k w later (suc n) u)
   first-alike k at n t begins f rest (Record number start) e =
       let place : start ≡ at + 4 = log-layout s at (Record number start) .0 e .0 in
@@ -63,7 +63,7 @@ module _ (s w : List ℕ) (bytes : Bytes s) (twins : Twins s w) (low : LowLog s)
       let q : Call = asked number (argument bs 0) (argument bs 1) (argument bs 2) (argument bs 3) in
       let words : Words q = record-words s bytes start number in
       rw (same, calls-alike t (f .typed) (f .sound) (f .levels) q words (low .records at number start begins e))
-      (ap (λ ls. lineText (suc n) (made t q .answer) (made t q .thread) ∷ ls) (rest (start + 16) (suc n) (next t q) (omega arith) (next-few t f q words)))
+      (ap (λ ls. lineText (suc n) (made t q .answer) (made t q .thread) ∷ ls) (rest (start + argumentsLength) (suc n) (next t q) (omega arith) (next-few t f q words)))
   first-alike k at n t begins f rest End e = refl
   first-alike k at n t begins f rest (Cut o) e = refl
   first-alike k at n t begins f rest (Length o) e = refl
@@ -79,7 +79,7 @@ module _ (s w : List ℕ) (bytes : Bytes s) (twins : Twins s w) (low : LowLog s)
   unfolding replayLines
   replays-alike =
       rw (version-two s w twins some, version-one s w twins some, ← fresh-raised, twins .long)
-      (lines-alike (suc (length s / 20)) 0 0 fresh refl fresh-few)
+      (lines-alike (suc (length s / recordBytes)) 0 0 fresh refl fresh-few)
 
 pub twins-replay-alike : TwinsReplayAlike
 unfolding replayText

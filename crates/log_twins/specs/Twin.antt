@@ -10,7 +10,7 @@ use lib.ListN.{length, getD}
 use Rattle.rules.specs.Tables.{Typed, fewLevels, mostLevels, state, LEVELS, raised}
 use Rattle.rules.specs.Sound.{Sound}
 use Rattle.rules.specs.Step.{stepOf}
-use Rattle.rules.specs.Log.{readAt, argumentBytes, argument}
+use Rattle.rules.specs.Log.{readAt, argumentBytes, argument, recordBytes, versionByte}
 use Rattle.rules.specs.Replay.{replayText}
 use Rattle.rules.specs.declared.Tables.{Tables}
 use Rattle.rules.specs.declared.Read.the-variants.{Record}
@@ -44,8 +44,8 @@ Bytes s = (i : ℕ) → getD s i 0 < 256
 pub record Twins (s w : List ℕ) : Type 0 where
   pub long : length w ≡ length s
   pub begins : 2 < length s → getD s 2 0 ≡ 2
-  pub versions : (i : ℕ) → i % 20 ≡ 2 → (getD s i 0 ≡ 2) ↔ (getD w i 0 ≡ 1)
-  pub others : (i : ℕ) → i % 20 ≢ 2 → getD w i 0 ≡ getD s i 0
+  pub versions : (i : ℕ) → i % recordBytes ≡ versionByte → (getD s i 0 ≡ 2) ↔ (getD w i 0 ≡ 1)
+  pub others : (i : ℕ) → i % recordBytes ≢ versionByte → getD w i 0 ≡ getD s i 0
 
 -- a log of version 2 has one: its versions 2 and 1 exchanged; `place` is the first byte's
 abbrev pub exchanged : ℕ → ℕ
@@ -53,14 +53,14 @@ exchanged v = if (eqb v 2) 1 (if (eqb v 1) 2 v)
 
 unfoldable pub twinFrom : ℕ → List ℕ → List ℕ
 twinFrom place [] = []
-twinFrom place (x ∷ xs) = if (eqb (place % 20) 2) (exchanged x) x ∷ twinFrom (suc place) xs
+twinFrom place (x ∷ xs) = if (eqb (place % recordBytes) versionByte) (exchanged x) x ∷ twinFrom (suc place) xs
 
 abbrev pub HasTwin : Type 0
 HasTwin = (s : List ℕ) → (2 < length s → getD s 2 0 ≡ 2) → Twins s (twinFrom 0 s)
 
 -- no record of the log names one of the priorities 16 to 31, also behind a fault
 pub record LowLog (s : List ℕ) : Type 0 where
-  pub records : (at number start : ℕ) → at % 20 ≡ 0 → readAt s at ≡ Record number start
+  pub records : (at number start : ℕ) → at % recordBytes ≡ 0 → readAt s at ≡ Record number start
       → LowCall number (argument (argumentBytes s start) 0) (argument (argumentBytes s start) 1)
 
 -- the theorem: such a log prints what its twin prints, line by line and fault by fault

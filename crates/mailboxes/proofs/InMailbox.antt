@@ -11,7 +11,7 @@ use lib.Seq.{sets, set-set, length-take-le, take-suc, take-all, getD-drop}
 use Rattle.basics.specs.Lists.{zeros}
 use Rattle.basics.proofs.Runs.{sets-snoc, sets-set, getD-sets-out}
 use Rattle.rules.specs.Rows.{listed, withListed}
-use Rattle.rules.specs.Tables.{mailbox, withMailbox, mailboxRow, messages, withMessages}
+use Rattle.rules.specs.Tables.{mailboxCount, mailboxWidth, mailboxMost, MESSAGES, mailbox, withMailbox, mailboxRow, messages, withMessages}
 use Rattle.rules_laws.proofs.Rows.{by-range, field-in, field-out, withField-in, withRow-in, withRow-out}
 use Rattle.rules_laws.proofs.Listed.{length-listed, listed-le, at-listed, withListed-is, listed-kept}
 use Rattle.rules_laws.proofs.InPlace.{length-snoc, grown, joined-is}
@@ -80,37 +80,40 @@ module _ (m : ℕ) (t : List ℕ) (a : ℕ) where
 -- ---- the messages of mailbox i
 -- where their number stands
 abbrev pub at : ℕ → ℕ
-at i = i * 10 + 1
+at i = i * mailboxWidth + MESSAGES
 
 module _ (ms : List ℕ) (i : ℕ) where
-  messages-in : i < 8 → messages ms i ≡ listed 8 ms (at i)
+  messages-in : i < mailboxCount → messages ms i ≡ listed mailboxMost ms (at i)
   unfolding messages
-  messages-in h = rw (lt-ltb i 8 h)
+  messages-in h = rw (lt-ltb i mailboxCount h)
 
-  messages-out : 8 ≤ i → messages ms i ≡ []
+  messages-out : mailboxCount ≤ i → messages ms i ≡ []
   unfolding messages
-  messages-out h = rw (le-ltb i 8 h)
+  messages-out h = rw (le-ltb i mailboxCount h)
 
-  pub count-is : length (messages ms i) ≡ min (mailbox ms i 1) 8
+  pub count-is : length (messages ms i) ≡ min (mailbox ms i MESSAGES) mailboxMost
   count-is =
-      by-range i 8
-      (λ h. ap length (messages-in h) ∙ length-listed 8 ms (at i) ∙ ap (λ (n : ℕ). min n 8) (sym (field-in 10 8 ms i 1 h (omega arith))))
-      (λ h. ap length (messages-out h) ∙ sym (ap (λ (n : ℕ). min n 8) (field-out 10 8 ms i 1 h)))
+      by-range i mailboxCount
+      (λ h.
+      ap length (messages-in h)
+      ∙ length-listed mailboxMost ms (at i)
+      ∙ ap (λ (n : ℕ). min n mailboxMost) (sym (field-in mailboxWidth mailboxCount ms i MESSAGES h (omega arith))))
+      (λ h. ap length (messages-out h) ∙ sym (ap (λ (n : ℕ). min n mailboxMost) (field-out mailboxWidth mailboxCount ms i MESSAGES h)))
 
   pub behind-is : length (drop 1 (messages ms i)) ≡ length (messages ms i) - 1
   behind-is = length-drop 1 (messages ms i)
 
   -- who has a message has a row
-  pub has-row : {n : ℕ} → n ≡ length (messages ms i) → 0 < n → i < 8
-  has-row e h = by-range i 8 (λ p. p) (λ p. absurd (omega (arith, ap length (messages-out p))))
+  pub has-row : {n : ℕ} → n ≡ length (messages ms i) → 0 < n → i < mailboxCount
+  has-row e h = by-range i mailboxCount (λ p. p) (λ p. absurd (omega (arith, ap length (messages-out p))))
 
   pub message-is : (k : ℕ) {n : ℕ} → n ≡ length (messages ms i) → k < n → mailbox ms i (2 + k) ≡ getD (messages ms i) k 0
   message-is k e h =
-      let q : i < 8 = has-row e (omega arith) in
-      let p : i * 10 + (2 + k) ≡ at i + 1 + k = omega arith in
-      field-in 10 8 ms i (2 + k) q (omega (arith, ap length (messages-in q), listed-le 8 ms (at i)))
+      let q : i < mailboxCount = has-row e (omega arith) in
+      let p : i * mailboxWidth + (2 + k) ≡ at i + 1 + k = omega arith in
+      field-in mailboxWidth mailboxCount ms i (2 + k) q (omega (arith, ap length (messages-in q), listed-le mailboxMost ms (at i)))
       ∙ ap (λ (m : ℕ). getD ms m 0) p
-      ∙ at-listed 8 ms (at i) k (omega (arith, ap length (messages-in q)))
+      ∙ at-listed mailboxMost ms (at i) k (omega (arith, ap length (messages-in q)))
       ∙ ap (λ (l : List ℕ). getD l k 0) (sym (messages-in q))
 
   pub oldest-is : {n : ℕ} → n ≡ length (messages ms i) → 0 < n → mailbox ms i 2 ≡ getD (messages ms i) 0 0
@@ -118,73 +121,73 @@ module _ (ms : List ℕ) (i : ℕ) where
 
   -- ---- stored
   module _ (xs : List ℕ) where
-    with-in : i < 8 → length xs ≤ 8 → withMessages ms i xs ≡ withListed 8 ms (at i) xs
+    with-in : i < mailboxCount → length xs ≤ mailboxMost → withMessages ms i xs ≡ withListed mailboxMost ms (at i) xs
     unfolding withMessages
-    with-in h s = rw (lt-ltb i 8 h, le-leb (length xs) 8 s)
+    with-in h s = rw (lt-ltb i mailboxCount h, le-leb (length xs) mailboxMost s)
 
-    pub with-out : 8 ≤ i → withMessages ms i xs ≡ ms
+    pub with-out : mailboxCount ≤ i → withMessages ms i xs ≡ ms
     unfolding withMessages
-    with-out h = rw (le-ltb i 8 h)
+    with-out h = rw (le-ltb i mailboxCount h)
 
-    with-more : i < 8 → 8 < length xs → withMessages ms i xs ≡ ms
+    with-more : i < mailboxCount → mailboxMost < length xs → withMessages ms i xs ≡ ms
     unfolding withMessages
-    with-more h s = rw (lt-ltb i 8 h, lt-leb (length xs) 8 s)
+    with-more h s = rw (lt-ltb i mailboxCount h, lt-leb (length xs) mailboxMost s)
 
-  module _ (h : i < 8) where
+  module _ (h : i < mailboxCount) where
     -- a change of the list in the row is that change of the messages
-    stored : (f : List ℕ → List ℕ) → length (f (listed 8 ms (at i))) ≤ 8
-        → withListed 8 ms (at i) (f (listed 8 ms (at i))) ≡ withMessages ms i (f (messages ms i))
-    stored f s = sym (ap (λ (l : List ℕ). withMessages ms i (f l)) (messages-in h) ∙ with-in (f (listed 8 ms (at i))) h s)
+    stored : (f : List ℕ → List ℕ) → length (f (listed mailboxMost ms (at i))) ≤ mailboxMost
+        → withListed mailboxMost ms (at i) (f (listed mailboxMost ms (at i))) ≡ withMessages ms i (f (messages ms i))
+    stored f s = sym (ap (λ (l : List ℕ). withMessages ms i (f l)) (messages-in h) ∙ with-in (f (listed mailboxMost ms (at i))) h s)
 
-    pub put-is : (x : ℕ) {n : ℕ} → n ≡ getD ms (at i) 0 → n < 8
+    pub put-is : (x : ℕ) {n : ℕ} → n ≡ getD ms (at i) 0 → n < mailboxMost
         → set (set ms (at i + 1 + n) x) (at i) (n + 1) ≡ withMessages ms i (messages ms i ++ (x ∷ []))
     put-is x {n} e s =
-        let k : n ≡ length (listed 8 ms (at i)) = omega (arith, length-listed 8 ms (at i)) in
-        joined-is 8 ms (at i) x k refl
-        ∙ stored (λ l. l ++ (x ∷ [])) (omega (arith, length-snoc (listed 8 ms (at i)) x))
+        let k : n ≡ length (listed mailboxMost ms (at i)) = omega (arith, length-listed mailboxMost ms (at i)) in
+        joined-is mailboxMost ms (at i) x k refl
+        ∙ stored (λ l. l ++ (x ∷ [])) (omega (arith, length-snoc (listed mailboxMost ms (at i)) x))
 
-    pub full-is : (x : ℕ) {n : ℕ} → n ≡ getD ms (at i) 0 → 8 ≤ n → ms ≡ withMessages ms i (messages ms i ++ (x ∷ []))
+    pub full-is : (x : ℕ) {n : ℕ} → n ≡ getD ms (at i) 0 → mailboxMost ≤ n → ms ≡ withMessages ms i (messages ms i ++ (x ∷ []))
     full-is x e s =
         sym
         (with-more (messages ms i ++ (x ∷ [])) h
-        (omega (arith, length-snoc (messages ms i) x, ap length (messages-in h), length-listed 8 ms (at i))))
+        (omega (arith, length-snoc (messages ms i) x, ap length (messages-in h), length-listed mailboxMost ms (at i))))
 
-    pub listed-behind : {n : ℕ} → n ≡ length (drop 1 (messages ms i)) → n ≡ length (drop 1 (listed 8 ms (at i)))
+    pub listed-behind : {n : ℕ} → n ≡ length (drop 1 (messages ms i)) → n ≡ length (drop 1 (listed mailboxMost ms (at i)))
     listed-behind e = e ∙ ap (λ (l : List ℕ). length (drop 1 l)) (messages-in h)
 
-    pub behind-le : length (drop 1 (listed 8 ms (at i))) < 8
-    behind-le = omega (arith, length-drop 1 (listed 8 ms (at i)), listed-le 8 ms (at i))
+    pub behind-le : length (drop 1 (listed mailboxMost ms (at i))) < mailboxMost
+    behind-le = omega (arith, length-drop 1 (listed mailboxMost ms (at i)), listed-le mailboxMost ms (at i))
 
-    pub shift-is : (x k : ℕ) {n : ℕ} {now : List ℕ} → Up 8 ms (at i) k now → n ≡ length (drop 1 (listed 8 ms (at i))) → n ≤ k
+    pub shift-is : (x k : ℕ) {n : ℕ} {now : List ℕ} → Up mailboxMost ms (at i) k now → n ≡ length (drop 1 (listed mailboxMost ms (at i))) → n ≤ k
         → set (set now (at i + 1 + k) x) (at i) (n + 1) ≡ withMessages ms i (drop 1 (messages ms i) ++ (x ∷ []))
     shift-is x k inv e q =
-        up-all 8 ms (at i) k inv x e q
-        ∙ stored (λ l. drop 1 l ++ (x ∷ [])) (omega (arith, length-snoc (drop 1 (listed 8 ms (at i))) x, behind-le))
+        up-all mailboxMost ms (at i) k inv x e q
+        ∙ stored (λ l. drop 1 l ++ (x ∷ [])) (omega (arith, length-snoc (drop 1 (listed mailboxMost ms (at i))) x, behind-le))
 
   -- ---- taken: shifted with a 0, then one less
   pub take-is : {n : ℕ} {os₁ os₂ : List ℕ} → n ≡ length (messages ms i) → 0 < n → os₁ ≡ withMessages ms i (drop 1 (messages ms i) ++ (0 ∷ []))
-      → os₂ ≡ withMailbox os₁ i 1 (n - 1) → os₂ ≡ withMessages ms i (drop 1 (messages ms i))
+      → os₂ ≡ withMailbox os₁ i MESSAGES (n - 1) → os₂ ≡ withMessages ms i (drop 1 (messages ms i))
   take-is {n} {os₁} e p f g =
-      let h : i < 8 = has-row e p in
-      let xs : List ℕ = listed 8 ms (at i) in
+      let h : i < mailboxCount = has-row e p in
+      let xs : List ℕ = listed mailboxMost ms (at i) in
       let s : n ≡ length xs = e ∙ ap length (messages-in h) in
       let q : n - 1 ≡ length (drop 1 xs) = omega (arith, length-drop 1 xs) in
       g
-      ∙ withField-in 10 8 os₁ i 1 (n - 1) h (omega arith)
+      ∙ withField-in mailboxWidth mailboxCount os₁ i MESSAGES (n - 1) h (omega arith)
       ∙ ap (λ (l : List ℕ). set l (at i) (n - 1))
       (f ∙ sym (stored h (λ l. drop 1 l ++ (0 ∷ [])) (omega (arith, length-snoc (drop 1 xs) 0, behind-le h))))
-      ∙ up-less 8 ms (at i) (omega arith) q
+      ∙ up-less mailboxMost ms (at i) (omega arith) q
       ∙ stored h (λ l. drop 1 l) (omega (arith, behind-le h))
 
   pub none-is : {n : ℕ} → n ≡ length (messages ms i) → n ≤ 0 → ms ≡ withMessages ms i (drop 1 (messages ms i))
   none-is e p =
-      by-range i 8
+      by-range i mailboxCount
       (λ h.
-      let xs : List ℕ = listed 8 ms (at i) in
+      let xs : List ℕ = listed mailboxMost ms (at i) in
       let s : length xs ≡ 0 = omega (arith, ap length (messages-in h)) in
-      let z : getD ms (at i) 0 ≤ 8 = omega (arith, length-listed 8 ms (at i)) in
-      sym (listed-kept 8 ms (at i) z)
-      ∙ ap (withListed 8 ms (at i)) (sym (nothing xs s))
+      let z : getD ms (at i) 0 ≤ mailboxMost = omega (arith, length-listed mailboxMost ms (at i)) in
+      sym (listed-kept mailboxMost ms (at i) z)
+      ∙ ap (withListed mailboxMost ms (at i)) (sym (nothing xs s))
       ∙ stored h (λ l. drop 1 l) (omega (arith, behind-le h)))
       (λ h. sym (with-out (drop 1 (messages ms i)) h))
     where
@@ -194,21 +197,22 @@ module _ (ms : List ℕ) (i : ℕ) where
 
 -- ---- a whole row: zeros, then the capacity
 module _ (ms : List ℕ) (i : ℕ) where
-  pub zeros-more : (k : ℕ) {now : List ℕ} → now ≡ sets ms (i * 10) (zeros k) → set now (i * 10 + k) 0 ≡ sets ms (i * 10) (zeros (k + 1))
+  pub zeros-more : (k : ℕ) {now : List ℕ} → now ≡ sets ms (i * mailboxWidth) (zeros k)
+      → set now (i * mailboxWidth + k) 0 ≡ sets ms (i * mailboxWidth) (zeros (k + 1))
   zeros-more k e =
-      ap (λ (l : List ℕ). set l (i * 10 + k) 0) e
-      ∙ sets-snoc (zeros k) ms (i * 10) k 0 (length-replicate {A = ℕ} k 0)
-      ∙ ap (sets ms (i * 10)) (replicate-append-replicate k 1 0)
+      ap (λ (l : List ℕ). set l (i * mailboxWidth + k) 0) e
+      ∙ sets-snoc (zeros k) ms (i * mailboxWidth) k 0 (length-replicate {A = ℕ} k 0)
+      ∙ ap (sets ms (i * mailboxWidth)) (replicate-append-replicate k 1 0)
 
-  pub row-is : (x k : ℕ) {now : List ℕ} → i < 8 → now ≡ sets ms (i * 10) (zeros k) → k ≤ 10 → 10 ≤ k
-      → set now (i * 10) x ≡ mailboxRow ms i (x ∷ zeros 9)
+  pub row-is : (x k : ℕ) {now : List ℕ} → i < mailboxCount → now ≡ sets ms (i * mailboxWidth) (zeros k) → k ≤ mailboxWidth → mailboxWidth ≤ k
+      → set now (i * mailboxWidth) x ≡ mailboxRow ms i (x ∷ zeros (1 + mailboxMost))
   row-is x k h e p q =
-      let s : k ≡ 10 = omega arith in
-      let z : i * 10 ≡ i * 10 + 0 = omega arith in
-      ap (λ (l : List ℕ). set l (i * 10) x) (e ∙ ap (λ (n : ℕ). sets ms (i * 10) (zeros n)) s)
-      ∙ ap (λ (n : ℕ). set (sets ms (i * 10) (zeros 10)) n x) z
-      ∙ sets-set (zeros 10) ms (i * 10) 0 x (omega arith)
-      ∙ sym (withRow-in 10 8 ms i (x ∷ zeros 9) h)
+      let s : k ≡ mailboxWidth = omega arith in
+      let z : i * mailboxWidth ≡ i * mailboxWidth + 0 = omega arith in
+      ap (λ (l : List ℕ). set l (i * mailboxWidth) x) (e ∙ ap (λ (n : ℕ). sets ms (i * mailboxWidth) (zeros n)) s)
+      ∙ ap (λ (n : ℕ). set (sets ms (i * mailboxWidth) (zeros mailboxWidth)) n x) z
+      ∙ sets-set (zeros mailboxWidth) ms (i * mailboxWidth) 0 x (omega arith)
+      ∙ sym (withRow-in mailboxWidth mailboxCount ms i (x ∷ zeros (1 + mailboxMost)) h)
 
-  pub no-row : (x : ℕ) → 8 ≤ i → ms ≡ mailboxRow ms i (x ∷ zeros 9)
-  no-row x h = sym (withRow-out 10 8 ms i (x ∷ zeros 9) h)
+  pub no-row : (x : ℕ) → mailboxCount ≤ i → ms ≡ mailboxRow ms i (x ∷ zeros (1 + mailboxMost))
+  no-row x h = sym (withRow-out mailboxWidth mailboxCount ms i (x ∷ zeros (1 + mailboxMost)) h)

@@ -38,7 +38,8 @@ pub fn create_code(mailboxes: &Mailboxes, x: u32, a: u32, b: u32, c: u32, d: u32
 
 // The lowest mailbox not in use has this capacity, and no messages.
 pub fn create_effect(mailboxes: &mut Mailboxes, a: u32) -> Answer
-    ensures { λ r. ⌜ ((ts : TaskTable) (ls : LineTable) → withAnswer r (waitTables ts ls (new mailboxes)) ≡ createEffect (waitTables ts ls (old mailboxes)) a) ⌝ }
+    ensures { λ r. ⌜ ((ts : TaskTable) (ls : LineTable) → withAnswer r (waitTables ts ls (new mailboxes))
+        ≡ createEffect (waitTables ts ls (old mailboxes)) a) ⌝ }
 {
     let i = free_mailbox(mailboxes);
     put_mailbox(mailboxes, i, a);
@@ -89,7 +90,8 @@ pub fn delete_code(
 
 // The mailbox's row is all 0.
 pub fn delete_effect(mailboxes: &mut Mailboxes, a: u32) -> Answer
-    ensures { λ r. ⌜ ((ts : TaskTable) (ls : LineTable) → withAnswer r (waitTables ts ls (new mailboxes)) ≡ deleteEffect (waitTables ts ls (old mailboxes)) a) ⌝ }
+    ensures { λ r. ⌜ ((ts : TaskTable) (ls : LineTable) → withAnswer r (waitTables ts ls (new mailboxes))
+        ≡ deleteEffect (waitTables ts ls (old mailboxes)) a) ⌝ }
 {
     put_mailbox(mailboxes, a as usize, 0);
     answers::accepted(DONE, 0)

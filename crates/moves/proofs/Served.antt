@@ -26,7 +26,8 @@ module _ (q : WaitTables) (o v : ℕ) {r : Answer} (is : r ≡ answer 0 o v) whe
   objects-is e = accepted-is o v is (ap (waitTables (q .tasks) (q .lines)) e)
 
   -- a task moved
-  pub requeued-is : {ts₁ ls₁ : List ℕ} {x : TaskQueues} → taskQueues ts₁ ls₁ ≡ x → withAnswer r (waitTables ts₁ ls₁ (q .objects)) ≡ accepted o v (withQueues q x)
+  pub requeued-is : {ts₁ ls₁ : List ℕ} {x : TaskQueues} → taskQueues ts₁ ls₁ ≡ x
+      → withAnswer r (waitTables ts₁ ls₁ (q .objects)) ≡ accepted o v (withQueues q x)
   requeued-is e = accepted-is o v is (ap (withQueues q) e)
 
 -- a new object: its number is the value, and its row is stored
@@ -36,7 +37,8 @@ made-is q row n a e f = objects-is q 0 n (f ∙ ap (answer 0 0) a) (e ∙ ap row
 
 -- a post wakes the first in line j, and its number is the value
 pub first-woken : (j v : ℕ) (ts ls : List ℕ) {i : ℕ} {ts₁ ls₁ : List ℕ} {r : Answer} → i ≡ frontOf ls j
-    → taskQueues ts₁ ls₁ ≡ woken i 0 v (taskQueues ts ls) → r ≡ answer 0 0 i → (os : List ℕ) → withAnswer r (waitTables ts₁ ls₁ os) ≡ wakesFirst j v (waitTables ts ls os)
+    → taskQueues ts₁ ls₁ ≡ woken i 0 v (taskQueues ts ls) → r ≡ answer 0 0 i → (os : List ℕ)
+    → withAnswer r (waitTables ts₁ ls₁ os) ≡ wakesFirst j v (waitTables ts ls os)
 first-woken j v ts ls f w a os =
     requeued-is (waitTables ts ls os) 0 (frontOf ls j) (a ∙ ap (answer 0 0) f) (w ∙ ap (λ (i : ℕ). woken i 0 v (taskQueues ts ls)) f)
 

@@ -5,20 +5,20 @@ use mathlib.Core.List.{List}
 use borrow.Author.Tests.{lt-ltb, le-ltb}
 use mathlib.Core.Bool.{true, false}
 use Rattle.rules.specs.Rows.{field}
-use Rattle.rules.specs.Tables.{task, withTask}
+use Rattle.rules.specs.Tables.{taskCount, taskWidth, task, withTask}
 use Rattle.rules.specs.Lines.{line, isLower, homeOf, TaskQueues, taskQueues, moved, outOf, entered}
 use Rattle.rules.specs.declared.Task.{Task}
 
 module _ (place : List ℕ → ℕ) (i : ℕ) (k : Task) (ts ls : List ℕ) where
-  pub moved-is : i < 32 → {old : Task} {g h : ℕ} {ls₁ ls₂ ts₁ : List ℕ}
+  pub moved-is : i < taskCount → {old : Task} {g h : ℕ} {ls₁ ls₂ ts₁ : List ℕ}
       → old ≡ task ts i → g ≡ homeOf old → ls₁ ≡ outOf g i ls → h ≡ homeOf k → ls₂ ≡ entered place h i ls₁ → ts₁ ≡ withTask ts i k
       → taskQueues ts₁ ls₂ ≡ moved place i k (taskQueues ts ls)
   unfolding moved
-  moved-is lt a b c d e f = rw (f, e, d, c, b, a, lt-ltb i 32 lt)
+  moved-is lt a b c d e f = rw (f, e, d, c, b, a, lt-ltb i taskCount lt)
 
-  pub moved-out : 32 ≤ i → taskQueues ts ls ≡ moved place i k (taskQueues ts ls)
+  pub moved-out : taskCount ≤ i → taskQueues ts ls ≡ moved place i k (taskQueues ts ls)
   unfolding moved
-  moved-out h = rw (le-ltb i 32 h)
+  moved-out h = rw (le-ltb i taskCount h)
 
 -- the row that a task gets is worked out from its old one
 pub moved-from : (place : List ℕ → ℕ) (i : ℕ) (f : Task → Task) (ts ls : List ℕ) {old new : Task} {q : TaskQueues} → old ≡ task ts i → new ≡ f old
@@ -26,10 +26,10 @@ pub moved-from : (place : List ℕ → ℕ) (i : ℕ) (f : Task → Task) (ts ls
 moved-from place i f ts ls a b c = c ∙ ap (λ (k : Task). moved place i k (taskQueues ts ls)) (b ∙ ap f a)
 
 -- ---- the priority of one in a line, against p
-module _ (ts : List ℕ) (p : ℕ) {m y v : ℕ} (is : m ≡ y) (e : v ≡ field 8 32 ts m 1) where
+module _ (ts : List ℕ) (p : ℕ) {m y v : ℕ} (is : m ≡ y) (e : v ≡ field taskWidth taskCount ts m 1) where
   priority-is : v ≡ task ts y .priority
   unfolding task
-  priority-is = e ∙ ap (λ (i : ℕ). field 8 32 ts i 1) is
+  priority-is = e ∙ ap (λ (i : ℕ). field taskWidth taskCount ts i 1) is
 
   pub lower : v < p → isLower ts p y ≡ true
   lower h = rw (← priority-is) (lt-ltb v p h)

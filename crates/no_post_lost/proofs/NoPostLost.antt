@@ -66,11 +66,13 @@ no-post-lost t typed sound qs words s now x =
     balanced s (x .call) (x .since) (x .sets) (omega (arith, x .noneSince)) (x .before) t typed sound qs words now (x .split)
 
 -- ---- from fresh tables on
-none-used : (s : ℕ) → semaphore (zeros 48) s USED ≡ 0
+none-used : (s : ℕ) → semaphore (zeros (semaphoreCount * semaphoreWidth)) s USED ≡ 0
 none-used s =
     by-range s semaphoreCount
-    (λ inside. field-in semaphoreWidth semaphoreCount (zeros 48) s USED inside (omega arith) ∙ zero-at 48 (s * semaphoreWidth + USED))
-    (λ past. field-out semaphoreWidth semaphoreCount (zeros 48) s USED past)
+    (λ inside.
+    field-in semaphoreWidth semaphoreCount (zeros (semaphoreCount * semaphoreWidth)) s USED inside (omega arith)
+    ∙ zero-at (semaphoreCount * semaphoreWidth) (s * semaphoreWidth + USED))
+    (λ past. field-out semaphoreWidth semaphoreCount (zeros (semaphoreCount * semaphoreWidth)) s USED past)
 
 none-fresh : (n s : ℕ) → semaphore (madeFresh n .tables .semaphores) s USED ≡ 0
 unfolding madeFresh freshWith

@@ -1,6 +1,7 @@
 -- An accepted call and one counting semaphore s: if the call does not set the count of s, then s was there before it, and its count plus the post
 -- equals its count afterwards plus the unit taken. Each of the calls 20 to 24 does what its definition says to one row; no other call touches the table.
-use Prim.Native.Nat.{ℕ, _+_, _-_, _<_}
+-- In this order: what a call counts; a count that changes; an accepted call with these arguments; calls 20 to 24; and all of them.
+use Prim.Native.Nat.{ℕ, _+_, _-_, _<_, _*_}
 use mathlib.Core.Path.{_≡_, refl, sym, ap, subst, _∙_}
 use mathlib.Core.Logic.{_≢_, ⊎-elim}
 use mathlib.Core.Bool.{Bool, true, false, not, _&&_, _||_, true≢false, false≢true, or-false}
@@ -8,14 +9,14 @@ use mathlib.Core.List.{List, [], _∷_}
 use native.Mathlib.Omega.{arith}
 use lib.Dec.{eqb, ltb, leb}
 use lib.ListN.{length}
-use borrow.Author.Tests.{eq-eqb, ne-eqb, eqb-true, eqb-false, lt-ltb, ltb-true, leb-false}
+use borrow.Author.Tests.{eq-eqb, ne-eqb, eqb-true, lt-ltb, ltb-true, leb-false}
 use Rattle.basics.specs.Lists.{bit, zeros}
 use Rattle.basics.proofs.Laws.{same?}
 use Rattle.rules.specs.Answer.{Effect, CallRule, answer, codeOf, done, notMet, nowWaiting, asked}
 use Rattle.rules.specs.Tables.{Typed, semaphoreCount, semaphoreWidth, semaphore, withSemaphore, semaphoreRow, USED, KIND, COUNT}
 use Rattle.rules.specs.Lines.{anyone, frontOf, semaphoreLine}
 use Rattle.rules.specs.Waits.{WaitTables, waitTables}
-use Rattle.rules.specs.Semaphores.{isBinary, most, freeSemaphore, createCases, createEffect, deleteEffect, pendEffect}
+use Rattle.rules.specs.Semaphores.{isBinary, most, freeSemaphore, createCases, createEffect, deleteEffect, pendEffect, countMost}
 use Rattle.rules.specs.Semaphores.{postCases, postEffect, countUp, resetCases, resetEffect, semaphoreCall}
 use Rattle.rules.specs.Dispatch.{context}
 use Rattle.rules.specs.Step.{callOf}
@@ -23,7 +24,7 @@ use Rattle.rules.specs.declared.Answer.{Answer}
 use Rattle.rules.specs.declared.Tables.{Tables}
 use Rattle.rules_laws.proofs.Rows.{field-same, field-row, field-out, row-same, row-other, row-used, by-range}
 use Rattle.rules_laws.proofs.Calls.{chosen}
-use Rattle.demand_2_soundness.proofs.Codes.{accepted-is, object-used}
+use Rattle.demand_2_soundness.proofs.Codes.{accepted-is, used-object}
 use Rattle.demand_2_soundness.proofs.Groups.{NeverWaits}
 use Rattle.demand_2_soundness.proofs.Standing.{first-not}
 use Rattle.demand_2_soundness.proofs.Objects.{free-is}
@@ -58,7 +59,7 @@ at-or-else : (m n : ℕ) (P : ℕ → Type 0) → P m → (n ≢ m → P n) → 
 at-or-else m n P here other = ⊎-elim (λ (e : n ≡ m). subst P (sym e) here) other (same? n m)
 
 -- ---- semaphore a gets count v: its other words stay
-module _ (ss : List ℕ) (size : length ss ≡ 48) (a v : ℕ) where
+module _ (ss : List ℕ) (size : length ss ≡ semaphoreCount * semaphoreWidth) (a v : ℕ) where
   was-counting : (s : ℕ) → CountingIn s (withSemaphore ss a COUNT v) → CountingIn s ss
   was-counting s c = rw (other-word ss a v s USED (λ e. omega arith), other-word ss a v s KIND (λ e. omega arith)) at c
 
@@ -142,15 +143,15 @@ module _ (t : Tables) (typed : Typed t) (never : NeverWaits 0 (t .lines)) (s a b
       (λ _. still 0x22 ss (answer 0 nowWaiting 0) (λ f. refl) (not-done (isAcceptedOn 0x22 s (withAnswer 0x22 (answer 0 nowWaiting 0))))))
 
   -- 23 readies a waiter, who takes the unit, or counts one up
-  module _ (used : a < semaphoreCount) (not-full : (not (isBinary (semaphore ss a KIND)) && leb 65535 (countIn a ss)) ≡ false) where
+  module _ (used : a < semaphoreCount) (not-full : (not (isBinary (semaphore ss a KIND)) && leb countMost (countIn a ss)) ≡ false) where
     abbrev up : ℕ
     up = countUp (semaphore ss a KIND) (countIn a ss)
 
     one-up : isBinary (semaphore ss a KIND) ≡ false → up ≡ countIn a ss + 1
     unfolding countUp most
     one-up counting =
-        let room : countIn a ss < 65535 = leb-false 65535 (countIn a ss) (rw counting at not-full) in
-        rw (counting, lt-ltb (countIn a ss) 65535 room)
+        let room : countIn a ss < countMost = leb-false countMost (countIn a ss) (rw counting at not-full) in
+        rw (counting, lt-ltb (countIn a ss) countMost room)
 
     post-even : Leaves 0x23 (postEffect (waitTables (t .tasks) (t .lines) ss) a)
     unfolding postEffect
@@ -201,7 +202,7 @@ module _ (t : Tables) (typed : Typed t) (never : NeverWaits 0 (t .lines)) (s a b
   unfolding callOf semaphoreCall postCases
   at-23 z =
       let ok = accepted-is (callAt 0x23 .cases) z in
-      let used = eqb-false (semaphore ss a USED) 0 (object-used _ (ltb a semaphoreCount) (ok .at3) (ok .at11)) in
+      let used = used-object _ (ltb a semaphoreCount) (ok .at3) (ok .at11) in
       post-even (row-used semaphoreWidth semaphoreCount ss a USED used) (ok .at7)
 
   at-24 : Holds 0x24
@@ -252,7 +253,7 @@ module _ (t : Tables) (typed : Typed t) (never : NeverWaits 0 (t .lines)) (s a b
   unfolding callOf semaphoreCall resetEffect resetCases
   resets z e =
       let ok = accepted-is (callAt 0x24 .cases) z in
-      let used = eqb-false (semaphore ss a USED) 0 (object-used _ (ltb a semaphoreCount) (ok .at3) (ok .at11)) in
+      let used = used-object _ (ltb a semaphoreCount) (ok .at3) (ok .at11) in
       rw (← eqb-true a s e) (count-now ss (typed .semaphores) a b (row-used semaphoreWidth semaphoreCount ss a USED used))
 
   pub set-to : (n : ℕ) → SetsTo n

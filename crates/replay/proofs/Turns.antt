@@ -14,10 +14,10 @@ use borrow.Author.Tests.{ltb-true, le-ltb, not-true}
 use Rattle.io.specs.Counts.{clamped}
 use Rattle.rules.specs.Sound.{Sound}
 use Rattle.rules.specs.declared.Tables.{Tables}
-use Rattle.desk_parts.specs.Part.{Left, turn, begins, start, leftBy}
+use Rattle.desk_parts.specs.Part.{ReplayState, turn, begins, start, afterReads}
 use Rattle.desk_parts.proofs.ByReads.{left-more}
 use Rattle.desk.specs.declared.Progress.{Progress}
-use Rattle.desk.specs.Done.{leftOf, progressOf, behind, Turned}
+use Rattle.desk.specs.Done.{replayState, progressOf, behind, TurnLeaves}
 use Rattle.replay.specs.declared.Came.{Came}
 use Rattle.replay.specs.Turns.{cameBy, Behind, stopped, stop, HandedIf, Handed, Replayed}
 
@@ -47,13 +47,13 @@ has-room (negsuc k) n = zero-le
 -- ---- a turn
 -- the read failed
 pub handed-none : (r : Came) (t : Tables) (ps xs c : List ℕ) (p : Progress) {q : Progress} → r .failed ≡ true → q ≡ stopped p
-    → Handed r c (leftOf t ps xs p) (leftOf t ps xs q)
+    → Handed r c (replayState t ps xs p) (replayState t ps xs q)
 handed-none r t ps xs c p h e = rw (h, e)
 
 -- it did not: the text is written, or the replay is stopped
-pub handed-on : (r : Came) (l : Left) (c : List ℕ) {t : Tables} {ps qs xs ys : List ℕ} {p q : Progress} → r .failed ≡ false
-    → Turned (turn (eqb (r .more) 0) c l) t ps qs xs ys p → (q ≡ p) ⊎ (q ≡ stopped p)
-    → Handed r c l (leftOf t qs ys q)
+pub handed-on : (r : Came) (l : ReplayState) (c : List ℕ) {t : Tables} {ps qs xs ys : List ℕ} {p q : Progress} → r .failed ≡ false
+    → TurnLeaves (turn (eqb (r .more) 0) c l) t ps qs xs ys p → (q ≡ p) ⊎ (q ≡ stopped p)
+    → Handed r c l (replayState t qs ys q)
 handed-on r l c h g e =
     rw h (⊎-elim (λ (f : _ ≡ _). inl (rw f (g .left))) (λ (f : _ ≡ _). inr (rw f (ap stop (g .left)))) e)
 
@@ -62,19 +62,19 @@ module _ (t₀ : Tables) where
   -- it has come to what some reads leave, or was stopped there
   pub record Sofar (t : Tables) (ps xs : List ℕ) (p : Progress) : Type 0 where
     pub came : List (List ℕ)
-    pub left : (leftOf t ps xs p ≡ leftBy came (begins t₀)) ⊎ (leftOf t ps xs p ≡ stop (leftBy came (begins t₀)))
+    pub left : (replayState t ps xs p ≡ afterReads came (begins t₀)) ⊎ (replayState t ps xs p ≡ stop (afterReads came (begins t₀)))
 
   pub sofar-none : (ps xs : List ℕ) {p : Progress} → p ≡ progressOf start → Sofar t₀ ps xs p
-  unfolding leftBy
+  unfolding afterReads
   sofar-none ps xs e = rw e (record { came = []; left = inl refl })
 
   module _ {t : Tables} {ps xs : List ℕ} {p : Progress} (v : Sofar t ps xs p) where
     -- where it has not ended it was not stopped
-    going : p .ended ≡ false → leftOf t ps xs p ≡ leftBy (v .came) (begins t₀)
+    going : p .ended ≡ false → replayState t ps xs p ≡ afterReads (v .came) (begins t₀)
     going h =
         ⊎-elim
-        (λ (e : leftOf t ps xs p ≡ leftBy (v .came) (begins t₀)). e)
-        (λ (e : leftOf t ps xs p ≡ stop (leftBy (v .came) (begins t₀))). absurd (false≢true (sym h ∙ ap (λ (l : Left). l .ended) e)))
+        (λ (e : replayState t ps xs p ≡ afterReads (v .came) (begins t₀)). e)
+        (λ (e : replayState t ps xs p ≡ stop (afterReads (v .came) (begins t₀))). absurd (false≢true (sym h ∙ ap (λ (l : ReplayState). l .ended) e)))
         (v .left)
 
     -- the tables are those
@@ -84,8 +84,8 @@ module _ (t₀ : Tables) where
           came = v .came;
           tables =
               ⊎-elim
-              (λ (e : leftOf t ps xs p ≡ leftBy (v .came) (begins t₀)). ap (λ (l : Left). l .tables) e)
-              (λ (e : leftOf t ps xs p ≡ stop (leftBy (v .came) (begins t₀))). ap (λ (l : Left). l .tables) e)
+              (λ (e : replayState t ps xs p ≡ afterReads (v .came) (begins t₀)). ap (λ (l : ReplayState). l .tables) e)
+              (λ (e : replayState t ps xs p ≡ stop (afterReads (v .came) (begins t₀))). ap (λ (l : ReplayState). l .tables) e)
               (v .left);
           sound = sound;
         }
@@ -96,29 +96,29 @@ module _ (t₀ : Tables) where
       bytes = behind qs p (r .more)
 
       -- what waited is still there
-      before-is : leftOf t qs xs p ≡ leftBy (v .came) (begins t₀)
+      before-is : replayState t qs xs p ≡ afterReads (v .came) (begins t₀)
       before-is = rw (b .waits) (going on)
 
-      not-over : leftBy (v .came) (begins t₀) .ended ≡ false
-      not-over = sym (ap (λ (l : Left). l .ended) (going on)) ∙ on
+      not-over : afterReads (v .came) (begins t₀) .ended ≡ false
+      not-over = sym (ap (λ (l : ReplayState). l .ended) (going on)) ∙ on
 
-      next-is : turn (eqb (r .more) 0) bytes (leftOf t qs xs p) ≡ leftBy (v .came ++ (bytes ∷ [])) (begins t₀)
+      next-is : turn (eqb (r .more) 0) bytes (replayState t qs xs p) ≡ afterReads (v .came ++ (bytes ∷ [])) (begins t₀)
       next-is =
           let all : length bytes ≡ r .more = length-take-le (r .more) (drop (p .held) qs) (omega (arith, ap (λ (k : Came). k .more) (b .came), has-room (b .answer) (length qs - p .held), length-drop (p .held) qs)) in
           ap (turn (eqb (r .more) 0) bytes) before-is ∙ sym (rw all at (left-more (v .came) bytes (begins t₀) not-over))
 
-      pub sofar-next : {u : Tables} {qs′ ys : List ℕ} {q : Progress} → Handed r bytes (leftOf t qs xs p) (leftOf u qs′ ys q) → Sofar u qs′ ys q
+      pub sofar-next : {u : Tables} {qs′ ys : List ℕ} {q : Progress} → Handed r bytes (replayState t qs xs p) (replayState u qs′ ys q) → Sofar u qs′ ys q
       sofar-next {u} {qs′} {ys} {q} = by-read (r .failed)
         where
-          by-read : (f : Bool) → HandedIf f (leftOf t qs xs p) (turn (eqb (r .more) 0) bytes (leftOf t qs xs p)) (leftOf u qs′ ys q) → Sofar u qs′ ys q
+          by-read : (f : Bool) → HandedIf f (replayState t qs xs p) (turn (eqb (r .more) 0) bytes (replayState t qs xs p)) (replayState u qs′ ys q) → Sofar u qs′ ys q
           by-read true h = record { came = v .came; left = inr (h ∙ ap stop before-is) }
           by-read false h =
               record {
                 came = v .came ++ (bytes ∷ []);
                 left =
                     ⊎-elim
-                    (λ (k : leftOf u qs′ ys q ≡ turn (eqb (r .more) 0) bytes (leftOf t qs xs p)). inl (k ∙ next-is))
-                    (λ (k : leftOf u qs′ ys q ≡ stop (turn (eqb (r .more) 0) bytes (leftOf t qs xs p))). inr (k ∙ ap stop next-is))
+                    (λ (k : replayState u qs′ ys q ≡ turn (eqb (r .more) 0) bytes (replayState t qs xs p)). inl (k ∙ next-is))
+                    (λ (k : replayState u qs′ ys q ≡ stop (turn (eqb (r .more) 0) bytes (replayState t qs xs p))). inr (k ∙ ap stop next-is))
                     h;
               }
 

@@ -9,7 +9,7 @@ use lib.IntN.{ℤ, pos, negsuc}
 use lib.ListN.{length, take}
 use Rattle.rules.specs.Sound.{Sound}
 use Rattle.rules.specs.declared.Tables.{Tables}
-use Rattle.desk_parts.specs.Part.{Left, turn, begins, leftBy}
+use Rattle.desk_parts.specs.Part.{ReplayState, turn, begins, afterReads}
 use Rattle.desk.specs.declared.Progress.{Progress}
 use Rattle.replay.specs.declared.Came.{Came}
 
@@ -28,20 +28,20 @@ pub record Behind (held : ℕ) (ps qs : List ℕ) (r : Came) : Type 0 where
 abbrev pub stopped : Progress → Progress
 stopped p = record { held = p .held; offset = p .offset; count = p .count; len = p .len; ended = true }
 
-abbrev pub stop : Left → Left
+abbrev pub stop : ReplayState → ReplayState
 stop l = record { text = l .text; rest = l .rest; offset = l .offset; count = l .count; tables = l .tables; ended = true }
 
 -- by the bytes c that a read brought a turn comes from l to m: where the read failed it stops at l; else it goes on, or stops there where its text
 -- cannot be written
-abbrev pub HandedIf : Bool → Left → Left → Left → Type 0
+abbrev pub HandedIf : Bool → ReplayState → ReplayState → ReplayState → Type 0
 HandedIf true l next m = m ≡ stop l
 HandedIf false l next m = (m ≡ next) ⊎ (m ≡ stop next)
 
-abbrev pub Handed : Came → List ℕ → Left → Left → Type 0
+abbrev pub Handed : Came → List ℕ → ReplayState → ReplayState → Type 0
 Handed r c l m = HandedIf (r .failed) l (turn (eqb (r .more) 0) c l) m
 
 -- tables u are sound, and those that a replay that begins with tables t comes to by reads that brought some bytes, one after the other
 pub record Replayed (t u : Tables) : Type 0 where
   pub came : List (List ℕ)
-  pub tables : u ≡ leftBy came (begins t) .tables
+  pub tables : u ≡ afterReads came (begins t) .tables
   pub sound : Sound u

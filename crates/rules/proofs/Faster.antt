@@ -1,5 +1,7 @@
 -- The soundness of tables after a call, tested anew only where the call changed them: this agrees with `sound` on all tables, and the
 -- examples are computed by it. The table of lines is walked row by row, and not from its start for each line.
+-- In this order: the lines by rows; what a call left as it was (`still-sound`); what calls say after tables that were sound (`faster`); the
+-- replay of a log (`faster-replay`), and tables found sound from fresh ones.
 use Prim.Native.Nat.{ℕ, zero, suc, _+_, _*_, _/_, min}
 use mathlib.Core.Path.{_≡_, refl, sym, ap, ap₂, _∙_, fun-ext}
 use mathlib.Core.Bool.{Bool, true, false, _&&_, _||_, cond as if, and-eq-true-iff}
@@ -19,7 +21,7 @@ use Rattle.rules.specs.Sound.{sound, stateRule, heapRule, clocksRule, ta
 use Rattle.rules.specs.Sound.{mailboxesRule, swisRule, activeRule, dispatchRule}
 use Rattle.rules.specs.Step.{step, call}
 use Rattle.rules.specs.Fresh.{fresh, freshWith}
-use Rattle.rules.specs.Log.{versionOf, levelsFor, readAt, argumentBytes, argument}
+use Rattle.rules.specs.Log.{versionOf, levelsFor, readAt, argumentBytes, argument, recordBytes, argumentsLength}
 use Rattle.rules.specs.Replay.{lineFirst, linesFor, linesFrom, replayLines}
 use Rattle.rules.specs.declared.Read.{Read}
 use Rattle.rules.specs.declared.Read.the-variants.{Record, End, Cut, Length, Version}
@@ -225,7 +227,7 @@ faster t (ls ∷ rest) h e = (record { so = says-after t t (calls ls) h ∙ ap h
 unfoldable pub stepLines : Read → List ℕ → ℕ → Tables → (ℕ → Tables → List (List ℕ)) → List (List ℕ)
 stepLines (Record number start) s n u rest =
     let bytes : List ℕ = argumentBytes s start in
-    lineFirst (suc n) (step u number (argument bytes 0) (argument bytes 1) (argument bytes 2) (argument bytes 3)) (rest (start + 16))
+    lineFirst (suc n) (step u number (argument bytes 0) (argument bytes 1) (argument bytes 2) (argument bytes 3)) (rest (start + argumentsLength))
 stepLines End s n u rest = linesFor End s n u rest
 stepLines (Cut o) s n u rest = linesFor (Cut o) s n u rest
 stepLines (Length o) s n u rest = linesFor (Length o) s n u rest
@@ -282,11 +284,11 @@ fresh-for-sound v = either-sound (eqb v 2)
 
 pub faster-replay : (s : List ℕ)
     → replayLines s
-    ≡ linesAfter (freshWith (levelsFor (versionOf s))) (suc (length s / 20)) s 0 0 (freshWith (levelsFor (versionOf s)))
+    ≡ linesAfter (freshWith (levelsFor (versionOf s))) (suc (length s / recordBytes)) s 0 0 (freshWith (levelsFor (versionOf s)))
 unfolding replayLines
 faster-replay s =
     let t = freshWith (levelsFor (versionOf s)) in
-    lines-after t (suc (length s / 20)) s 0 0 t (fresh-for-sound (versionOf s))
+    lines-after t (suc (length s / recordBytes)) s 0 0 t (fresh-for-sound (versionOf s))
 
 -- tables are sound, by a test of what differs from fresh ones
 pub faster-sound : (t : Tables) → stillSound fresh t ≡ true → sound t ≡ true

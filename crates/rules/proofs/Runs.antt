@@ -1,4 +1,6 @@
 -- Examples in few words: calls by their names, what they said, and what a run of calls says.
+-- In this order: what is asked and said; calls one after the other; and the calls by name: tasks, Swis, semaphores, events, mailboxes, clocks, the
+-- heap, switches.
 use Prim.Native.Nat.{ℕ}
 use Prim.Native.Char.{code}
 use Prim.Native.String.{String, [] as noText, _∷_ as _then_}

@@ -1,4 +1,5 @@
 -- Sentences of 01, each shown by a small case of its definition, so that a definition that says otherwise is refused at once.
+-- In this order: the small tables; the record `Sentences`, a field for each, by the parts of 01; and that all of them hold, computed.
 use Prim.Native.Nat.{ℕ}
 use mathlib.Core.Path.{_≡_, refl}
 use mathlib.Core.Bool.{true, false}
@@ -6,7 +7,7 @@ use mathlib.Core.List.{List, [], _∷_, _++_, map}
 use Rattle.basics.specs.Lists.{zeros}
 use Rattle.basics.specs.Rule.{holds}
 use Rattle.rules.specs.Answer.{Effect, answer, accepted, refused, called, answered, named, codeOf, given, onObject, never, done, T, S, I}
-use Rattle.rules.specs.Tables.{task, forever, ready, sleeping, atSemaphore, atEvent, reading, writing}
+use Rattle.rules.specs.Tables.{task, forever, ready, sleeping, atSemaphore, atEvent, reading, writing, fewLevels}
 use Rattle.rules.specs.Lines.{line, joined, taskQueues, semaphoreLine, mailboxLine, eventLine, postedLine, activeLine, readyLine}
 use Rattle.rules.specs.Waits.{ticksFor, waitTables}
 use Rattle.rules.specs.Tasks.{reprioritized}
@@ -19,6 +20,7 @@ use Rattle.rules.specs.Tick.{TickTables, taskTick, tickTables, ticked, s
 use Rattle.rules.specs.Dispatch.{started}
 use Rattle.rules.specs.Sound.{otherRule}
 use Rattle.rules.specs.Step.{settled, finished}
+use Rattle.rules.specs.Fresh.{noEvents}
 use Rattle.rules.specs.declared.Tables.{Tables}
 use Rattle.rules.proofs.Computed.{computed}
 use Rattle.rules.proofs.Standing.{linesWith, _has_}
@@ -107,10 +109,10 @@ pub record Sentences : Type 0 where
   -- 'The answer': what the call answered is given, whoever runs next; a refused number's table is named
   pub answers : (n : ℕ) (r : Effect Tables) → finished n r .answer ≡ named n (r .answer)
   -- event 7 is the last of its table, and not in use; event 8 is outside
-  pub not-in-use : codeOf (postCases (zeros 16) 7 0 0) ≡ 11
-  pub not-there : codeOf (postCases (zeros 16) 8 0 0) ≡ 3
+  pub not-in-use : codeOf (postCases noEvents 7 0 0) ≡ 11
+  pub not-there : codeOf (postCases noEvents 8 0 0) ≡ 3
   -- "Checks run in the order of this table": the object before the arguments
-  pub object-first : codeOf (postCases (zeros 16) 8 1 0) ≡ 3
+  pub object-first : codeOf (postCases noEvents 8 1 0) ≡ 3
   -- "a new object takes the lowest free number": event 0 is in use
   pub lowest : freeEvent (bits 0) ≡ 1
   -- "After each accepted call .. the current task becomes the front of the highest non-empty ready queue": from task 1, blocked, to task 0
@@ -182,8 +184,8 @@ pub record Sentences : Type 0 where
   -- "fields without meaning at the time (.., the taken trigger of a Swi not active)" are 0: a Swi that ends has none
   pub ends : endEffect (swiQueues (taking 2) (linesWith (activeLine has (0 ∷ []) ∷ []))) .next .swis ≡ taking 0
   -- "fields without meaning at the time (.., an ended wait's data, ..)" are 0: a ready task has no ticks left
-  pub ended-wait : holds (otherRule 16 (task (ready ∷ 5 ∷ 0 ∷ 1 ∷ zeros 4) 0)) ≡ false
-  pub no-wait : holds (otherRule 16 (task (ready ∷ 5 ∷ zeros 6) 0)) ≡ true
+  pub ended-wait : holds (otherRule fewLevels (task (ready ∷ 5 ∷ 0 ∷ 1 ∷ zeros 4) 0)) ≡ false
+  pub no-wait : holds (otherRule fewLevels (task (ready ∷ 5 ∷ zeros 6) 0)) ≡ true
 
 pub sentences : Sentences
 unfolding computed linesWith

@@ -83,10 +83,14 @@ accepted o v t = withAnswer (answer 0 o v) t
 abbrev pub refused : {A : Type 0} → ℕ → A → Effect A
 refused k t = withAnswer (answer k 0 0) t
 
+-- "Call numbers fall into ranges of sixteen, one range for each kind"
+abbrev pub rangeSize : ℕ
+rangeSize = 16
+
 -- No. 2: "The answer's value names the table: 1 tasks, 2 Swis, 3 semaphores, 4 events, 5 mailboxes, 6 clocks.": of a call
 -- that takes an object's number, and so can be refused with code 3 or 11: its kind's, by the ranges of sixteen; call 50 takes a Swi's
 unfoldable pub tableOf : ℕ → ℕ
-tableOf number = if (eqb number 0x50) 2 (number / 16 + 1)
+tableOf number = if (eqb number 0x50) 2 (number / rangeSize + 1)
 
 -- the answer to this call as it leaves the core: "for these two codes the value is no longer 0"
 unfoldable pub named : ℕ → Answer → Answer

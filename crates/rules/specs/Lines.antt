@@ -4,43 +4,35 @@ use mathlib.Core.Bool.{Bool, cond as if}
 use mathlib.Core.List.{List, []}
 use lib.Dec.{eqb, ltb}
 use lib.ListN.{length, getD}
-use Rattle.rules.specs.Tables.{TaskTable, LineTable, SwiTable, taskCount, mostLevels, task, withTask, swi, PRIORITY, POSTED, ready, atSemaphore, atEvent}
-use Rattle.rules.specs.Tables.{reading, writing}
+use Rattle.rules.specs.Tables.{TaskTable, LineTable, SwiTable, taskCount, semaphoreCount, mailboxCount, eventCount, swiLevels, task, withTask, swi}
+use Rattle.rules.specs.Tables.{PRIORITY, POSTED, ready, atSemaphore, atEvent, reading, writing}
+pub use Rattle.rules.specs.Tables.{lineCount, lineMost, lineWidth}
 use Rattle.basics.specs.Lists.{without, putAt, firstWhere}
 use Rattle.rules.specs.Rows.{listed, withListed}
 use Rattle.rules.specs.declared.Task.{Task}
 
--- ---- which line is whose: "one queue for each priority", a line for each semaphore and mailbox, "the one waiter of an event"
+-- ---- which line is whose: "one queue for each priority", a line for each semaphore and mailbox, "the one waiter of an event"; one kind after the
+-- other
 abbrev pub semaphoreLine : ℕ → ℕ
 semaphoreLine s = s
 
 abbrev pub mailboxLine : ℕ → ℕ
-mailboxLine m = 16 + m
+mailboxLine m = semaphoreCount + m
 
 abbrev pub eventLine : ℕ → ℕ
-eventLine e = 24 + e
+eventLine e = semaphoreCount + mailboxCount + e
 
 -- posted Swis, by priority
 abbrev pub postedLine : ℕ → ℕ
-postedLine p = 32 + p
+postedLine p = semaphoreCount + mailboxCount + eventCount + p
 
 -- active Swis, the top one last
 abbrev pub activeLine : ℕ
-activeLine = 48
+activeLine = postedLine swiLevels
 
 -- the ready tasks, by priority
 abbrev pub readyLine : ℕ → ℕ
-readyLine p = 49 + p
-
-abbrev pub lineCount : ℕ
-lineCount = 49 + mostLevels
-
--- a line has room for 32
-abbrev pub lineMost : ℕ
-lineMost = 32
-
-abbrev pub lineWidth : ℕ
-lineWidth = 33
+readyLine p = activeLine + 1 + p
 
 -- a number that is no line's
 abbrev pub nowhere : ℕ

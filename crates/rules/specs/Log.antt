@@ -15,9 +15,34 @@ halfAt s at = getD s at 0 * 256 + getD s (at + 1) 0
 abbrev pub wordAt : List ℕ → ℕ → ℕ
 wordAt s at = halfAt s at * 65536 + halfAt s (at + 2)
 
+-- ---- the bytes of a record: "length 00 12, big-endian, counting what follows; version 01; call number; four arguments of four big-endian bytes"
+abbrev pub lengthBytes : ℕ
+lengthBytes = 2
+
+abbrev pub versionByte : ℕ
+versionByte = 2
+
+abbrev pub numberByte : ℕ
+numberByte = 3
+
+abbrev pub firstArgument : ℕ
+firstArgument = 4
+
+abbrev pub wordBytes : ℕ
+wordBytes = 4
+
+abbrev pub argumentsLength : ℕ
+argumentsLength = 4 * wordBytes
+
+abbrev pub recordBytes : ℕ
+recordBytes = firstArgument + argumentsLength
+
+abbrev pub recordLength : ℕ
+recordLength = recordBytes - lengthBytes
+
 -- No. 14: "The first record decides for the whole log": by its version, the third byte of the log whatever stands around it; 0 where there is none
 abbrev pub versionOf : List ℕ → ℕ
-versionOf s = getD s 2 0
+versionOf s = getD s versionByte 0
 
 -- the log's editions
 abbrev pub firstEdition : ℕ
@@ -43,9 +68,9 @@ readIn v s at =
     if (ltb (length s) at) (Cut at)
     (if (eqb (length s) at) End
     (if (eqb (length s - at) 1) (Cut at)
-    (if (eqb (halfAt s at) 18)
-    (if (ltb (length s - at) 20) (Cut at)
-    (if (isVersion v && eqb (getD s (at + 2) 0) v) (Record (getD s (at + 3) 0) (at + 4)) (Version at)))
+    (if (eqb (halfAt s at) recordLength)
+    (if (ltb (length s - at) recordBytes) (Cut at)
+    (if (isVersion v && eqb (getD s (at + versionByte) 0) v) (Record (getD s (at + numberByte) 0) (at + firstArgument)) (Version at)))
     (Length at))))
 
 -- what stands at a position of a whole log
@@ -54,19 +79,19 @@ readAt s at = readIn (versionOf s) s at
 
 -- "it hands out each record's sixteen argument bytes as that part of the log"
 unfoldable pub argumentBytes : List ℕ → ℕ → List ℕ
-argumentBytes s start = take 16 (drop start s)
+argumentBytes s start = take argumentsLength (drop start s)
 
 -- what the reader hands out from `start` on: the sixteen bytes, or an empty part where they are not there
 unfoldable pub handedOut : List ℕ → ℕ → List ℕ
-handedOut s start = if (ltb (length s) (start + 16)) [] (argumentBytes s start)
+handedOut s start = if (ltb (length s) (start + argumentsLength)) [] (argumentBytes s start)
 
 -- argument n of the four
 abbrev pub argument : List ℕ → ℕ → ℕ
-argument bytes n = wordAt bytes (n * 4)
+argument bytes n = wordAt bytes (n * wordBytes)
 
 -- "only a good record moves it"
 unfoldable pub moveTo : Read → ℕ → ℕ
-moveTo (Record number start) at = start + 16
+moveTo (Record number start) at = start + argumentsLength
 moveTo End at = at
 moveTo (Cut n) at = at
 moveTo (Length n) at = at

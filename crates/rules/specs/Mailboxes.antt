@@ -1,5 +1,5 @@
 -- 01, 'Mailboxes': calls 40 to 43. "A message is one 32-bit word."
-use Prim.Native.Nat.{ℕ, _+_}
+use Prim.Native.Nat.{ℕ, _-_}
 use mathlib.Core.Bool.{Bool, not, _&&_, _||_, cond as if}
 use mathlib.Core.List.{[], _∷_, _++_}
 use lib.Dec.{eqb, leb}
@@ -32,7 +32,7 @@ createCases ms x capacity b c d =
 unfoldable pub createEffect : WaitTables → ℕ → Effect WaitTables
 createEffect q capacity =
     accepted done (freeMailbox (q .objects))
-    (waitTables (q .tasks) (q .lines) (mailboxRow (q .objects) (freeMailbox (q .objects)) (capacity ∷ zeros (1 + mailboxMost))))
+    (waitTables (q .tasks) (q .lines) (mailboxRow (q .objects) (freeMailbox (q .objects)) (capacity ∷ zeros (mailboxWidth - 1))))
 
 abbrev pub createCall : WaitTables → ℕ → ℕ → ℕ → ℕ → ℕ → CallRule WaitTables
 createCall q x a b c d = called (createCases (q .objects) x a b c d) (createEffect q a)

@@ -4,7 +4,7 @@ use mathlib.Core.List.{List, [], _∷_}
 use lib.ListN.{length}
 use Rattle.rules.specs.Fresh.{freshWith}
 use Rattle.rules.specs.Step.{call}
-use Rattle.rules.specs.Log.{versionOf, levelsFor, readAt, argumentBytes, argument}
+use Rattle.rules.specs.Log.{argumentsLength, recordBytes, versionOf, levelsFor, readAt, argumentBytes, argument}
 use Rattle.rules.specs.Text.{lineText, wordText, textOf, endWord, cutWord, lengthWord, versionWord}
 use Rattle.rules.specs.declared.Tables.{Tables}
 use Rattle.rules.specs.declared.Step.{Step}
@@ -21,7 +21,7 @@ lineFirst n s rest = lineText n (s .answer) (s .thread) ∷ rest (s .tables)
 
 -- what is printed for what stands at a position, after n records; "A fault's last line is as `cut 40`. An empty log prints `end 0`."
 abbrev pub linesFor : Read → List ℕ → ℕ → Tables → (ℕ → Tables → List (List ℕ)) → List (List ℕ)
-linesFor (Record number start) s n t rest = lineFirst (suc n) (recordCall t number (argumentBytes s start)) (rest (start + 16))
+linesFor (Record number start) s n t rest = lineFirst (suc n) (recordCall t number (argumentBytes s start)) (rest (start + argumentsLength))
 linesFor End s n t rest = wordText endWord n ∷ []
 linesFor (Cut o) s n t rest = wordText cutWord o ∷ []
 linesFor (Length o) s n t rest = wordText lengthWord o ∷ []
@@ -34,7 +34,7 @@ linesFrom (suc k) s at n t = linesFor (readAt s at) s n t (λ next u. linesFrom 
 
 -- a log of this many bytes has no more records than a twentieth of it, and one line more ends it
 unfoldable pub replayLines : List ℕ → List (List ℕ)
-replayLines s = linesFrom (suc (length s / 20)) s 0 0 (freshWith (levelsFor (versionOf s)))
+replayLines s = linesFrom (suc (length s / recordBytes)) s 0 0 (freshWith (levelsFor (versionOf s)))
 
 unfoldable pub replayText : List ℕ → List ℕ
 replayText s = textOf (replayLines s)

@@ -4,7 +4,7 @@ use mathlib.Core.Bool.{Bool, not, _&&_, cond as if}
 use lib.Dec.{ltb, leb}
 use lib.ListN.{length, getD}
 use Rattle.rules.specs.Tables.{TaskTable, LineTable, SemaphoreTable, EventTable, MailboxTable, SwiTable, ClockTable, HeapMap, StateRow, taskCount}
-use Rattle.rules.specs.Tables.{swiCount, semaphoreCount, eventCount, mailboxCount, mailboxWidth, mailboxMost, clockCount, heapUnits, fewLevels}
+use Rattle.rules.specs.Tables.{swiCount, semaphoreCount, eventCount, mailboxCount, mailboxWidth, mailboxMost, clockCount, heapUnits, mostDepth, fewLevels}
 use Rattle.rules.specs.Tables.{mostLevels, swiLevels, levels, minusOne, forever, notInUse, ready, sleeping, atSemaphore, atEvent, reading, writing}
 use Rattle.rules.specs.Tables.{terminated, inactive, task, semaphore, event, mailbox, swi, clock, state, USED, KIND, COUNT, BITS, CAPACITY, MESSAGES}
 use Rattle.rules.specs.Tables.{PRIORITY, INITIAL, TRIGGER, POSTED, TAKEN, DEPTH, SWIS, TASKS, CURRENT, LEVELS}
@@ -13,7 +13,7 @@ use Rattle.basics.specs.Rule.{Rule, _is_, _isnt_, _under_, test, _and_, _or_, _
 use Rattle.rules.specs.Rows.{behind}
 use Rattle.rules.specs.Lines.{lineCount, lineMost, lineWidth, semaphoreLine, mailboxLine, eventLine, postedLine, activeLine, line, frontOf, taskHome}
 use Rattle.rules.specs.Lines.{swiHome}
-use Rattle.rules.specs.Semaphores.{most}
+use Rattle.rules.specs.Semaphores.{kindCount, most}
 use Rattle.rules.specs.Events.{matched}
 use Rattle.rules.specs.Heap.{unit, free, laterIn}
 use Rattle.rules.specs.Dispatch.{swiDue, taskDue, front}
@@ -37,7 +37,7 @@ waitRule k n = (k .object under n) and (k .left under forever)
 -- No. 14: "sound tables and code 4's range read with it": n is the number of levels
 unfoldable pub otherRule : ℕ → Task → Rule
 otherRule n k =
-    (k .mode under 9)
+    (k .mode under suc inactive)
     and (k .outcome under 2)
     and (k .outcome is 1 gives k .value is 0)
     and (k .mode is notInUse gives (k .priority is 0) and noWait k and (k .outcome is 0) and (k .value is 0))
@@ -82,7 +82,7 @@ unfoldable pub semaphoreRule : SemaphoreTable → LineTable → ℕ → Rule
 semaphoreRule ss ls s =
     (semaphore ss s USED under 2)
     and (semaphore ss s USED is 0 gives (semaphore ss s KIND is 0) and (semaphore ss s COUNT is 0) and (length (line ls (semaphoreLine s)) is 0))
-    and (semaphore ss s KIND under 4)
+    and (semaphore ss s KIND under kindCount)
     and (semaphore ss s COUNT under suc (most (semaphore ss s KIND)))
     and (length (line ls (semaphoreLine s)) isnt 0 gives semaphore ss s COUNT is 0)
 
@@ -106,7 +106,7 @@ unfoldable pub mailboxRule : TaskTable → MailboxTable → LineTable → ℕ �
 mailboxRule ts ms ls m =
     (mailbox ms m CAPACITY under suc mailboxMost)
     and (mailbox ms m MESSAGES under suc (mailbox ms m CAPACITY))
-    and every (behind mailboxMost ms (m * mailboxWidth + 1)) (λ x. x is 0)
+    and every (behind mailboxMost ms (m * mailboxWidth + MESSAGES)) (λ x. x is 0)
     and (mailbox ms m CAPACITY is 0 gives length (line ls (mailboxLine m)) is 0)
     and every (line ls (mailboxLine m)) (λ x.
     (task ts x .mode is reading gives mailbox ms m MESSAGES is 0)
@@ -147,13 +147,13 @@ clocksRule cs ws = each clockCount (λ n. clockRule ws (clock cs n))
 
 -- ---- the heap: "A heap entry is free, first of a block or later in one; a later one never stands first or after a free one."
 abbrev pub heapRule : HeapMap → Rule
-heapRule h = each heapUnits (λ u. (unit h u under 3) and (unit h u is laterIn gives (u isnt 0) and (unit h (u - 1) isnt free)))
+heapRule h = each heapUnits (λ u. (unit h u under suc laterIn) and (unit h u is laterIn gives (u isnt 0) and (unit h (u - 1) isnt free)))
 
 -- ---- the state: "Interrupt depth 0 to 8; a switch for Swis and one for tasks"; "The current task is ready"; No. 14: "The number of levels, 16 or
 -- 32"
 abbrev pub stateRule : TaskTable → StateRow → Rule
 stateRule ts st =
-    (state st DEPTH under 9)
+    (state st DEPTH under suc mostDepth)
     and (state st SWIS under 2)
     and (state st TASKS under 2)
     and (state st CURRENT under taskCount)

@@ -3,7 +3,7 @@ use Prim.Native.Nat.{ℕ, _+_}
 use mathlib.Core.Bool.{Bool, _&&_, cond as if}
 use lib.Dec.{eqb, ltb, leb}
 use Rattle.rules.specs.Tables.{LineTable, SwiTable, ClockTable, HeapMap, StateRow, tables}
-use Rattle.rules.specs.Answer.{CallRule, called, Effect, withAnswer, answered, answer, named, unknown}
+use Rattle.rules.specs.Answer.{CallRule, called, Effect, withAnswer, answered, answer, rangeSize, named, unknown}
 use Rattle.rules.specs.Lines.{TaskQueues, taskQueues}
 use Rattle.rules.specs.Waits.{WaitTables, waitTables}
 use Rattle.rules.specs.Swis.{SwiQueues, swiQueues, swiCall}
@@ -56,7 +56,7 @@ over put c = called (c .cases) (withAnswer (c .effect .answer) (put (c .effect .
 
 -- ---- "Call numbers fall into ranges of sixteen, one range for each kind (hexadecimal)."
 abbrev pub inRange : ℕ → ℕ → Bool
-inRange number from = leb from number && ltb number (from + 16)
+inRange number from = leb from number && ltb number (from + rangeSize)
 
 unfoldable pub callOf : Tables → ℕ → ℕ → ℕ → ℕ → ℕ → ℕ → CallRule Tables
 callOf t x number a b c d =

@@ -1,5 +1,5 @@
 -- 01, 'The tables': the rows and words of each table, and what they are called. A number out of range reads as 0, 'not in use'.
-use Prim.Native.Nat.{ℕ, _+_, _*_, _^_}
+use Prim.Native.Nat.{ℕ, _+_, _-_, _*_, _^_}
 use mathlib.Core.Path.{_≡_}
 use mathlib.Core.Bool.{_&&_, cond as if}
 use mathlib.Core.List.{List, [], _∷_}
@@ -66,11 +66,12 @@ eventWidth = 2
 abbrev pub mailboxCount : ℕ
 mailboxCount = 8
 
-abbrev pub mailboxWidth : ℕ
-mailboxWidth = 10
-
 abbrev pub mailboxMost : ℕ
 mailboxMost = 8
+
+-- its capacity, the number of its messages, and room for them
+abbrev pub mailboxWidth : ℕ
+mailboxWidth = 2 + mailboxMost
 
 abbrev pub clockCount : ℕ
 clockCount = 16
@@ -89,6 +90,17 @@ mostLevels = 32
 -- "priority 0 to 15": Swis keep sixteen levels, for No. 14 speaks of "task priority levels"
 abbrev pub swiLevels : ℕ
 swiLevels = 16
+
+-- a line for each semaphore, mailbox and event, for each priority of a Swi, for the active Swis, and for each priority of a task
+abbrev pub lineCount : ℕ
+lineCount = semaphoreCount + mailboxCount + eventCount + swiLevels + 1 + mostLevels
+
+-- a line has room for every task, behind the number of those who stand there
+abbrev pub lineMost : ℕ
+lineMost = taskCount
+
+abbrev pub lineWidth : ℕ
+lineWidth = 1 + lineMost
 
 -- "One heap of 256 units of 8 bytes"
 abbrev pub heapUnits : ℕ
@@ -110,11 +122,107 @@ abbrev pub wordEnd : ℕ
 wordEnd = 2 ^ 32
 
 abbrev pub minusOne : ℕ
-minusOne = 4294967295
+minusOne = wordEnd - 1
 
 -- "Limit 4,294,967,295 is without end."
 abbrev pub forever : ℕ
-forever = 4294967295
+forever = wordEnd - 1
+
+-- ---- the words of a row, by name
+-- of a semaphore, an event, a Swi, a clock
+abbrev pub USED : ℕ
+USED = 0
+
+-- of a task
+abbrev pub MODE : ℕ
+MODE = 0
+
+abbrev pub TASK-PRIORITY : ℕ
+TASK-PRIORITY = 1
+
+abbrev pub OBJECT : ℕ
+OBJECT = 2
+
+abbrev pub TASK-LEFT : ℕ
+TASK-LEFT = 3
+
+abbrev pub HELD : ℕ
+HELD = 4
+
+abbrev pub MASK : ℕ
+MASK = 5
+
+abbrev pub OUTCOME : ℕ
+OUTCOME = 6
+
+abbrev pub VALUE : ℕ
+VALUE = 7
+
+-- of a semaphore
+abbrev pub KIND : ℕ
+KIND = 1
+
+abbrev pub COUNT : ℕ
+COUNT = 2
+
+-- of an event
+abbrev pub BITS : ℕ
+BITS = 1
+
+-- of a mailbox
+abbrev pub CAPACITY : ℕ
+CAPACITY = 0
+
+abbrev pub MESSAGES : ℕ
+MESSAGES = 1
+
+-- of a Swi
+abbrev pub PRIORITY : ℕ
+PRIORITY = 1
+
+abbrev pub INITIAL : ℕ
+INITIAL = 2
+
+abbrev pub TRIGGER : ℕ
+TRIGGER = 3
+
+abbrev pub POSTED : ℕ
+POSTED = 4
+
+abbrev pub TAKEN : ℕ
+TAKEN = 5
+
+-- of a clock
+abbrev pub CLOCK-SWI : ℕ
+CLOCK-SWI = 1
+
+abbrev pub CLOCK-FIRST : ℕ
+CLOCK-FIRST = 2
+
+abbrev pub PERIOD : ℕ
+PERIOD = 3
+
+abbrev pub CLOCK-LEFT : ℕ
+CLOCK-LEFT = 4
+
+-- of the state
+abbrev pub DEPTH : ℕ
+DEPTH = 0
+
+abbrev pub SWIS : ℕ
+SWIS = 1
+
+abbrev pub TASKS : ℕ
+TASKS = 2
+
+abbrev pub TICK : ℕ
+TICK = 3
+
+abbrev pub CURRENT : ℕ
+CURRENT = 4
+
+abbrev pub LEVELS : ℕ
+LEVELS = 5
 
 -- ---- tasks: "Modes: running or ready (..), blocked, terminated, inactive (..)"; blocked is one of five
 abbrev pub notInUse : ℕ
@@ -149,14 +257,14 @@ inactive = 8
 unfoldable pub task : TaskTable → ℕ → Task
 task ts i =
     record {
-      mode = field taskWidth taskCount ts i 0;
-      priority = field taskWidth taskCount ts i 1;
-      object = field taskWidth taskCount ts i 2;
-      left = field taskWidth taskCount ts i 3;
-      held = field taskWidth taskCount ts i 4;
-      mask = field taskWidth taskCount ts i 5;
-      outcome = field taskWidth taskCount ts i 6;
-      value = field taskWidth taskCount ts i 7;
+      mode = field taskWidth taskCount ts i MODE;
+      priority = field taskWidth taskCount ts i TASK-PRIORITY;
+      object = field taskWidth taskCount ts i OBJECT;
+      left = field taskWidth taskCount ts i TASK-LEFT;
+      held = field taskWidth taskCount ts i HELD;
+      mask = field taskWidth taskCount ts i MASK;
+      outcome = field taskWidth taskCount ts i OUTCOME;
+      value = field taskWidth taskCount ts i VALUE;
     }
 
 abbrev pub taskWords : Task → List ℕ
@@ -200,11 +308,11 @@ mailboxRow ms i ws = withRow mailboxWidth mailboxCount ms i ws
 
 -- the messages of mailbox i, the oldest first
 unfoldable pub messages : MailboxTable → ℕ → List ℕ
-messages ms i = if (ltb i mailboxCount) (listed mailboxMost ms (i * mailboxWidth + 1)) []
+messages ms i = if (ltb i mailboxCount) (listed mailboxMost ms (i * mailboxWidth + MESSAGES)) []
 
 -- more than a row has room for changes nothing
 unfoldable pub withMessages : MailboxTable → ℕ → List ℕ → MailboxTable
-withMessages ms i xs = if (ltb i mailboxCount && leb (length xs) mailboxMost) (withListed mailboxMost ms (i * mailboxWidth + 1) xs) ms
+withMessages ms i xs = if (ltb i mailboxCount && leb (length xs) mailboxMost) (withListed mailboxMost ms (i * mailboxWidth + MESSAGES) xs) ms
 
 -- ---- Swis
 abbrev pub swi : SwiTable → ℕ → ℕ → ℕ
@@ -220,11 +328,11 @@ swiRow ws i r = withRow swiWidth swiCount ws i r
 unfoldable pub clock : ClockTable → ℕ → Clock
 clock cs i =
     record {
-      used = field clockWidth clockCount cs i 0;
-      swi = field clockWidth clockCount cs i 1;
-      first = field clockWidth clockCount cs i 2;
-      period = field clockWidth clockCount cs i 3;
-      left = field clockWidth clockCount cs i 4;
+      used = field clockWidth clockCount cs i USED;
+      swi = field clockWidth clockCount cs i CLOCK-SWI;
+      first = field clockWidth clockCount cs i CLOCK-FIRST;
+      period = field clockWidth clockCount cs i PERIOD;
+      left = field clockWidth clockCount cs i CLOCK-LEFT;
     }
 
 abbrev pub clockWords : Clock → List ℕ
@@ -242,64 +350,6 @@ state st f = getD st f 0
 
 abbrev pub withState : StateRow → ℕ → ℕ → StateRow
 withState st f x = set st f x
-
--- ---- the words' names
--- of a semaphore, an event, a Swi
-abbrev pub USED : ℕ
-USED = 0
-
--- of a semaphore
-abbrev pub KIND : ℕ
-KIND = 1
-
-abbrev pub COUNT : ℕ
-COUNT = 2
-
--- of an event
-abbrev pub BITS : ℕ
-BITS = 1
-
--- of a mailbox
-abbrev pub CAPACITY : ℕ
-CAPACITY = 0
-
-abbrev pub MESSAGES : ℕ
-MESSAGES = 1
-
--- of a Swi
-abbrev pub PRIORITY : ℕ
-PRIORITY = 1
-
-abbrev pub INITIAL : ℕ
-INITIAL = 2
-
-abbrev pub TRIGGER : ℕ
-TRIGGER = 3
-
-abbrev pub POSTED : ℕ
-POSTED = 4
-
-abbrev pub TAKEN : ℕ
-TAKEN = 5
-
--- of the state
-abbrev pub DEPTH : ℕ
-DEPTH = 0
-
-abbrev pub SWIS : ℕ
-SWIS = 1
-
-abbrev pub TASKS : ℕ
-TASKS = 2
-
-abbrev pub TICK : ℕ
-TICK = 3
-
-abbrev pub CURRENT : ℕ
-CURRENT = 4
-
-abbrev pub LEVELS : ℕ
-LEVELS = 5
 
 -- No. 14: "The number of levels, 16 or 32, becomes part of the tables"; another number counts as 16
 unfoldable pub levels : StateRow → ℕ
@@ -324,12 +374,12 @@ raised t = tables (t .tasks) (t .lines) (t .semaphores) (t .events) (t .mailboxe
 -- what their types say of them: each array's length. That a word is below 4,294,967,296 and a byte below 256 is said by its type too, and
 -- no rule repeats it.
 pub record Typed (t : Tables) : Type 0 where
-  pub tasks : length (t .tasks) ≡ 256
-  pub lines : length (t .lines) ≡ 2673
-  pub semaphores : length (t .semaphores) ≡ 48
-  pub events : length (t .events) ≡ 16
-  pub mailboxes : length (t .mailboxes) ≡ 80
-  pub swis : length (t .swis) ≡ 96
-  pub clocks : length (t .clocks) ≡ 80
-  pub heap : length (t .heap) ≡ 256
-  pub state : length (t .state) ≡ 6
+  pub tasks : length (t .tasks) ≡ taskCount * taskWidth
+  pub lines : length (t .lines) ≡ lineCount * lineWidth
+  pub semaphores : length (t .semaphores) ≡ semaphoreCount * semaphoreWidth
+  pub events : length (t .events) ≡ eventCount * eventWidth
+  pub mailboxes : length (t .mailboxes) ≡ mailboxCount * mailboxWidth
+  pub swis : length (t .swis) ≡ swiCount * swiWidth
+  pub clocks : length (t .clocks) ≡ clockCount * clockWidth
+  pub heap : length (t .heap) ≡ heapUnits
+  pub state : length (t .state) ≡ stateWidth

@@ -1,4 +1,5 @@
 -- A list changed in place, over the most m, the place a of its length and any list: what the stores leave, and what the loops keep.
+-- In this order: a list that does not get shorter; leaving; going in at a place.
 use Prim.Native.Nat.{ℕ, suc, _+_, _-_, min, _≤_, _<_}
 use mathlib.Core.Path.{_≡_, refl, sym, ap, _∙_}
 use mathlib.Core.Logic.{_≢_, inr}

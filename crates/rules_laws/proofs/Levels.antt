@@ -9,7 +9,7 @@ use lib.Bits.{bitAnd}
 use lib.Dec.{eqb, ltb}
 use lib.Seq.{getD-set-other}
 use Rattle.rules.specs.Answer.{CallRule, Effect, codeOf, refused, answered, unknown}
-use Rattle.rules.specs.Tables.{fewLevels, mostLevels, state, withState, DEPTH, SWIS, TASKS, TICK, CURRENT, LEVELS, levels}
+use Rattle.rules.specs.Tables.{fewLevels, mostLevels, state, withState, DEPTH, SWIS, TASKS, TICK, CURRENT, LEVELS, levels, mostDepth}
 use Rattle.rules.specs.Lines.{taskQueues}
 use Rattle.rules.specs.Waits.{waitTables}
 use Rattle.rules.specs.Swis.{swiQueues}
@@ -54,7 +54,7 @@ module _ (st : List ℕ) where
 
   in-keeps : Same (inEffect st .next)
   unfolding inEffect
-  in-keeps = chosen Same (ltb (state st DEPTH) 8) _ st (λ _. word-stays st DEPTH _ (λ e. omega arith)) (λ _. refl)
+  in-keeps = chosen Same (ltb (state st DEPTH) mostDepth) _ st (λ _. word-stays st DEPTH _ (λ e. omega arith)) (λ _. refl)
 
   out-keeps : Same (outEffect st .next)
   unfolding outEffect

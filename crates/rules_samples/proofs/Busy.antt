@@ -5,6 +5,7 @@ use mathlib.Core.Bool.{true}
 use mathlib.Core.List.{List, [], _∷_, _++_}
 use lib.ListN.{set}
 use Rattle.basics.specs.Lists.{zeros}
+use Rattle.rules.specs.Fresh.{noSemaphores, noEvents, noMailboxes, noSwis, noClocks, freeHeap}
 use Rattle.rules.specs.Rows.{withField}
 use Rattle.rules.specs.Tables.{taskCount, taskWidth, mailboxCount, mailboxWidth, clockCount, clockWidth, minusOne, ready, sleeping, atSemaphore}
 use Rattle.rules.specs.Tables.{atEvent, reading, writing, terminated, inactive, withSemaphore, withEvent, withSwi, withState, tables}
@@ -74,7 +75,7 @@ unfolding linesWith
 held =
     tables (ready ∷ 0 ∷ 0 ∷ 0 ∷ 0 ∷ 0 ∷ 0 ∷ 0 ∷ ready ∷ 5 ∷ zeros 246)
     (linesWith (readyLine 0 has (0 ∷ []) ∷ readyLine 5 has (1 ∷ []) ∷ []))
-    (zeros 48) (zeros 16) (zeros 80) (zeros 96) (zeros 80) (zeros 256)
+    noSemaphores noEvents noMailboxes noSwis noClocks freeHeap
     (0 ∷ 1 ∷ 0 ∷ 0 ∷ 0 ∷ 16 ∷ [])
 
 pub held-sound : sound held ≡ true
@@ -82,41 +83,6 @@ unfolding quickly linesWith held
 held-sound = faster-sound held refl
 
 -- ---- one word changed: the row, the word, what it is now
--- a task's words; its priority is `PRIORITY`, as a Swi's
-abbrev pub MODE : ℕ
-MODE = 0
-
-abbrev pub OBJECT : ℕ
-OBJECT = 2
-
-abbrev pub LEFT : ℕ
-LEFT = 3
-
-abbrev pub FIRST : ℕ
-FIRST = 4
-
-abbrev pub SECOND : ℕ
-SECOND = 5
-
-abbrev pub OUTCOME : ℕ
-OUTCOME = 6
-
-abbrev pub VALUE : ℕ
-VALUE = 7
-
--- a clock's words
-abbrev pub NAMED : ℕ
-NAMED = 1
-
-abbrev pub FIRST-TICKS : ℕ
-FIRST-TICKS = 2
-
-abbrev pub PERIOD : ℕ
-PERIOD = 3
-
-abbrev pub TICKS-LEFT : ℕ
-TICKS-LEFT = 4
-
 abbrev pub taskIs : ℕ → ℕ → ℕ → Tables → Tables
 taskIs i f x t =
     tables (withField taskWidth taskCount (t .tasks) i f x) (t .lines) (t .semaphores) (t .events) (t .mailboxes) (t .swis) (t .clocks) (t .heap)

@@ -4,7 +4,7 @@ use mathlib.Core.Path.{_≡_, refl, _∙_}
 use mathlib.Core.List.{List, [], _∷_, _++_}
 use Rattle.basics.specs.Lists.{zeros}
 use Rattle.rules.specs.Answer.{answer}
-use Rattle.rules.specs.Log.{readAt}
+use Rattle.rules.specs.Log.{readAt, argumentsLength}
 use Rattle.rules.specs.Text.{lineText}
 use Rattle.rules.specs.Replay.{replayLines}
 use Rattle.rules.specs.declared.Read.the-variants.{Record, End, Cut, Version}
@@ -13,7 +13,7 @@ use Rattle.rules.proofs.Runs.{T, S, I, ascii}
 
 -- a record of version v with this call number, and one of 7f, no call's number
 abbrev pub of : ℕ → ℕ → List ℕ
-of v number = 0x00 ∷ 0x12 ∷ v ∷ number ∷ zeros 16
+of v number = 0x00 ∷ 0x12 ∷ v ∷ number ∷ zeros argumentsLength
 
 abbrev pub unknown : List ℕ
 unknown = of 1 0x7f

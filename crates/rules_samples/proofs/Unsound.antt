@@ -1,38 +1,49 @@
 -- 01, 'Sound tables': sound tables with one change each, by the rule that it breaks. Every call on them is refused with code 10.
+-- In this order: the state, the heap, clocks; tasks (task 0, ranges, words without meaning, waits); lines and who stands there; semaphores, events,
+-- mailboxes, Swis; dispatch; and that all of them are refused.
+use Prim.Native.Nat.{ℕ}
 use mathlib.Core.Path.{_≡_, refl}
 use mathlib.Core.Bool.{true}
-use mathlib.Core.List.{List, [], _∷_}
-use Rattle.rules.specs.Tables.{forever, minusOne, sleeping, USED, KIND, COUNT, BITS, CAPACITY, MESSAGES, PRIORITY, INITIAL, TRIGGER, POSTED}
-use Rattle.rules.specs.Tables.{TAKEN, DEPTH, SWIS, TASKS, CURRENT, LEVELS}
+use mathlib.Core.List.{List, [], _∷_, _++_, map}
+use Rattle.rules.specs.Tables.{forever, minusOne, sleeping, USED, MODE, TASK-PRIORITY, OBJECT, TASK-LEFT, HELD, MASK, OUTCOME, VALUE, KIND, COUNT, BITS}
+use Rattle.rules.specs.Tables.{CAPACITY, MESSAGES, PRIORITY, INITIAL, TRIGGER, POSTED, TAKEN, CLOCK-SWI, CLOCK-FIRST, PERIOD, CLOCK-LEFT, DEPTH, SWIS}
+use Rattle.rules.specs.Tables.{TASKS, CURRENT, LEVELS}
 use Rattle.rules.specs.Lines.{semaphoreLine, mailboxLine, eventLine, postedLine, activeLine, readyLine}
 use Rattle.rules.specs.Sound.{sound}
+use Rattle.rules.specs.declared.Tables.{Tables}
 use Rattle.rules.proofs.Computed.{computed}
 use Rattle.rules.proofs.Standing.{linesWith}
-use Rattle.rules_samples.proofs.Broken.{Flaw, _breaks_, whole, _row_, of-state, of-heap, of-clocks, of-tasks, of-lines, of-members, of-task-once}
-use Rattle.rules_samples.proofs.Broken.{of-swi-once, of-semaphores, of-events, of-mailboxes, of-swis, of-active, of-dispatch, failsAt, isBroken}
-use Rattle.rules_samples.proofs.Broken.{allBroken, AllRefused, all-refused}
-use Rattle.rules_samples.proofs.Busy.{busy, busy-sound, held, held-sound, MODE, OBJECT, LEFT, FIRST, SECOND, OUTCOME, VALUE, NAMED}
-use Rattle.rules_samples.proofs.Busy.{FIRST-TICKS, PERIOD, TICKS-LEFT, taskIs, semaphoreIs, eventIs, mailboxIs, swiIs, clockIs, unitIs, stateIs}
+use Rattle.rules_samples.proofs.Broken.{Broken, Flaw, _breaks_, whole, _row_, of-state, of-heap, of-clocks, of-tasks, of-lines, of-members}
+use Rattle.rules_samples.proofs.Broken.{of-task-once, of-swi-once, of-semaphores, of-events, of-mailboxes, of-swis, of-active, of-dispatch}
+use Rattle.rules_samples.proofs.Broken.{failsAt, isBroken, allBroken, AllRefused, all-refused}
+use Rattle.rules_samples.proofs.Busy.{busy, busy-sound, held, held-sound, taskIs, semaphoreIs, eventIs, mailboxIs, swiIs, clockIs, unitIs, stateIs}
 use Rattle.rules_samples.proofs.Busy.{byteIs, lineIs}
+
+-- changes that are alike: one for each of these words or numbers, and what all of them break
+abbrev pub alike : (ℕ → Tables → Tables) → Broken → List ℕ → List Flaw
+alike change b xs = map (λ x. change x breaks b) xs
+
+-- these words of task i are 1; and of each of these tasks this word is x
+abbrev pub ones : ℕ → List ℕ → List Flaw
+ones i fs = alike (λ f. taskIs i f 1) (of-tasks row i) fs
+
+abbrev pub eachTask : List ℕ → ℕ → ℕ → List Flaw
+eachTask is f x = map (λ i. taskIs i f x breaks of-tasks row i) is
+
+-- what belongs to a wait
+abbrev pub waitWords : List ℕ
+waitWords = OBJECT ∷ TASK-LEFT ∷ HELD ∷ MASK ∷ []
 
 -- ---- "Interrupt depth 0 to 8; a switch for Swis and one for tasks"; "The current task is ready"
 abbrev pub states : List Flaw
 states =
-    stateIs DEPTH 9 breaks whole of-state
-    ∷ stateIs SWIS 2 breaks whole of-state
-    ∷ stateIs TASKS 2 breaks whole of-state
-    -- no task's number
-    ∷ stateIs CURRENT 32 breaks whole of-state
-    -- asleep, and terminated
-    ∷ stateIs CURRENT 2 breaks whole of-state
-    ∷ stateIs CURRENT 7 breaks whole of-state
+    alike (stateIs DEPTH) (whole of-state) (9 ∷ [])
+    ++ alike (stateIs SWIS) (whole of-state) (2 ∷ [])
+    ++ alike (stateIs TASKS) (whole of-state) (2 ∷ [])
+    -- no task's number; asleep, and terminated
+    ++ alike (stateIs CURRENT) (whole of-state) (32 ∷ 2 ∷ 7 ∷ [])
     -- No. 14: "The number of levels, 16 or 32"
-    ∷ stateIs LEVELS 0 breaks whole of-state
-    ∷ stateIs LEVELS 15 breaks whole of-state
-    ∷ stateIs LEVELS 17 breaks whole of-state
-    ∷ stateIs LEVELS 31 breaks whole of-state
-    ∷ stateIs LEVELS 33 breaks whole of-state
-    ∷ []
+    ++ alike (stateIs LEVELS) (whole of-state) (0 ∷ 15 ∷ 17 ∷ 31 ∷ 33 ∷ [])
 
 -- ---- "A heap entry is free, first of a block or later in one; a later one never stands first or after a free one."
 abbrev pub units : List Flaw
@@ -43,98 +54,59 @@ abbrev pub clocks : List Flaw
 clocks =
     clockIs 0 USED 2 breaks of-clocks row 0
     -- clock 2 is not in use
-    ∷ clockIs 2 NAMED 3 breaks of-clocks row 2
-    ∷ clockIs 2 FIRST-TICKS 1 breaks of-clocks row 2
-    ∷ clockIs 2 PERIOD 1 breaks of-clocks row 2
-    ∷ clockIs 2 TICKS-LEFT 1 breaks of-clocks row 2
+    ∷ clockIs 2 CLOCK-SWI 3 breaks of-clocks row 2
+    ∷ alike (λ f. clockIs 2 f 1) (of-clocks row 2) (CLOCK-FIRST ∷ PERIOD ∷ CLOCK-LEFT ∷ [])
     -- a Swi that is not in use, and a number that is no Swi's, of a running clock and of a stopped one
-    ∷ clockIs 0 NAMED 4 breaks of-clocks row 0
-    ∷ clockIs 1 NAMED 16 breaks of-clocks row 1
-    ∷ clockIs 0 FIRST-TICKS 0 breaks of-clocks row 0
-    ∷ []
+    ++ (clockIs 0 CLOCK-SWI 4 breaks of-clocks row 0
+    ∷ clockIs 1 CLOCK-SWI 16 breaks of-clocks row 1
+    ∷ clockIs 0 CLOCK-FIRST 0 breaks of-clocks row 0
+    ∷ [])
 
 -- ---- "task 0 is as said": "the idle task, priority 0, always ready"; it never waited
 abbrev pub idle : List Flaw
 idle =
     taskIs 0 MODE sleeping breaks of-tasks row 0
-    ∷ taskIs 0 PRIORITY 1 breaks of-tasks row 0
-    ∷ taskIs 0 OBJECT 1 breaks of-tasks row 0
-    ∷ taskIs 0 LEFT 1 breaks of-tasks row 0
-    ∷ taskIs 0 FIRST 1 breaks of-tasks row 0
-    ∷ taskIs 0 SECOND 1 breaks of-tasks row 0
-    ∷ taskIs 0 OUTCOME 1 breaks of-tasks row 0
-    ∷ taskIs 0 VALUE 1 breaks of-tasks row 0
-    ∷ []
+    ∷ ones 0 (TASK-PRIORITY ∷ OBJECT ∷ TASK-LEFT ∷ HELD ∷ MASK ∷ OUTCOME ∷ VALUE ∷ [])
 
 -- ---- "All numbers are in this page's ranges": modes, priorities, last results
 abbrev pub ranges : List Flaw
 ranges =
     taskIs 1 MODE 9 breaks of-tasks row 1
     -- "Task priorities -1 and 1 to 15", and "inactive (exactly at -1)": ready, asleep and terminated tasks
-    ∷ taskIs 1 PRIORITY 0 breaks of-tasks row 1
-    ∷ taskIs 1 PRIORITY 16 breaks of-tasks row 1
-    ∷ taskIs 2 PRIORITY 0 breaks of-tasks row 2
-    ∷ taskIs 7 PRIORITY minusOne breaks of-tasks row 7
-    ∷ taskIs 8 PRIORITY 5 breaks of-tasks row 8
+    ∷ alike (taskIs 1 TASK-PRIORITY) (of-tasks row 1) (0 ∷ 16 ∷ [])
+    ++ (taskIs 2 TASK-PRIORITY 0 breaks of-tasks row 2
+    ∷ taskIs 7 TASK-PRIORITY minusOne breaks of-tasks row 7
+    ∷ taskIs 8 TASK-PRIORITY 5 breaks of-tasks row 8
     -- an ended wait was done or not met, and "an expired one outcome 1, value 0"
     ∷ taskIs 7 OUTCOME 2 breaks of-tasks row 7
     ∷ taskIs 7 VALUE 1 breaks of-tasks row 7
-    ∷ []
+    ∷ [])
 
 -- ---- "Records not in use are all 0, and so are fields without meaning at the time (.., an ended wait's data, ..)"
 abbrev pub withoutMeaning : List Flaw
 withoutMeaning =
     -- not in use
-    taskIs 10 PRIORITY 1 breaks of-tasks row 10
-    ∷ taskIs 10 OBJECT 1 breaks of-tasks row 10
-    ∷ taskIs 10 LEFT 1 breaks of-tasks row 10
-    ∷ taskIs 10 FIRST 1 breaks of-tasks row 10
-    ∷ taskIs 10 SECOND 1 breaks of-tasks row 10
-    ∷ taskIs 10 OUTCOME 1 breaks of-tasks row 10
-    ∷ taskIs 10 VALUE 1 breaks of-tasks row 10
-    -- ready
-    ∷ taskIs 1 OBJECT 1 breaks of-tasks row 1
-    ∷ taskIs 1 LEFT 1 breaks of-tasks row 1
-    ∷ taskIs 1 FIRST 1 breaks of-tasks row 1
-    ∷ taskIs 1 SECOND 1 breaks of-tasks row 1
-    -- terminated
-    ∷ taskIs 7 OBJECT 1 breaks of-tasks row 7
-    ∷ taskIs 7 LEFT 1 breaks of-tasks row 7
-    ∷ taskIs 7 FIRST 1 breaks of-tasks row 7
-    ∷ taskIs 7 SECOND 1 breaks of-tasks row 7
-    -- inactive
-    ∷ taskIs 8 OBJECT 1 breaks of-tasks row 8
-    ∷ taskIs 8 LEFT 1 breaks of-tasks row 8
-    ∷ taskIs 8 FIRST 1 breaks of-tasks row 8
-    ∷ taskIs 8 SECOND 1 breaks of-tasks row 8
+    ones 10 (TASK-PRIORITY ∷ OBJECT ∷ TASK-LEFT ∷ HELD ∷ MASK ∷ OUTCOME ∷ VALUE ∷ [])
+    -- ready, terminated, inactive
+    ++ ones 1 waitWords
+    ++ ones 7 waitWords
+    ++ ones 8 waitWords
     -- asleep: at no object, with no data
-    ∷ taskIs 2 OBJECT 1 breaks of-tasks row 2
-    ∷ taskIs 2 FIRST 1 breaks of-tasks row 2
-    ∷ taskIs 2 SECOND 1 breaks of-tasks row 2
+    ++ ones 2 (OBJECT ∷ HELD ∷ MASK ∷ [])
     -- at a semaphore, and a reader: no masks and no word; a writer: no second word
-    ∷ taskIs 3 FIRST 1 breaks of-tasks row 3
-    ∷ taskIs 3 SECOND 1 breaks of-tasks row 3
-    ∷ taskIs 5 FIRST 1 breaks of-tasks row 5
-    ∷ taskIs 5 SECOND 1 breaks of-tasks row 5
-    ∷ taskIs 6 SECOND 1 breaks of-tasks row 6
-    ∷ []
+    ++ ones 3 (HELD ∷ MASK ∷ [])
+    ++ ones 5 (HELD ∷ MASK ∷ [])
+    ++ ones 6 (MASK ∷ [])
 
 -- ---- waits: at an object that there is; "sleeps (always limited) and limited waits have 1 or more ticks left", without end none are kept
 abbrev pub waits : List Flaw
 waits =
-    taskIs 2 LEFT 0 breaks of-tasks row 2
-    ∷ taskIs 2 LEFT forever breaks of-tasks row 2
-    ∷ taskIs 3 LEFT forever breaks of-tasks row 3
-    ∷ taskIs 4 LEFT forever breaks of-tasks row 4
-    ∷ taskIs 5 LEFT forever breaks of-tasks row 5
-    ∷ taskIs 6 LEFT forever breaks of-tasks row 6
-    ∷ taskIs 3 OBJECT 16 breaks of-tasks row 3
-    ∷ taskIs 4 OBJECT 8 breaks of-tasks row 4
-    ∷ taskIs 5 OBJECT 8 breaks of-tasks row 5
-    ∷ taskIs 6 OBJECT 8 breaks of-tasks row 6
+    eachTask (2 ∷ []) TASK-LEFT 0
+    ++ eachTask (2 ∷ 3 ∷ 4 ∷ 5 ∷ 6 ∷ []) TASK-LEFT forever
+    ++ eachTask (3 ∷ []) OBJECT 16
+    ++ eachTask (4 ∷ 5 ∷ 6 ∷ []) OBJECT 8
     -- at an event: "both masks 0 is 4"
-    ∷ taskIs 4 FIRST 0 breaks of-tasks row 4
-    ∷ []
+    ++ eachTask (4 ∷ []) HELD 0
 
 -- ---- lines: room for 32, and zeros behind those who stand there
 abbrev pub lines : List Flaw
@@ -214,7 +186,7 @@ events =
     ∷ lineIs (eventLine 0) (4 ∷ 3 ∷ []) breaks of-events row 0
     -- the whole and-mask, and a bit of the or-mask
     ∷ eventIs 0 BITS 3 breaks of-events row 0
-    ∷ taskIs 4 SECOND 1 breaks of-events row 0
+    ∷ taskIs 4 MASK 1 breaks of-events row 0
     ∷ []
 
 -- ---- "mailboxes of 1 to 8 messages"; "Readers wait only at an empty mailbox, writers only at a full one."
@@ -237,15 +209,8 @@ abbrev pub swis : List Flaw
 swis =
     swiIs 3 USED 2 breaks of-swis row 3
     -- not in use
-    ∷ swiIs 4 PRIORITY 1 breaks of-swis row 4
-    ∷ swiIs 4 INITIAL 1 breaks of-swis row 4
-    ∷ swiIs 4 TRIGGER 1 breaks of-swis row 4
-    ∷ swiIs 4 POSTED 1 breaks of-swis row 4
-    ∷ swiIs 4 TAKEN 1 breaks of-swis row 4
-    ∷ swiIs 3 PRIORITY 16 breaks of-swis row 3
-    ∷ swiIs 3 POSTED 2 breaks of-swis row 3
-    ∷ swiIs 3 TAKEN 1 breaks of-swis row 3
-    ∷ []
+    ∷ alike (λ f. swiIs 4 f 1) (of-swis row 4) (PRIORITY ∷ INITIAL ∷ TRIGGER ∷ POSTED ∷ TAKEN ∷ [])
+    ++ (swiIs 3 PRIORITY 16 breaks of-swis row 3 ∷ swiIs 3 POSTED 2 breaks of-swis row 3 ∷ swiIs 3 TAKEN 1 breaks of-swis row 3 ∷ [])
 
 -- ---- "active Swis are in use and rise strictly in priority"
 abbrev pub actives : List Flaw
@@ -270,27 +235,17 @@ due =
 abbrev pub overtaken : List Flaw
 overtaken = stateIs TASKS 1 breaks whole of-dispatch ∷ []
 
+abbrev pub flaws : List Flaw
+flaws =
+    states ++ units ++ clocks ++ idle ++ ranges ++ withoutMeaning ++ waits ++ lines ++ strangers ++ once ++ semaphores ++ events ++ mailboxes ++ swis
+    ++ actives ++ due
+
 pub record Unsound : Type 0 where
   -- what is changed is sound
   pub busy-is-sound : sound busy ≡ true
   pub held-is-sound : sound held ≡ true
   -- and is refused after each change
-  pub refuses-states : AllRefused busy states
-  pub refuses-units : AllRefused busy units
-  pub refuses-clocks : AllRefused busy clocks
-  pub refuses-idle : AllRefused busy idle
-  pub refuses-ranges : AllRefused busy ranges
-  pub refuses-withoutMeaning : AllRefused busy withoutMeaning
-  pub refuses-waits : AllRefused busy waits
-  pub refuses-lines : AllRefused busy lines
-  pub refuses-strangers : AllRefused busy strangers
-  pub refuses-once : AllRefused busy once
-  pub refuses-semaphores : AllRefused busy semaphores
-  pub refuses-events : AllRefused busy events
-  pub refuses-mailboxes : AllRefused busy mailboxes
-  pub refuses-swis : AllRefused busy swis
-  pub refuses-actives : AllRefused busy actives
-  pub refuses-due : AllRefused busy due
+  pub refuses : AllRefused busy flaws
   pub refuses-overtaken : AllRefused held overtaken
 
 pub unsound : Unsound
@@ -299,21 +254,6 @@ unsound =
     record {
       busy-is-sound = busy-sound;
       held-is-sound = held-sound;
-      refuses-states = all-refused busy states refl;
-      refuses-units = all-refused busy units refl;
-      refuses-clocks = all-refused busy clocks refl;
-      refuses-idle = all-refused busy idle refl;
-      refuses-ranges = all-refused busy ranges refl;
-      refuses-withoutMeaning = all-refused busy withoutMeaning refl;
-      refuses-waits = all-refused busy waits refl;
-      refuses-lines = all-refused busy lines refl;
-      refuses-strangers = all-refused busy strangers refl;
-      refuses-once = all-refused busy once refl;
-      refuses-semaphores = all-refused busy semaphores refl;
-      refuses-events = all-refused busy events refl;
-      refuses-mailboxes = all-refused busy mailboxes refl;
-      refuses-swis = all-refused busy swis refl;
-      refuses-actives = all-refused busy actives refl;
-      refuses-due = all-refused busy due refl;
+      refuses = all-refused busy flaws refl;
       refuses-overtaken = all-refused held overtaken refl;
     }

@@ -31,14 +31,14 @@ unfoldable pub postsOn : ℕ → Tables → List Call → ℕ
 postsOn s t [] = 0
 postsOn s t (q ∷ qs) = bit (isPost s t q) + postsOn s (next t q) qs
 
--- among these calls is the one that served task i: all along before it i waited, it is an accepted post on s after at most k others, and it
+-- among these calls is the one that served task i: all along before it i was blocked, it is an accepted post on s after at most k others, and it
 -- leaves i ready with outcome 0 and value 0
 pub record ServedIn (s i k : ℕ) (u : Tables) (qs : List Call) : Type 0 where
   pub before : List Call
   pub post : Call
   pub rest : List Call
   pub split : qs ≡ before ++ (post ∷ rest)
-  pub waits : Always (BlockedOn s i) u before
+  pub blocked : Always (BlockedOn s i) u before
   pub few : postsOn s u before ≤ k
   pub posted : isPost s (after u before) post ≡ true
   -- the tables right after that post

@@ -47,7 +47,8 @@ pub fn create_code(semaphores: &Semaphores, x: u32, a: u32, b: u32, c: u32, d: u
 
 // The tasks and the lines stay, whatever they are.
 pub fn create_effect(semaphores: &mut Semaphores, a: u32, b: u32) -> Answer
-    ensures { λ r. ⌜ ((ts : TaskTable) (ls : LineTable) → withAnswer r (waitTables ts ls (new semaphores)) ≡ createEffect (waitTables ts ls (old semaphores)) a b) ⌝ }
+    ensures { λ r. ⌜ ((ts : TaskTable) (ls : LineTable) → withAnswer r (waitTables ts ls (new semaphores))
+        ≡ createEffect (waitTables ts ls (old semaphores)) a b) ⌝ }
 {
     let i = free_semaphore(semaphores);
     put_semaphore(semaphores, i, 1, a, b);
@@ -96,7 +97,8 @@ pub fn delete_code(
 
 // The row is all 0.
 pub fn delete_effect(semaphores: &mut Semaphores, a: u32) -> Answer
-    ensures { λ r. ⌜ ((ts : TaskTable) (ls : LineTable) → withAnswer r (waitTables ts ls (new semaphores)) ≡ deleteEffect (waitTables ts ls (old semaphores)) a) ⌝ }
+    ensures { λ r. ⌜ ((ts : TaskTable) (ls : LineTable) → withAnswer r (waitTables ts ls (new semaphores))
+        ≡ deleteEffect (waitTables ts ls (old semaphores)) a) ⌝ }
 {
     put_semaphore(semaphores, a as usize, 0, 0, 0);
     answers::accepted(DONE, 0)
@@ -158,7 +160,8 @@ pub fn reset_code(
 }
 
 pub fn reset_effect(semaphores: &mut Semaphores, a: u32, b: u32) -> Answer
-    ensures { λ r. ⌜ ((ts : TaskTable) (ls : LineTable) → withAnswer r (waitTables ts ls (new semaphores)) ≡ resetEffect (waitTables ts ls (old semaphores)) a b) ⌝ }
+    ensures { λ r. ⌜ ((ts : TaskTable) (ls : LineTable) → withAnswer r (waitTables ts ls (new semaphores))
+        ≡ resetEffect (waitTables ts ls (old semaphores)) a b) ⌝ }
 {
     rows::set_semaphore(semaphores, a as usize, COUNT, b);
     answers::accepted(DONE, 0)

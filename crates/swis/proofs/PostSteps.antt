@@ -1,5 +1,5 @@
 -- What a post leaves of the Swis and their lines.
-use Prim.Native.Nat.{ℕ, _+_, _≤_, _<_}
+use Prim.Native.Nat.{ℕ, _≤_, _<_}
 use mathlib.Core.Path.{_≡_, sym, _∙_}
 use mathlib.Core.Logic.{_≢_}
 use mathlib.Core.Bool.{true, false}
@@ -7,8 +7,8 @@ use mathlib.Core.List.{List}
 use borrow.Author.Tests.{eq-eqb, ne-eqb, lt-ltb, le-ltb}
 use lib.Dec.{eqb}
 use Rattle.rules.specs.Answer.{withAnswer}
-use Rattle.rules.specs.Tables.{swi, withSwi, PRIORITY, POSTED}
-use Rattle.rules.specs.Lines.{joined}
+use Rattle.rules.specs.Tables.{swiCount, swi, withSwi, PRIORITY, POSTED}
+use Rattle.rules.specs.Lines.{joined, postedLine}
 use Rattle.rules.specs.Swis.{swiQueues, posted}
 use Rattle.rules.specs.declared.Answer.{Answer}
 
@@ -25,16 +25,16 @@ zero-not {x = x} e f = ne-eqb x 0 (λ (z : x ≡ 0). f (e ∙ z))
 
 -- ---- a post: q and p are the words posted and priority
 module _ (i : ℕ) (ws ls : List ℕ) where
-  module _ (h : i < 16) {q : ℕ} (a : q ≡ swi ws i POSTED) where
+  module _ (h : i < swiCount) {q : ℕ} (a : q ≡ swi ws i POSTED) where
     pub posted-now : q ≡ 0 → {p : ℕ} {ws₁ ls₁ : List ℕ}
-        → p ≡ swi ws i PRIORITY → ws₁ ≡ withSwi ws i POSTED 1 → ls₁ ≡ joined (32 + p) i ls → swiQueues ws₁ ls₁ ≡ posted i (swiQueues ws ls)
+        → p ≡ swi ws i PRIORITY → ws₁ ≡ withSwi ws i POSTED 1 → ls₁ ≡ joined (postedLine p) i ls → swiQueues ws₁ ls₁ ≡ posted i (swiQueues ws ls)
     unfolding posted
-    posted-now z b c d = rw (d, c, b, lt-ltb i 16 h, zero-is a z)
+    posted-now z b c d = rw (d, c, b, lt-ltb i swiCount h, zero-is a z)
 
     pub posted-already : q ≢ 0 → swiQueues ws ls ≡ posted i (swiQueues ws ls)
     unfolding posted
-    posted-already z = rw (lt-ltb i 16 h, zero-not a z)
+    posted-already z = rw (lt-ltb i swiCount h, zero-not a z)
 
-  pub posted-none : 16 ≤ i → swiQueues ws ls ≡ posted i (swiQueues ws ls)
+  pub posted-none : swiCount ≤ i → swiQueues ws ls ≡ posted i (swiQueues ws ls)
   unfolding posted
-  posted-none h = rw (le-ltb i 16 h)
+  posted-none h = rw (le-ltb i swiCount h)

@@ -1,41 +1,24 @@
--- A Swi's row, stored word by word, the searches for a Swi, and a number that no call on Swis has.
-use Prim.Native.Nat.{ℕ, suc, _+_, _*_, _≤_, _<_}
+-- The searches for a Swi, and a number that no call on Swis has.
+use Prim.Native.Nat.{ℕ, _+_, _≤_, _<_}
 use mathlib.Core.Path.{_≡_, sym, ap, _∙_}
 use mathlib.Core.Logic.{_≢_}
 use mathlib.Core.Bool.{Bool, true, false, not, _&&_}
-use mathlib.Core.List.{List, [], _∷_}
+use mathlib.Core.List.{List}
 use native.Mathlib.Numerals.{add-one}
 use native.Mathlib.Omega.{arith}
 use borrow.Author.Tests.{eq-eqb, ne-eqb, lt-ltb, le-ltb}
 use lib.Dec.{eqb}
-use lib.ListN.{length, take, drop, getD, set, take-append-drop}
+use lib.ListN.{length, take, drop, getD, take-append-drop}
 use lib.Seq.{take-suc, take-all}
 use Rattle.basics.specs.Lists.{bit, count}
 use Rattle.basics.specs.Find.{allBelow}
 use Rattle.basics.proofs.Laws.{count-append, count-snoc}
 use Rattle.basics.proofs.Finds.{all-yes, all-no}
 use Rattle.rules.specs.Answer.{unknown}
-use Rattle.rules.specs.Tables.{swi, swiRow, clock}
+use Rattle.rules.specs.Tables.{clockCount, clock}
 use Rattle.rules.specs.Lines.{line, activeLine}
 use Rattle.rules.specs.Swis.{SwiQueues, isActive, isNamed, swiCall}
 use Rattle.rules.specs.declared.Clock.{Clock}
-use Rattle.rules_laws.proofs.Rows.{withRow-in, withRow-out}
-
--- ---- a row, stored word by word
-module _ (ws : List ℕ) (i u p n t q k : ℕ) where
-  pub put-is : i < 16
-      → set (set (set (set (set (set ws (i * 6) u) (i * 6 + 1) p) (i * 6 + 2) n) (i * 6 + 3) t) (i * 6 + 4) q) (i * 6 + 5) k
-      ≡ swiRow ws i (u ∷ p ∷ n ∷ t ∷ q ∷ k ∷ [])
-  put-is h =
-      let e1 : i * 6 + 1 ≡ suc (i * 6) = omega arith in
-      let e2 : i * 6 + 2 ≡ suc (suc (i * 6)) = omega arith in
-      let e3 : i * 6 + 3 ≡ suc (suc (suc (i * 6))) = omega arith in
-      let e4 : i * 6 + 4 ≡ suc (suc (suc (suc (i * 6)))) = omega arith in
-      let e5 : i * 6 + 5 ≡ suc (suc (suc (suc (suc (i * 6))))) = omega arith in
-      rw (e1, e2, e3, e4, e5) (sym (withRow-in 6 16 ws i (u ∷ p ∷ n ∷ t ∷ q ∷ k ∷ []) h))
-
-  pub put-none : 16 ≤ i → ws ≡ swiRow ws i (u ∷ p ∷ n ∷ t ∷ q ∷ k ∷ [])
-  put-none h = sym (withRow-out 6 16 ws i (u ∷ p ∷ n ∷ t ∷ q ∷ k ∷ []) h)
 
 -- ---- a search among the active Swis has passed k of them
 module _ (ls : List ℕ) (i k : ℕ) {n : ℕ} (e : n ≡ length (line ls activeLine)) where
@@ -78,9 +61,9 @@ module _ (cs : List ℕ) (i n : ℕ) {k : Clock} (e : k ≡ clock cs n) where
   notBy-is : not (eqb (k .used) 1 && eqb (k .swi) i) ≡ notBy cs i n
   notBy-is = ap (λ (c : Clock). not (eqb (c .used) 1 && eqb (c .swi) i)) e
 
-  pub named-here : n < 16 → (eqb (k .used) 1 && eqb (k .swi) i) ≡ true → true ≡ isNamed cs i
+  pub named-here : n < clockCount → (eqb (k .used) 1 && eqb (k .swi) i) ≡ true → true ≡ isNamed cs i
   unfolding isNamed
-  named-here h t = ap not (all-no (notBy cs i) 16 n h notBy-is (ap not t))
+  named-here h t = ap not (all-no (notBy cs i) clockCount n h notBy-is (ap not t))
 
   pub named-not : (eqb (k .used) 1 && eqb (k .swi) i) ≡ false → allBelow n (notBy cs i) ≡ true → allBelow (n + 1) (notBy cs i) ≡ true
   named-not t a = all-yes (notBy cs i) n a notBy-is (ap not t)

@@ -53,7 +53,8 @@ pub fn create_effect(swis: &mut Swis, a: u32, b: u32) -> Answer
 }
 
 pub fn create(swis: &mut Swis, x: u32, a: u32, b: u32, c: u32, d: u32) -> Answer
-    ensures { λ r. ⌜ ((ls : LineTable) → withAnswer r (swiQueues (new swis) ls) ≡ answered (swiQueues (old swis) ls) (createCall (swiQueues (old swis) ls) x a b c d)) ⌝ }
+    ensures { λ r. ⌜ ((ls : LineTable) → withAnswer r (swiQueues (new swis) ls)
+        ≡ answered (swiQueues (old swis) ls) (createCall (swiQueues (old swis) ls) x a b c d)) ⌝ }
 {
     let code = create_code(swis, x, a, b, c, d);
     if code != 0 {
@@ -109,7 +110,8 @@ pub fn delete(
     c: u32,
     d: u32,
 ) -> Answer
-    ensures { λ r. ⌜ withAnswer r (swiQueues (new swis) (old lines)) ≡ answered (swiQueuesOld swis lines) (deleteCall (swiQueuesOld swis lines) (old clocks) x a b c d) ⌝ }
+    ensures { λ r. ⌜ withAnswer r (swiQueues (new swis) (old lines))
+        ≡ answered (swiQueuesOld swis lines) (deleteCall (swiQueuesOld swis lines) (old clocks) x a b c d) ⌝ }
 {
     let code = delete_code(swis, lines, clocks, x, a, b, c, d);
     if code != 0 {
@@ -155,7 +157,8 @@ pub fn end(
     c: u32,
     d: u32,
 ) -> Answer
-    ensures { λ r. ⌜ withAnswer r (swiQueuesNew swis lines) ≡ answered (swiQueuesOld swis lines) (endCall (swiQueuesOld swis lines) (old state) x a b c d) ⌝ }
+    ensures { λ r. ⌜ withAnswer r (swiQueuesNew swis lines)
+        ≡ answered (swiQueuesOld swis lines) (endCall (swiQueuesOld swis lines) (old state) x a b c d) ⌝ }
 {
     let code = end_code(state, x, a, b, c, d);
     if code != 0 {

@@ -8,7 +8,7 @@ use lib.Dec.{eqb}
 use native.Mathlib.Omega.{arith}
 use borrow.Author.Tests.{lt-ltb, le-ltb}
 use Rattle.rules.specs.Answer.{withAnswer, answer}
-use Rattle.rules.specs.Tables.{state, withState}
+use Rattle.rules.specs.Tables.{mostDepth, DEPTH, state, withState}
 use Rattle.rules.specs.Switches.{swisBit, tasksBit, bothBits, has, on, off, settings, turned, offEffect, restoreEffect, inEffect, outEffect}
 use Rattle.rules.specs.declared.Answer.{Answer}
 
@@ -37,14 +37,14 @@ module _ (st : List ℕ) {r : Answer} where
   unfolding restoreEffect
   restored-is which key t q = rw (q, t)
 
-  pub in-is : state st 0 < 8 → r ≡ answer 0 0 0 → withAnswer r (withState st 0 (state st 0 + 1)) ≡ inEffect st
+  pub in-is : state st DEPTH < mostDepth → r ≡ answer 0 0 0 → withAnswer r (withState st DEPTH (state st DEPTH + 1)) ≡ inEffect st
   unfolding inEffect
-  in-is h q = rw (q, lt-ltb (state st 0) 8 h)
+  in-is h q = rw (q, lt-ltb (state st DEPTH) mostDepth h)
 
-  pub in-full : 8 ≤ state st 0 → r ≡ answer 0 0 0 → withAnswer r st ≡ inEffect st
+  pub in-full : mostDepth ≤ state st DEPTH → r ≡ answer 0 0 0 → withAnswer r st ≡ inEffect st
   unfolding inEffect
-  in-full h q = rw (q, le-ltb (state st 0) 8 h)
+  in-full h q = rw (q, le-ltb (state st DEPTH) mostDepth h)
 
-  pub out-is : {n : ℕ} → n ≡ state st 0 - 1 → r ≡ answer 0 0 0 → withAnswer r (withState st 0 n) ≡ outEffect st
+  pub out-is : {n : ℕ} → n ≡ state st DEPTH - 1 → r ≡ answer 0 0 0 → withAnswer r (withState st DEPTH n) ≡ outEffect st
   unfolding outEffect
   out-is e q = rw (q, e)

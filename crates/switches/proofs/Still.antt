@@ -3,7 +3,7 @@ use Prim.Native.Nat.{ℕ, zero, suc, _+_, _*_, _≤_, _<_}
 use mathlib.Core.Path.{_≡_, refl, sym, ap, _∙_}
 use mathlib.Core.Logic.{_≢_, ⊎-elim}
 use mathlib.Core.Bool.{Bool, true, _&&_}
-use mathlib.Core.List.{List}
+use mathlib.Core.List.{List, [], _∷_}
 use native.Mathlib.Omega.{arith}
 use native.Mathlib.Nat.{add-zero, add-suc}
 use borrow.Author.Tests.{eq-eqb, ne-eqb, eqb-true}
@@ -14,10 +14,10 @@ use lib.Seq.{set-getD}
 use Rattle.basics.specs.Find.{rising}
 use Rattle.basics.proofs.Finds.{all-none, all-step, all-end, all-at}
 use Rattle.basics.proofs.Laws.{same?}
-use Rattle.rules_laws.proofs.Rows.{by-range, field-in}
+use Rattle.rules_laws.proofs.Rows.{by-range, field-in, withRow-out}
 use Rattle.rules.specs.Rows.{field}
-use Rattle.rows.proofs.Records.{put-clock, no-clock}
-use Rattle.rules.specs.Tables.{clock, withClock}
+use Rattle.rows.proofs.Records.{row-put}
+use Rattle.rules.specs.Tables.{clockCount, clockWidth, clock, clockWords, withClock}
 use Rattle.rules.specs.Tick.{aged, clockTables, clockTick}
 use Rattle.rules.specs.declared.Clock.{Clock}
 use Rattle.switches.specs.Still.{still}
@@ -72,16 +72,17 @@ eight-more f x g e h =
 -- ---- a clock with no ticks left
 -- its row stored again
 clock-kept : (cs : List ℕ) (n : ℕ) → withClock cs n (clock cs n) ≡ cs
-unfolding clock
-clock-kept cs n = by-range n 16 inside (λ h. sym (no-clock cs n (clock cs n) h))
+unfolding clock withClock
+clock-kept cs n = by-range n clockCount inside (withRow-out clockWidth clockCount cs n (clockWords (clock cs n)))
   where
-    word : n < 16 → (f : ℕ) → f < 5 → set cs (n * 5 + f) (field 5 16 cs n f) ≡ cs
-    word h f l = ap (set cs (n * 5 + f)) (field-in 5 16 cs n f h l) ∙ set-getD cs (n * 5 + f) 0
+    word : n < clockCount → (f : ℕ) → f < clockWidth → set cs (n * clockWidth + f) (field clockWidth clockCount cs n f) ≡ cs
+    word h f l = ap (set cs (n * clockWidth + f)) (field-in clockWidth clockCount cs n f h l) ∙ set-getD cs (n * clockWidth + f) 0
 
-    inside : n < 16 → withClock cs n (clock cs n) ≡ cs
+    inside : n < clockCount → withClock cs n (clock cs n) ≡ cs
     inside h =
-        let first : set cs (n * 5) (field 5 16 cs n 0) ≡ cs = rw add-zero at (word h 0 (omega arith)) in
-        sym (put-clock cs n (clock cs n) h)
+        let k = clock cs n in
+        let first : set cs (n * clockWidth) (k .used) ≡ cs = rw add-zero at (word h 0 (omega arith)) in
+        sym (row-put clockWidth clockCount cs n (k .used) (k .swi ∷ k .first ∷ k .period ∷ k .left ∷ []) h)
         ∙ rw (first, word h 1 (omega arith), word h 2 (omega arith), word h 3 (omega arith), word h 4 (omega arith))
 
 pub clock-still : (cs ws ls : List ℕ) (n : ℕ) {k : Clock} → k ≡ clock cs n → k .left ≡ 0 → clockTables cs ws ls ≡ clockTick (clockTables cs ws ls) n

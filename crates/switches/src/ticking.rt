@@ -17,7 +17,8 @@ ghost use mathlib.Core.Path.{_≡_};
 ghost use Rattle.rules.specs.Tick.{postedIf, clockTick, clocksTicked, oneLess, endedWith, taskTick, tasksTicked, ticked, tickCall};
 ghost use Rattle.switches.specs.Still.{clocksStill, eightStill, eightTick};
 ghost use Rattle.rules.specs.Answer.{withAnswer, answered};
-ghost use Rattle.tables.specs.Lent.{old, taskQueuesOld, taskQueuesNew, swiQueuesOld, swiQueuesNew, clockTablesOld, clockTablesNew, tickTablesOld, tickTablesNew};
+ghost use Rattle.tables.specs.Lent.{old, taskQueuesOld, taskQueuesNew, swiQueuesOld, swiQueuesNew, clockTablesOld, clockTablesNew, tickTablesOld};
+ghost use Rattle.tables.specs.Lent.{tickTablesNew};
 
 // The Swi of a clock that has come to 0 is posted.
 pub fn post_if(fired: bool, swis: &mut Swis, lines: &mut Lines, i: u32)

@@ -6,9 +6,9 @@ use mathlib.Core.Bool.{Bool, true, false}
 use mathlib.Core.List.{List}
 use borrow.Author.Tests.{eq-eqb, ne-eqb}
 use Rattle.rules_laws.proofs.Calls.{unknown-is}
-use Rattle.rules.specs.Answer.{Effect, withAnswer, answer, answered}
+use Rattle.rules.specs.Answer.{withAnswer, answer, answered}
 use Rattle.rules.specs.Rows.{field}
-use Rattle.rules.specs.Tables.{task, withTask, noTask}
+use Rattle.rules.specs.Tables.{taskCount, taskWidth, task, withTask, noTask}
 use Rattle.rules.specs.Lines.{TaskQueues, taskQueues, moved, atBack}
 use Rattle.rules.specs.Tasks.{freeTask, blocked, placedAt, withPriority, reprioritized}
 use Rattle.rules.specs.Tasks.{createEffect, deleteEffect, setPriorityEffect, lastResultEffect, taskCall}
@@ -26,8 +26,8 @@ module _ (ts ls : List ℕ) {r : Answer} where
   unfolding deleteEffect
   deleted i a b c = rw (c, b, a)
 
-  pub priority-set : (i p : ℕ) {old : ℕ} {q : TaskQueues} → old ≡ field 8 32 ts i 1 → q ≡ reprioritized (taskQueues ts ls) i p → r ≡ answer 0 0 old
-      → withAnswer r q ≡ setPriorityEffect (taskQueues ts ls) i p
+  pub priority-set : (i p : ℕ) {old : ℕ} {q : TaskQueues} → old ≡ field taskWidth taskCount ts i 1 → q ≡ reprioritized (taskQueues ts ls) i p
+      → r ≡ answer 0 0 old → withAnswer r q ≡ setPriorityEffect (taskQueues ts ls) i p
   unfolding setPriorityEffect task
   priority-set i p a b c = rw (c, b, a)
 
@@ -51,16 +51,10 @@ module _ (ts ls : List ℕ) (i p : ℕ) {old : Task} (is : old ≡ task ts i) wh
     unfolding reprioritized
     joins-queue t c d = rw (d, c, ← is, ne-eqb p (old .priority) other, ← block, t)
 
--- ---- the calls by number
+-- ---- no call has the number
 module _ (ts ls st : List ℕ) (x number a b c d : ℕ) where
-  abbrev Leaves : ℕ → Effect TaskQueues → Type 0
-  Leaves n y = y ≡ answered (taskQueues ts ls) (taskCall (taskQueues ts ls) st x n a b c d)
-
-  pub at-number : (n : ℕ) {y : Effect TaskQueues} → number ≡ n → Leaves n y → Leaves number y
-  at-number n e f = rw e f
-
   pub no-number : {r : Answer} → number ≢ 0 → number ≢ 1 → number ≢ 2 → number ≢ 3 → number ≢ 4 → number ≢ 5 → number ≢ 6
-      → r ≡ answer 1 0 0 → Leaves number (withAnswer r (taskQueues ts ls))
+      → r ≡ answer 1 0 0 → withAnswer r (taskQueues ts ls) ≡ answered (taskQueues ts ls) (taskCall (taskQueues ts ls) st x number a b c d)
   unfolding taskCall
   no-number k0 k1 k2 k3 k4 k5 k6 e =
       unknown-is (taskQueues ts ls) (taskCall (taskQueues ts ls) st x number a b c d)

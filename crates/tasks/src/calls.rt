@@ -67,7 +67,8 @@ pub fn create(
     c: u32,
     d: u32,
 ) -> Answer
-    ensures { λ r. ⌜ withAnswer r (taskQueuesNew tasks lines) ≡ answered (taskQueuesOld tasks lines) (createCall (taskQueuesOld tasks lines) (old state) x a b c d) ⌝ }
+    ensures { λ r. ⌜ withAnswer r (taskQueuesNew tasks lines)
+        ≡ answered (taskQueuesOld tasks lines) (createCall (taskQueuesOld tasks lines) (old state) x a b c d) ⌝ }
 {
     let code = create_code(tasks, state, x, a, b, c, d);
     if code != 0 {

@@ -55,7 +55,8 @@ pub fn yield_task(
     c: u32,
     d: u32,
 ) -> Answer
-    ensures { λ r. ⌜ withAnswer r (taskQueuesNew tasks lines) ≡ answered (taskQueuesOld tasks lines) (yieldCall (taskQueuesOld tasks lines) (old state) x a b c d) ⌝ }
+    ensures { λ r. ⌜ withAnswer r (taskQueuesNew tasks lines)
+        ≡ answered (taskQueuesOld tasks lines) (yieldCall (taskQueuesOld tasks lines) (old state) x a b c d) ⌝ }
 {
     let code = yield_code(state, x, a, b, c, d);
     if code != 0 {
@@ -106,7 +107,8 @@ pub fn end(
     c: u32,
     d: u32,
 ) -> Answer
-    ensures { λ r. ⌜ withAnswer r (taskQueuesNew tasks lines) ≡ answered (taskQueuesOld tasks lines) (endCall (taskQueuesOld tasks lines) (old state) x a b c d) ⌝ }
+    ensures { λ r. ⌜ withAnswer r (taskQueuesNew tasks lines)
+        ≡ answered (taskQueuesOld tasks lines) (endCall (taskQueuesOld tasks lines) (old state) x a b c d) ⌝ }
 {
     let code = end_code(state, x, a, b, c, d);
     if code != 0 {
@@ -158,7 +160,8 @@ pub fn sleep(
     c: u32,
     d: u32,
 ) -> Answer
-    ensures { λ r. ⌜ withAnswer r (taskQueuesNew tasks lines) ≡ answered (taskQueuesOld tasks lines) (sleepCall (taskQueuesOld tasks lines) (old state) x n b c d) ⌝ }
+    ensures { λ r. ⌜ withAnswer r (taskQueuesNew tasks lines)
+        ≡ answered (taskQueuesOld tasks lines) (sleepCall (taskQueuesOld tasks lines) (old state) x n b c d) ⌝ }
 {
     let code = sleep_code(state, x, n, b, c, d);
     if code != 0 {

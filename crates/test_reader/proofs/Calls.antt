@@ -1,4 +1,5 @@
--- What a call of the example's own functions asks of its caller and what it gives back, from the callee's contract alone; those of the reader's functions are `calllog`'s.
+-- What a call of the example's own functions asks of its caller and what it gives back, from the callee's contract alone; those of the reader's functions
+-- are `calllog`'s.
 -- Assumes nothing.
 use mathlib.Core.Path.{_≡_}
 use Prim.Native.Nat.{ℕ}
@@ -62,14 +63,16 @@ module _ {M : Type 1} (𝓤 : URA M) (H : Heap 𝓤) (A : Atoms 𝓤) (W : Given
 
   pub gives-start : (r : Read) (u : Val) → ent 𝓤 (StartOf 𝓤 H A at-mem run .post (to-start r) u) (mean 𝓤 H A (Gives-start r u))
   gives-start r u =
-      gave 𝓤 H A W usize (uint-vals w64) (λ n. n ≡ startOf r) (‵ ftrue) (uint-tells w64) (ensured 𝓤 H A start-of.ended (start-of.clauses 𝓤 H A at-mem run) tt (r, tt) tt)
+      gave 𝓤 H A W usize (uint-vals w64) (λ n. n ≡ startOf r) (‵ ftrue) (uint-tells w64)
+      (ensured 𝓤 H A start-of.ended (start-of.clauses 𝓤 H A at-mem run) tt (r, tt) tt)
       (λ n. exE 𝓤 _ (λ ws. snd∗ 𝓤 (sem 𝓤 H A (lasts start-of.ended tt (r, tt) ws)) (fact 𝓤 (n ≡ startOf r)))) u
 
   -- ---- `arguments_in`
   abbrev pub to-in : RefT (List ℕ) → ArgumentsIn 𝓤 H A at-mem run .Ghost
   to-in p = (((κ, tt), (q, tt), tt, (p, tt), (slice p, tt)), tt)
 
-  pub asks-in : (p : RefT (List ℕ)) → ent 𝓤 (⋆ 𝓤 H A (‵ (flft κ q) ∷ ‵ (c.Lent 𝓤 H A W at-mem run κ q .own p (slice p)) ∷ [])) (ArgumentsIn 𝓤 H A at-mem run .pre (to-in p))
+  pub asks-in : (p : RefT (List ℕ)) → ent 𝓤 (⋆ 𝓤 H A (‵ (flft κ q) ∷ ‵ (c.Lent 𝓤 H A W at-mem run κ q .own p (slice p)) ∷ []))
+      (ArgumentsIn 𝓤 H A at-mem run .pre (to-in p))
   asks-in p = c.asks-slice 𝓤 H A W at-mem run κ q p
 
   abbrev pub Gives-in : RefT (List ℕ) → Val → Item 𝓤
@@ -77,5 +80,6 @@ module _ {M : Type 1} (𝓤 : URA M) (H : Heap 𝓤) (A : Atoms 𝓤) (W : Given
 
   pub gives-in : (p : RefT (List ℕ)) (u : Val) → ent 𝓤 (ArgumentsIn 𝓤 H A at-mem run .post (to-in p) u) (mean 𝓤 H A (Gives-in p u))
   gives-in p u =
-      gave 𝓤 H A W P.the-row words (λ a. a ≡ argumentsIn (now p)) (c.token 𝓤 H A W at-mem run κ q) (LL.tells P.the-type P′.the-laws) (ensured 𝓤 H A arguments-in.ended (arguments-in.clauses 𝓤 H A at-mem run) (κ, tt) (p, tt) tt)
+      gave 𝓤 H A W P.the-row words (λ a. a ≡ argumentsIn (now p)) (c.token 𝓤 H A W at-mem run κ q) (LL.tells P.the-type P′.the-laws)
+      (ensured 𝓤 H A arguments-in.ended (arguments-in.clauses 𝓤 H A at-mem run) (κ, tt) (p, tt) tt)
       (λ a. exE 𝓤 _ (λ ws. snd∗ 𝓤 (sem 𝓤 H A (lasts arguments-in.ended (κ, tt) (p, tt) ws)) (fact 𝓤 (a ≡ argumentsIn (now p))))) u

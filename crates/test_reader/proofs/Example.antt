@@ -1,4 +1,5 @@
--- The worked example, computed from the definitions: 01's records 'create at 5' and 'pend on 0 without end', and its 'post 0' with version 2, which the first record's is not.
+-- The worked example, computed from the definitions: 01's records 'create at 5' and 'pend on 0 without end', and its 'post 0' with version 2, which the
+-- first record's is not.
 use Prim.Native.Nat.{ℕ}
 use mathlib.Core.Path.{_≡_, refl}
 use mathlib.Core.Bool.{Bool, true, _&&_}

@@ -59,20 +59,23 @@ pub(crate) fn words(n: u32) -> Change {
     }
 }
 
+// A line in which somebody stands, of each kind.
+fn line_of(k: u32) -> usize {
+    match k {
+        1 => SEMAPHORE_LINES,
+        2 => MAILBOX_LINES,
+        3 => EVENT_LINES,
+        4 => POSTED_LINES + 6,
+        5 => ACTIVE_LINE,
+        _ => READY_LINES + 5,
+    }
+}
+
 // The last number that a byte holds: as a line's length, and as one who stands there.
 pub(crate) fn lines(n: u32) -> Change {
     match n {
-        1 => Change::Byte(SEMAPHORE_LINES, 0, 255),
-        2 => Change::Byte(MAILBOX_LINES, 0, 255),
-        3 => Change::Byte(EVENT_LINES, 0, 255),
-        4 => Change::Byte(POSTED_LINES + 6, 0, 255),
-        5 => Change::Byte(ACTIVE_LINE, 0, 255),
-        6 => Change::Byte(READY_LINES + 5, 0, 255),
-        7 => Change::Byte(SEMAPHORE_LINES, 1, 255),
-        8 => Change::Byte(MAILBOX_LINES, 1, 255),
-        9 => Change::Byte(EVENT_LINES, 1, 255),
-        10 => Change::Byte(POSTED_LINES + 6, 1, 255),
-        11 => Change::Byte(ACTIVE_LINE, 1, 255),
+        1..=6 => Change::Byte(line_of(n), 0, 255),
+        7..=11 => Change::Byte(line_of(n - 6), 1, 255),
         12 => Change::Byte(ACTIVE_LINE, 2, 255),
         13 => Change::Byte(READY_LINES + 5, 1, 255),
         14 => Change::Byte(READY_LINES, 1, 255),

@@ -4,32 +4,24 @@ use super::places::EVENT_LINES;
 use super::places::FIRST_TICKS;
 use super::places::MAILBOX_LINES;
 use super::places::NAMED;
-use super::places::PERIOD;
 use super::places::SECOND;
 use super::places::SEMAPHORE_LINES;
-use super::places::TICKS_LEFT;
 use rules::numbers::BITS;
 use rules::numbers::CAPACITY;
 use rules::numbers::COUNT;
-use rules::numbers::INITIAL;
 use rules::numbers::KIND;
 use rules::numbers::MESSAGES;
 use rules::numbers::POSTED;
 use rules::numbers::PRIORITY;
 use rules::numbers::TAKEN;
-use rules::numbers::TRIGGER;
 use rules::numbers::USED;
 
 // "priority 0 to 15"; "fields without meaning at the time (.., the taken trigger of a Swi not active)"
 pub(crate) fn swis(n: u32) -> Change {
     match n {
         1 => Change::Swi(3, USED, 2),
-        // not in use
-        2 => Change::Swi(4, PRIORITY, 1),
-        3 => Change::Swi(4, INITIAL, 1),
-        4 => Change::Swi(4, TRIGGER, 1),
-        5 => Change::Swi(4, POSTED, 1),
-        6 => Change::Swi(4, TAKEN, 1),
+        // not in use: every word behind the first
+        2..=6 => Change::Swi(4, (n - 1) as usize, 1),
         7 => Change::Swi(3, PRIORITY, 16),
         8 => Change::Swi(3, POSTED, 2),
         9 => Change::Swi(3, TAKEN, 1),
@@ -93,9 +85,7 @@ pub(crate) fn clocks(n: u32) -> Change {
         1 => Change::Clock(0, USED, 2),
         // clock 2 is not in use
         2 => Change::Clock(2, NAMED, 3),
-        3 => Change::Clock(2, FIRST_TICKS, 1),
-        4 => Change::Clock(2, PERIOD, 1),
-        5 => Change::Clock(2, TICKS_LEFT, 1),
+        3..=5 => Change::Clock(2, FIRST_TICKS + (n - 3) as usize, 1),
         // a Swi that is not in use, and a number that is no Swi's, of a running clock and of a stopped one
         6 => Change::Clock(0, NAMED, 4),
         7 => Change::Clock(1, NAMED, 16),

@@ -43,13 +43,8 @@ pub(crate) fn states(n: u32) -> Change {
 pub(crate) fn idle(n: u32) -> Change {
     match n {
         1 => Change::Task(0, MODE, SLEEPING),
-        2 => Change::Task(0, PRIORITY, 1),
-        3 => Change::Task(0, OBJECT, 1),
-        4 => Change::Task(0, LEFT, 1),
-        5 => Change::Task(0, FIRST, 1),
-        6 => Change::Task(0, SECOND, 1),
-        7 => Change::Task(0, OUTCOME, 1),
-        8 => Change::Task(0, VALUE, 1),
+        // every word behind its mode
+        2..=8 => Change::Task(0, (n - 1) as usize, 1),
         _ => Change::Nothing,
     }
 }
@@ -93,38 +88,18 @@ pub(crate) fn levels(n: u32) -> Change {
 // "Records not in use are all 0, and so are fields without meaning at the time (.., an ended wait's data, ..)"
 pub(crate) fn without_meaning(n: u32) -> Change {
     match n {
-        // not in use
-        1 => Change::Task(10, PRIORITY, 1),
-        2 => Change::Task(10, OBJECT, 1),
-        3 => Change::Task(10, LEFT, 1),
-        4 => Change::Task(10, FIRST, 1),
-        5 => Change::Task(10, SECOND, 1),
-        6 => Change::Task(10, OUTCOME, 1),
-        7 => Change::Task(10, VALUE, 1),
-        // ready
-        8 => Change::Task(1, OBJECT, 1),
-        9 => Change::Task(1, LEFT, 1),
-        10 => Change::Task(1, FIRST, 1),
-        11 => Change::Task(1, SECOND, 1),
-        // terminated
-        12 => Change::Task(7, OBJECT, 1),
-        13 => Change::Task(7, LEFT, 1),
-        14 => Change::Task(7, FIRST, 1),
-        15 => Change::Task(7, SECOND, 1),
-        // inactive
-        16 => Change::Task(8, OBJECT, 1),
-        17 => Change::Task(8, LEFT, 1),
-        18 => Change::Task(8, FIRST, 1),
-        19 => Change::Task(8, SECOND, 1),
+        // not in use: every word behind the mode
+        1..=7 => Change::Task(10, n as usize, 1),
+        // ready, terminated, inactive: at no object, no ticks, no data
+        8..=11 => Change::Task(1, OBJECT + (n - 8) as usize, 1),
+        12..=15 => Change::Task(7, OBJECT + (n - 12) as usize, 1),
+        16..=19 => Change::Task(8, OBJECT + (n - 16) as usize, 1),
         // asleep: at no object, with no data
         20 => Change::Task(2, OBJECT, 1),
-        21 => Change::Task(2, FIRST, 1),
-        22 => Change::Task(2, SECOND, 1),
+        21..=22 => Change::Task(2, FIRST + (n - 21) as usize, 1),
         // at a semaphore, and a reader: no masks and no word; a writer: no second word
-        23 => Change::Task(3, FIRST, 1),
-        24 => Change::Task(3, SECOND, 1),
-        25 => Change::Task(5, FIRST, 1),
-        26 => Change::Task(5, SECOND, 1),
+        23..=24 => Change::Task(3, FIRST + (n - 23) as usize, 1),
+        25..=26 => Change::Task(5, FIRST + (n - 25) as usize, 1),
         27 => Change::Task(6, SECOND, 1),
         _ => Change::Nothing,
     }
@@ -134,15 +109,9 @@ pub(crate) fn without_meaning(n: u32) -> Change {
 pub(crate) fn waits(n: u32) -> Change {
     match n {
         1 => Change::Task(2, LEFT, 0),
-        2 => Change::Task(2, LEFT, FOREVER),
-        3 => Change::Task(3, LEFT, FOREVER),
-        4 => Change::Task(4, LEFT, FOREVER),
-        5 => Change::Task(5, LEFT, FOREVER),
-        6 => Change::Task(6, LEFT, FOREVER),
+        2..=6 => Change::Task(n as usize, LEFT, FOREVER),
         7 => Change::Task(3, OBJECT, 16),
-        8 => Change::Task(4, OBJECT, 8),
-        9 => Change::Task(5, OBJECT, 8),
-        10 => Change::Task(6, OBJECT, 8),
+        8..=10 => Change::Task((n - 4) as usize, OBJECT, 8),
         // at an event: "both masks 0 is 4"
         11 => Change::Task(4, FIRST, 0),
         _ => Change::Nothing,

@@ -28,11 +28,7 @@ pub(crate) const OUTCOME: usize = 6;
 
 pub(crate) const VALUE: usize = 7;
 
-// A clock's words.
+// A clock's words; behind its first ticks stand its period and the ticks that are left.
 pub(crate) const NAMED: usize = 1;
 
 pub(crate) const FIRST_TICKS: usize = 2;
-
-pub(crate) const PERIOD: usize = 3;
-
-pub(crate) const TICKS_LEFT: usize = 4;

@@ -1,4 +1,5 @@
--- Two answers that `Put` allows are equal: the buffer and the end of the text. And two that `FrontOf` allows: the bytes and the place, which with their number is what a slice is.
+-- Two answers that `Put` allows are equal: the buffer and the end of the text. And two that `FrontOf` allows: the bytes and the place,
+-- which with their number is what a slice is.
 use Prim.Native.Nat.{ℕ}
 use mathlib.Core.Path.{_≡_, sym, _∙_}
 use mathlib.Core.List.{List}

@@ -3,7 +3,7 @@ use Prim.Native.Nat.{ℕ}
 use mathlib.Core.Path.{_≡_, refl}
 use mathlib.Core.List.{List, [], _∷_, _++_}
 use Rattle.basics.specs.Lists.{zeros}
-use Rattle.rules.specs.Answer.{answer}
+use Rattle.rules.specs.Answer.{answer, asked}
 use Rattle.rules.specs.Tables.{forever}
 use Rattle.rules.specs.Lines.{semaphoreLine, mailboxLine, postedLine, activeLine}
 use Rattle.rules.specs.Fresh.{fresh}
@@ -36,7 +36,7 @@ swiAt trigger posted = 1 ∷ 0 ∷ 0 ∷ trigger ∷ posted ∷ 0 ∷ []
 
 -- an accepted call, and a refused one
 abbrev pub made : ℕ → ℕ → Made
-made number code = record { n = 1; number = number; a = 0; b = 0; c = 0; d = 0; answer = answer code 0 0; thread = Task 0 }
+made number code = record { n = 1; asked = asked number 0 0 0 0; answer = answer code 0 0; thread = Task 0 }
 
 -- Swi 3 is active
 abbrev pub active3 : List ℕ
@@ -53,7 +53,7 @@ abbrev pub sample : Tables
 sample = step (step fresh 0x00 5 0 0 0 .tables) 0x20 0 0 0 0 .tables
 
 abbrev pub pended : Made
-pended = record { n = 3; number = 0x22; a = 0; b = forever; c = 0; d = 0; answer = answer 0 2 0; thread = Task 0 }
+pended = record { n = 3; asked = asked 0x22 0 forever 0 0; answer = answer 0 2 0; thread = Task 0 }
 
 pub record Sentences : Type 0 where
   -- "Each number .. is followed by a space, and each part but the last by `; `."

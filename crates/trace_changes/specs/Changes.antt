@@ -9,7 +9,7 @@ use Rattle.basics.specs.Find.{allBelow}
 use Rattle.rules.specs.Rows.{field}
 use Rattle.rules.specs.Tables.{TaskTable, LineTable, SemaphoreTable, EventTable, MailboxTable, SwiTable, ClockTable, HeapMap, StateRow, taskCount, swiCount}
 use Rattle.rules.specs.Tables.{swiWidth, semaphoreCount, semaphoreWidth, eventCount, eventWidth, mailboxCount, mailboxWidth, clockCount, clockWidth, heapUnits}
-use Rattle.rules.specs.Tables.{task, swi, mailbox, messages, clock, state, TRIGGER, POSTED, CAPACITY, DEPTH, SWIS, TASKS, TICK, CURRENT, LEVELS}
+use Rattle.rules.specs.Tables.{task, swi, mailbox, messages, clock, state, TRIGGER, POSTED, CAPACITY, DEPTH, SWIS, TASKS, TICK, CURRENT, LEVELS, swiLevels}
 use Rattle.rules.specs.Lines.{line, semaphoreLine, eventLine, mailboxLine, postedLine, activeLine}
 use Rattle.rules.specs.Swis.{top, oneDown, cleared}
 use Rattle.rules.specs.Tick.{aged}
@@ -56,7 +56,7 @@ callPosts ws number a b =
 
 -- "'Clock' is .. 16 where the call itself posts."
 abbrev pub callClock : ℕ
-callClock = 16
+callClock = clockCount
 
 unfoldable pub callPost : SwiTable → ℕ → ℕ → ℕ → List ℕ
 callPost ws number a b = told (callPosts ws number a b) (post callClock a (isPosted ws a))
@@ -77,25 +77,25 @@ unfoldable pub clockPosts : ClockTable → SwiTable → List ℕ
 clockPosts cs ws = eachBelow clockCount (clockPost cs ws)
 
 abbrev pub isTick : Made → Bool
-isTick q = eqb (q .answer .code) 0 && eqb (q .number) 0x76
+isTick q = eqb (q .answer .code) 0 && eqb (q .asked .number) 0x76
 
 unfoldable pub postsMade : Made → ClockTable → SwiTable → List ℕ
 postsMade q cs ws =
-    told (eqb (q .answer .code) 0) (if (eqb (q .number) 0x76) (clockPosts cs ws) (callPost ws (q .number) (q .a) (q .b)))
+    told (eqb (q .answer .code) 0) (if (eqb (q .asked .number) 0x76) (clockPosts cs ws) (callPost ws (q .asked .number) (q .asked .a) (q .asked .b)))
 
 -- ---- 5 "the Swi that dispatch started, if one was: number"
 -- A Swi that starts is the top active one, and call 17 takes the one that ends away first: "a Swi that was active and ended may be started anew
 -- by the same call".
 unfoldable pub isStarted : Made → LineTable → MailboxTable → Bool
 isStarted q ls ms =
-    eqb (q .answer .code) 0 && ltb (length (line ls activeLine)) (length (line ms activeLine) + bit (eqb (q .number) 0x17))
+    eqb (q .answer .code) 0 && ltb (length (line ls activeLine)) (length (line ms activeLine) + bit (eqb (q .asked .number) 0x17))
 
 unfoldable pub startedSwi : Made → LineTable → MailboxTable → List ℕ
 startedSwi q ls ms = told (isStarted q ls ms) (top ms ∷ [])
 
 -- ---- 6 "the posted Swis: numbers, the highest priority first, each queue from its front"
 unfoldable pub postedSwis : LineTable → List ℕ
-postedSwis ls = eachBelow 16 (λ k. line ls (postedLine (15 - k)))
+postedSwis ls = eachBelow swiLevels (λ k. line ls (postedLine (swiLevels - 1 - k)))
 
 -- ---- 7 "the active Swis: numbers, the top one last"
 abbrev pub activeSwis : LineTable → List ℕ

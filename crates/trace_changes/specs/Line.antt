@@ -1,10 +1,10 @@
 -- The line of a record (docs/TRACE.md): "A line has thirteen parts. Each number or thread is followed by a space, and each part but the last by `; `.
 -- All thirteen are always there; a part with nothing to tell is empty."
-use Prim.Native.Nat.{ℕ, _+_, _*_, _≤_, _<_}
+use Prim.Native.Nat.{ℕ, _+_, _*_, _≤_, _<_, suc}
 use mathlib.Core.List.{List, [], _∷_, _++_}
 use lib.ListN.{length, getD}
 use Rattle.rules.specs.Text.{space, lineFeed, threadText}
-use Rattle.rules.specs.Tables.{LineTable, StateRow, wordEnd, state, TICK}
+use Rattle.rules.specs.Tables.{LineTable, StateRow, wordEnd, state, TICK, taskCount, swiCount, semaphoreCount, eventCount, mailboxCount, clockCount, swiLevels}
 use Rattle.rules.specs.Dispatch.{running}
 use Rattle.rules.specs.declared.Tables.{Tables}
 use Rattle.text.specs.Put.{Put}
@@ -19,7 +19,7 @@ unfoldable pub callText : Made → LineTable → StateRow → List ℕ
 callText q ls st =
     columns (q .n ∷ state st TICK ∷ [])
     ++ ((threadText (running ls st) ++ space)
-    ++ (columns (q .number ∷ q .a ∷ q .b ∷ q .c ∷ q .d ∷ q .answer .code ∷ q .answer .outcome ∷ q .answer .value ∷ [])
+    ++ (columns (q .asked .number ∷ q .asked .a ∷ q .asked .b ∷ q .asked .c ∷ q .asked .d ∷ q .answer .code ∷ q .answer .outcome ∷ q .answer .value ∷ [])
     ++ (threadText (q .thread) ++ space)))
 
 -- 2 to 13: of the tables t before the call and u after it
@@ -69,7 +69,9 @@ pub record Typical (ts ls ss es bs ws cs : List ℕ) : Type 0 where
 -- call and state 380; 32 tasks of 70; 16 posts of 29, a start 21, Swis in 17 lines of 128; 16 semaphores of 169, 8 events of 158, 8 mailboxes of 239;
 -- 16 Swis of 70, 16 clocks of 59; the heap 42; bars and line feed 25: 13,292 bytes
 abbrev pub lineMost : ℕ
-lineMost = 380 + 32 * 70 + 16 * 29 + 21 + 17 * 128 + 16 * 169 + 8 * 158 + 8 * 239 + 16 * 70 + 16 * 59 + 42 + 25
+lineMost =
+    380 + taskCount * 70 + clockCount * 29 + 21 + suc swiLevels * 128 + semaphoreCount * 169 + eventCount * 158 + mailboxCount * 239 + swiCount * 70
+    + clockCount * 59 + 42 + 25
 
 -- a line at a place of text xs gives ys and ends at r, and no line is longer than that
 pub record Lined (xs : List ℕ) (at : ℕ) (line : List ℕ) (ys : List ℕ) (r : ℕ) : Type 0 where

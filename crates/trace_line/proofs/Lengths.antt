@@ -10,8 +10,9 @@ use lib.Dec.{eqb, ltb}
 use lib.ListN.{length, getD, length-append}
 use Rattle.basics.specs.Lists.{bit}
 use Rattle.rules.specs.Rows.{field, listed}
-use Rattle.rules.specs.Tables.{task, clock, messages, state, TICK}
-use Rattle.rules.specs.Lines.{line, lineCount, mailboxLine, activeLine}
+use Rattle.rules.specs.Tables.{taskCount, taskWidth, swiCount, swiWidth, swiLevels, semaphoreCount, semaphoreWidth, eventCount, eventWidth, clockCount}
+use Rattle.rules.specs.Tables.{clockWidth, mailboxCount, mailboxWidth, mailboxMost, CAPACITY, MESSAGES, task, clock, messages, state, TICK}
+use Rattle.rules.specs.Lines.{line, lineCount, lineWidth, lineMost as lineRoom, semaphoreLine, mailboxLine, eventLine, activeLine}
 use Rattle.rules.specs.Swis.{top}
 use Rattle.rules.specs.Dispatch.{running}
 use Rattle.rules.specs.Text.{digits, decimal}
@@ -22,8 +23,11 @@ use Rattle.rules_laws.proofs.Lines.{line-in, line-out, line-le}
 use Rattle.rules_laws.proofs.Calls.{chosen}
 use Rattle.text.proofs.Lengths.{decimal-most, thread-most}
 use Rattle.trace_changes.specs.Numbers.{columns, eachBelow, sameList, told}
-use Rattle.trace_changes.specs.Changes.{row, sameRow, waiting, stateNow, sameTask, taskNumbers, changedTasks, post, isPosted, callClock, callPosts, callPost, runsOut, postedBelow, clockPost, clockPosts, isTick, postsMade}
-use Rattle.trace_changes.specs.Changes.{isStarted, startedSwi, postedSwis, changedLined, sameMailbox, changedMailboxes, mailboxNumbers, changedRows, ranOut, changedClocks, sameHeap, blocks, unitsTaken, changedHeap}
+use Rattle.trace_changes.specs.Changes.{row, sameRow, waiting, stateNow, sameTask, taskNumbers, changedTasks, post, isPosted, callClock, callPosts}
+use Rattle.trace_changes.specs.Changes.{callPost, runsOut}
+use Rattle.trace_changes.specs.Changes.{postedBelow, clockPost, clockPosts, isTick, postsMade}
+use Rattle.trace_changes.specs.Changes.{isStarted, startedSwi, postedSwis, changedLined, sameMailbox, changedMailboxes, mailboxNumbers}
+use Rattle.trace_changes.specs.Changes.{changedRows, ranOut, changedClocks, sameHeap, blocks, unitsTaken, changedHeap}
 use Rattle.trace_changes.specs.Line.{callText, barred, parts, traceLine, Under, Typical, lineMost}
 use Rattle.trace_changes.specs.declared.Made.{Made}
 use Rattle.trace_changes.proofs.Telling.{columns-append}
@@ -110,22 +114,22 @@ line-most ls j h =
     by-range j lineCount
     (λ l.
     rw (line-in ls j l)
-    (members-most (listed 32 ls (j * 33)) 32 4 (listed-le 32 ls (j * 33))
-    (λ k g. let d = byte-most _ (listed-under 256 32 ls (j * 33) k h g) in omega arith)))
+    (members-most (listed lineRoom ls (j * lineWidth)) lineRoom 4 (listed-le lineRoom ls (j * lineWidth))
+    (λ k g. let d = byte-most _ (listed-under 256 lineRoom ls (j * lineWidth) k h g) in omega arith)))
     (λ l. rw (line-out ls j l) (omega (arith, columns-nil)))
 
-messages-few : (ms : List ℕ) (i : ℕ) → length (messages ms i) ≤ 8
+messages-few : (ms : List ℕ) (i : ℕ) → length (messages ms i) ≤ mailboxMost
 unfolding messages
 messages-few ms i =
-    chosen (λ (xs : List ℕ). length xs ≤ 8) (ltb i 8) _ _ (λ _. listed-le 8 ms (i * 10 + 1)) (λ _. omega arith)
+    chosen (λ (xs : List ℕ). length xs ≤ mailboxMost) (ltb i mailboxCount) _ _ (λ _. listed-le mailboxMost ms (i * mailboxWidth + MESSAGES)) (λ _. omega arith)
 
 messages-most : (ms : List ℕ) (i : ℕ) → Under 4294967296 ms → length (columns (messages ms i)) ≤ 88
 unfolding messages
 messages-most ms i h =
-    chosen (λ (xs : List ℕ). length (columns xs) ≤ 88) (ltb i 8) _ _
+    chosen (λ (xs : List ℕ). length (columns xs) ≤ 88) (ltb i mailboxCount) _ _
     (λ _.
-    members-most (listed 8 ms (i * 10 + 1)) 8 11 (listed-le 8 ms (i * 10 + 1))
-    (λ k g. let d = word-most _ (listed-under 4294967296 8 ms (i * 10 + 1) k h g) in omega arith))
+    members-most (listed mailboxMost ms (i * mailboxWidth + MESSAGES)) mailboxMost 11 (listed-le mailboxMost ms (i * mailboxWidth + MESSAGES))
+    (λ k g. let d = word-most _ (listed-under 4294967296 mailboxMost ms (i * mailboxWidth + MESSAGES) k h g) in omega arith))
     (λ _. omega (arith, columns-nil))
 
 row-most : (w n : ℕ) (t : List ℕ) (i : ℕ) → Under 4294967296 t → length (columns (row w n t i)) ≤ w * 11
@@ -141,13 +145,13 @@ state-most : (st : List ℕ) → length (columns (stateNow st)) ≤ 126
 unfolding stateNow
 state-most st = long _ _ 105 (long _ _ 84 (long _ _ 63 (long _ _ 42 (long _ _ 21 (long _ [] 0 (omega (arith, columns-nil)))))))
 
-task-under : (ts : List ℕ) (i f : ℕ) → Under 4294967296 ts → field 8 32 ts i f < 4294967296
-task-under ts i f h = field-under 8 32 ts i f h
+task-under : (ts : List ℕ) (i f : ℕ) → Under 4294967296 ts → field taskWidth taskCount ts i f < 4294967296
+task-under ts i f h = field-under taskWidth taskCount ts i f h
 
-tasks-most : (ts us : List ℕ) → Under 4294967296 us → length (columns (changedTasks ts us)) ≤ 32 * 70
+tasks-most : (ts us : List ℕ) → Under 4294967296 us → length (columns (changedTasks ts us)) ≤ taskCount * 70
 unfolding changedTasks taskNumbers task
 tasks-most ts us h =
-    each-most 32 _ 70
+    each-most taskCount _ 70
     (λ i l.
     perhaps (not (sameTask (task ts i) (task us i))) _ 70
     (small i _ 66 (omega arith)
@@ -163,23 +167,23 @@ posts-most : (q : Made) (cs ws : List ℕ) → length (columns (postsMade q cs w
 unfolding postsMade clockPosts clockPost callPost
 posts-most q cs ws =
     perhaps (eqb (q .answer .code) 0) _ 464
-    (chosen (λ (xs : List ℕ). length (columns xs) ≤ 464) (eqb (q .number) 0x76) _ _
+    (chosen (λ (xs : List ℕ). length (columns xs) ≤ 464) (eqb (q .asked .number) 0x76) _ _
     (λ _.
-    each-most 16 _ 29
+    each-most clockCount _ 29
     (λ c l.
     let i = clock cs c .swi in
     perhaps (runsOut cs c) _ 29 (post-most c i (isPosted ws i || postedBelow cs i c) (omega arith))))
     (λ _.
-    let one = post-most callClock (q .a) (isPosted ws (q .a)) (omega arith) in
-    perhaps (callPosts ws (q .number) (q .a) (q .b)) (post callClock (q .a) (isPosted ws (q .a))) 464 (omega arith)))
+    let one = post-most callClock (q .asked .a) (isPosted ws (q .asked .a)) (omega arith) in
+    perhaps (callPosts ws (q .asked .number) (q .asked .a) (q .asked .b)) (post callClock (q .asked .a) (isPosted ws (q .asked .a))) 464 (omega arith)))
 
 started-most : (q : Made) (ls ms : List ℕ) → length (columns (startedSwi q ls ms)) ≤ 21
 unfolding startedSwi
 started-most q ls ms = perhaps (isStarted q ls ms) (top ms ∷ []) 21 (long _ [] 0 (omega (arith, columns-nil)))
 
-posted-most : (ls : List ℕ) → Under 256 ls → length (columns (postedSwis ls)) ≤ 16 * 128
+posted-most : (ls : List ℕ) → Under 256 ls → length (columns (postedSwis ls)) ≤ swiLevels * 128
 unfolding postedSwis
-posted-most ls h = each-most 16 _ 128 (λ k l. line-most ls _ h)
+posted-most ls h = each-most swiLevels _ 128 (λ k l. line-most ls _ h)
 
 lined-most : (w n from : ℕ) (t ls u ms : List ℕ) → n ≤ 32 → Under 4294967296 u → Under 256 ms
     → length (columns (changedLined w n from t ls u ms)) ≤ n * (4 + (w * 11 + 132))
@@ -190,14 +194,14 @@ lined-most w n from t ls u ms few h g =
     perhaps (not (sameRow w n t u i && sameList (line ls (from + i)) (line ms (from + i)))) _ _
     (small i _ _ (omega arith) (both (row w n u i) _ _ _ (row-most w n u i h) (waiting-most ms (from + i) g))))
 
-mailboxes-most : (bs ls ds ms : List ℕ) → Under 4294967296 ds → Under 256 ms → length (columns (changedMailboxes bs ls ds ms)) ≤ 8 * 239
+mailboxes-most : (bs ls ds ms : List ℕ) → Under 4294967296 ds → Under 256 ms → length (columns (changedMailboxes bs ls ds ms)) ≤ mailboxCount * 239
 unfolding changedMailboxes mailboxNumbers
 mailboxes-most bs ls ds ms h g =
-    each-most 8 _ 239
+    each-most mailboxCount _ 239
     (λ i l.
     perhaps (not (sameMailbox bs ls ds ms i)) _ 239
     (small i _ 235 (omega arith)
-    (word _ _ 224 (field-under 10 8 ds i 0 h)
+    (word _ _ 224 (field-under mailboxWidth mailboxCount ds i CAPACITY h)
     (small (length (messages ds i)) _ 220 (omega (arith, messages-few ds i))
     (both (messages ds i) _ 88 132 (messages-most ds i h) (waiting-most ms (mailboxLine i) g))))))
 
@@ -205,12 +209,12 @@ rows-most : (w n : ℕ) (t u : List ℕ) → n ≤ 32 → Under 4294967296 u →
 unfolding changedRows
 rows-most w n t u few h = each-most n _ _ (λ i l. perhaps (not (sameRow w n t u i)) _ _ (small i _ _ (omega arith) (row-most w n u i h)))
 
-clocks-most : (q : Made) (cs ds : List ℕ) → Under 4294967296 ds → length (columns (changedClocks q cs ds)) ≤ 16 * 59
+clocks-most : (q : Made) (cs ds : List ℕ) → Under 4294967296 ds → length (columns (changedClocks q cs ds)) ≤ clockCount * 59
 unfolding changedClocks ranOut
 clocks-most q cs ds h =
-    chosen (λ (xs : List ℕ). length (columns xs) ≤ 16 * 59) (isTick q) _ _
-    (λ _. each-most 16 _ 59 (λ i l. perhaps (runsOut cs i) _ 59 (small i _ 55 (omega arith) (row-most 5 16 ds i h))))
-    (λ _. rows-most 5 16 cs ds (omega arith) h)
+    chosen (λ (xs : List ℕ). length (columns xs) ≤ clockCount * 59) (isTick q) _ _
+    (λ _. each-most clockCount _ 59 (λ i l. perhaps (runsOut cs i) _ 59 (small i _ 55 (omega arith) (row-most clockWidth clockCount ds i h))))
+    (λ _. rows-most clockWidth clockCount cs ds (omega arith) h)
 
 heap-most : (h k : List ℕ) → length (columns (changedHeap h k)) ≤ 42
 unfolding changedHeap
@@ -221,7 +225,7 @@ call-most : (q : Made) (ls st : List ℕ) → length (callText q ls st) ≤ 254
 unfolding callText
 call-most q ls st =
     let first = long (q .n) (state st TICK ∷ []) 21 (long _ [] 0 (omega (arith, columns-nil))) in
-    let asked : length (columns (q .number ∷ q .a ∷ q .b ∷ q .c ∷ q .d ∷ q .answer .code ∷ q .answer .outcome ∷ q .answer .value ∷ [])) ≤ 168 =
+    let asked : length (columns (q .asked .number ∷ q .asked .a ∷ q .asked .b ∷ q .asked .c ∷ q .asked .d ∷ q .answer .code ∷ q .answer .outcome ∷ q .answer .value ∷ [])) ≤ 168 =
     long _ _ 147 (long _ _ 126 (long _ _ 105 (long _ _ 84 (long _ _ 63 (long _ _ 42 (long _ _ 21 (long _ [] 0 (omega (arith, columns-nil))))))))) in
     simp length-append (omega (arith, thread-most (running ls st), thread-most (q .thread)))
 
@@ -236,10 +240,14 @@ trace-most q t u typical =
     let started = started-most q (t .lines) (u .lines) in
     let posted = posted-most (u .lines) (typical .lines) in
     let active = line-most (u .lines) activeLine (typical .lines) in
-    let semaphores = lined-most 3 16 0 (t .semaphores) (t .lines) (u .semaphores) (u .lines) (omega arith) (typical .semaphores) (typical .lines) in
-    let events = lined-most 2 8 24 (t .events) (t .lines) (u .events) (u .lines) (omega arith) (typical .events) (typical .lines) in
+    let semaphores =
+    lined-most semaphoreWidth semaphoreCount (semaphoreLine 0) (t .semaphores) (t .lines) (u .semaphores) (u .lines) (omega arith)
+    (typical .semaphores) (typical .lines) in
+    let events =
+    lined-most eventWidth eventCount (eventLine 0) (t .events) (t .lines) (u .events) (u .lines) (omega arith)
+    (typical .events) (typical .lines) in
     let mailboxes = mailboxes-most (t .mailboxes) (t .lines) (u .mailboxes) (u .lines) (typical .mailboxes) (typical .lines) in
-    let swis = rows-most 6 16 (t .swis) (u .swis) (omega arith) (typical .swis) in
+    let swis = rows-most swiWidth swiCount (t .swis) (u .swis) (omega arith) (typical .swis) in
     let clocks = clocks-most q (t .clocks) (u .clocks) (typical .clocks) in
     let heap = heap-most (t .heap) (u .heap) in
     simp length-append (omega arith)

@@ -1,5 +1,6 @@
 // The line of a record in the trace: its parts one after the other, in a lent text.
 use rules::Answer;
+use rules::Call;
 use rules::Clocks;
 use rules::Events;
 use rules::Heap;
@@ -61,14 +62,14 @@ fn put_thread(out: &mut Text, at: usize, thread: Thread) -> usize
 }
 
 // The call as it was asked.
-fn put_asked(out: &mut Text, at: usize, made: Made) -> usize
-    ensures { λ r. ⌜ PutNumbers out at (made .number ∷ made .a ∷ made .b ∷ made .c ∷ made .d ∷ []) r ⌝ }
+fn put_asked(out: &mut Text, at: usize, asked: Call) -> usize
+    ensures { λ r. ⌜ PutNumbers out at (asked .number ∷ asked .a ∷ asked .b ∷ asked .c ∷ asked .d ∷ []) r ⌝ }
 {
-    let a = put(out, at, made.number);
-    let b = put(out, a, made.a);
-    let c = put(out, b, made.b);
-    let d = put(out, c, made.c);
-    put(out, d, made.d)
+    let a = put(out, at, asked.number);
+    let b = put(out, a, asked.a);
+    let c = put(out, b, asked.b);
+    let d = put(out, c, asked.c);
+    put(out, d, asked.d)
 }
 
 // Its answer.
@@ -87,7 +88,8 @@ fn put_call(out: &mut Text, at: usize, made: Made, lines: &Lines, state: &State)
     let tick = put_long(out, at, made.n);
     let caller = put(out, tick, state[TICK]);
     let asked = put_thread(out, caller, dispatch::running(lines, state));
-    let answered = put_asked(out, asked, made);
+    let call = made.asked;
+    let answered = put_asked(out, asked, call);
     let answer = made.answer;
     let now = put_answer(out, answered, answer);
     let thread = made.thread;

@@ -232,7 +232,8 @@ pub fn put_clocks(out: &mut Text, at: usize, made: Made, before: &Clocks, clocks
     ensures { λ r. ⌜ PutNumbers out at (changedClocks made (old before) (old clocks)) r ⌝ }
 {
     let answer = made.answer;
-    if (answer.code == 0) & (made.number == 0x76) {
+    let asked = made.asked;
+    if (answer.code == 0) & (asked.number == 0x76) {
         return put_ran_out(out, at, before, clocks);
     }
     put_rows(out, at, before, clocks, CLOCK_WIDTH_U8, CLOCK_ROWS_U8)

@@ -178,10 +178,11 @@ pub fn put_posts(out: &mut Text, at: usize, made: Made, clocks: &Clocks, swis: &
     if answer.code != 0 {
         return at;
     }
-    if made.number == 0x76 {
+    let asked = made.asked;
+    if asked.number == 0x76 {
         return put_clock_posts(out, at, clocks, swis);
     }
-    put_call_post(out, at, swis, made.number, made.a, made.b)
+    put_call_post(out, at, swis, asked.number, asked.a, asked.b)
 }
 
 // ---- Swis
@@ -191,7 +192,8 @@ fn is_started(made: Made, before: &Lines, lines: &Lines) -> bool
     ensures { λ r. ⌜ r ≡ isStarted made (old before) (old lines) ⌝ }
 {
     let answer = made.answer;
-    let ended = basics::index(bit(made.number == 0x17));
+    let asked = made.asked;
+    let ended = basics::index(bit(asked.number == 0x17));
     (answer.code == 0) & (lines::len(before, ACTIVE_LINE) < lines::len(lines, ACTIVE_LINE) + ended)
 }
 

@@ -1,4 +1,5 @@
 -- The active Swis between a call's effect and dispatch: as many as before, and one fewer after call 17.
+-- In this order: what stays of the active Swis; a Swi is posted; calls 10 to 18; and every call.
 use Prim.Native.Nat.{ℕ, _+_, _-_, _≤_, _<_}
 use mathlib.Core.Path.{_≡_, refl, sym, ap, _∙_}
 use mathlib.Core.Logic.{_≢_}
@@ -11,9 +12,9 @@ use lib.ListN.{length}
 use lib.Seq.{length-take-le}
 use Rattle.basics.specs.Lists.{bit}
 use Rattle.basics.specs.Rule.{Means}
-use Rattle.rules.specs.Tables.{Typed, swiCount, taskCount, clockCount, swi, task, clock, state, levels, PRIORITY, TRIGGER, POSTED, CURRENT}
+use Rattle.rules.specs.Tables.{Typed, swiCount, taskCount, clockCount, swi, task, clock, state, levels, PRIORITY, TRIGGER, POSTED, CURRENT, swiLevels}
 use Rattle.rules.specs.Lines.{line, outOf, TaskQueues, taskQueues, atBack, postedLine, activeLine}
-use Rattle.rules.specs.Answer.{Cases, Effect, CallRule, called, codeOf, unknown}
+use Rattle.rules.specs.Answer.{Cases, Effect, CallRule, called, codeOf, unknown, rangeSize}
 use Rattle.rules.specs.Dispatch.{context}
 use Rattle.rules.specs.Sound.{Sound, tasksRule}
 use Rattle.rules.specs.Step.{inRange, over, callOf, withQueued, withPosts, withSemaphores, withEvents, withMailboxes, withClocks, withHeap, withTicked}
@@ -64,7 +65,7 @@ module _ {A : Type 0} {linesOf : A → List ℕ} {number : ℕ} {ls : List ℕ} 
 
 -- ---- a Swi is posted: its line is another
 record Low (ls : List ℕ) (p : SwiQueues) : Type 0 where
-  low : (x : ℕ) → swi (p .swis) x PRIORITY < 16
+  low : (x : ℕ) → swi (p .swis) x PRIORITY < swiLevels
   same : line (p .lines) activeLine ≡ line ls activeLine
 
 module _ (ls : List ℕ) (p : SwiQueues) (k : Low ls p) where
@@ -175,8 +176,8 @@ module _ (t : Tables) (typed : Typed t) (s : Sound t) where
         (numbered (eqb number 0x78) (λ e. alone 0x78 e (λ z. omega arith) refl) (nothing _)))))
 
     -- ---- the calls of a kind whose range has no 17 leave the active ones alone
-    within : (from : ℕ) → inRange number from ≡ true → (from ≤ number) × (number < from + 16)
-    within from e = let both = and-eq-true-iff (leb from number) (ltb number (from + 16)) .0 e in (leb-true _ _ (both .0), ltb-true _ _ (both .1))
+    within : (from : ℕ) → inRange number from ≡ true → (from ≤ number) × (number < from + rangeSize)
+    within from e = let both = and-eq-true-iff (leb from number) (ltb number (from + rangeSize)) .0 e in (leb-true _ _ (both .0), ltb-true _ _ (both .1))
 
     abbrev Kind : CallRule Tables → Type 0
     Kind c = Leaves (λ (u : Tables). u .lines) number (t .lines) c

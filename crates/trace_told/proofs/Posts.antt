@@ -1,5 +1,5 @@
 -- Posts that are told are posts that were made: at a tick, clock by clock, and of the calls 12 to 16.
-use Prim.Native.Nat.{ℕ, zero, suc, _+_, _≤_, _<_}
+use Prim.Native.Nat.{ℕ, zero, suc, _+_, _≤_, _<_, _*_}
 use mathlib.Core.Path.{_≡_, refl, sym, ap, _∙_}
 use mathlib.Core.Logic.{_≢_, _⊎_, inl, inr, ⊎-elim}
 use mathlib.Core.Bool.{Bool, true, false, not, _&&_, _||_, cond as if, or-false, or-true, or-assoc, and-true, and-false}
@@ -11,7 +11,7 @@ use lib.Dec.{eqb, ltb}
 use lib.ListN.{length}
 use Rattle.basics.specs.Find.{allBelow, rising}
 use Rattle.basics.proofs.Laws.{same?}
-use Rattle.rules.specs.Tables.{Typed, swiCount, clockCount, swi, withSwi, clock, withClock, USED, POSTED, TRIGGER}
+use Rattle.rules.specs.Tables.{Typed, swiCount, clockCount, swi, withSwi, clock, withClock, USED, POSTED, TRIGGER, swiWidth}
 use Rattle.rules.specs.Swis.{SwiQueues, swiQueues, posted, triggered, oneUp, oneDown, cleared, postEffect, changeEffect, zeroEffect, swiCall}
 use Rattle.rules.specs.Tick.{ClockTables, clockTables, clockTick, clocksTicked, postedIf, aged}
 use Rattle.rules.specs.Sound.{Sound, clockRule}
@@ -25,7 +25,7 @@ use Rattle.trace_changes.specs.Changes.{post, isPosted, callPosts, runsOut, pos
 use Rattle.trace_told.specs.Told.{atTurn, postFound, PostsTold, PostTold}
 
 -- ---- one post: Swi i is posted now if it was, or if it is the one that is posted
-module _ (p : SwiQueues) (full : length (p .swis) ≡ 96) (j i : ℕ) (low : i < swiCount) where
+module _ (p : SwiQueues) (full : length (p .swis) ≡ swiCount * swiWidth) (j i : ℕ) (low : i < swiCount) where
   first-post : (j ≡ i) → swi (p .swis) j POSTED ≡ 0 → isPosted (withSwi (p .swis) j POSTED 1) i ≡ true
   first-post e z = rw (e, swi-same (p .swis) i POSTED 1 full low (omega arith))
 
@@ -36,7 +36,7 @@ module _ (p : SwiQueues) (full : length (p .swis) ≡ 96) (j i : ℕ) (low : i <
       (λ (e : j ≡ i).
       ⊎-elim
       (λ (z : swi (p .swis) j POSTED ≡ 0).
-      rw (lt-ltb j 16 (omega arith), eq-eqb (swi (p .swis) j POSTED) 0 z, first-post e z, eq-eqb j i e) (sym (or-true (isPosted (p .swis) i))))
+      rw (lt-ltb j swiCount (omega arith), eq-eqb (swi (p .swis) j POSTED) 0 z, first-post e z, eq-eqb j i e) (sym (or-true (isPosted (p .swis) i))))
       (λ (n : swi (p .swis) j POSTED ≢ 0).
       let there : isPosted (p .swis) i ≡ true = rw (← e, ne-eqb (swi (p .swis) j POSTED) 0 n) in
       rw (ne-eqb (swi (p .swis) j POSTED) 0 n, and-false (ltb j swiCount), there))
@@ -81,19 +81,19 @@ unfolding postedBelow allBelow
 below-more cs i c =
     not-both (allBelow c (λ n. not (runsOut cs n && eqb (clock cs n .swi) i))) (runsOut cs c && eqb (clock cs c .swi) i)
 
-module _ (cs ws ls : List ℕ) (full : length ws ≡ 96) where
+module _ (cs ws ls : List ℕ) (full : length ws ≡ swiCount * swiWidth) where
   -- a clock is at its turn as it was before
   later-same : (c n : ℕ) → c ≤ n → clock (atTurn cs ws ls c .clocks) n ≡ clock cs n
   unfolding rising clockTick
   later-same zero n l = refl
   later-same (suc c) n l = clock-other (atTurn cs ws ls c .clocks) c _ n (λ e. omega arith) ∙ later-same c n (omega arith)
 
-  still-full : (c : ℕ) → length (atTurn cs ws ls c .swis) ≡ 96
+  still-full : (c : ℕ) → length (atTurn cs ws ls c .swis) ≡ swiCount * swiWidth
   unfolding rising clockTick
   still-full zero = full
   still-full (suc c) =
       let x = atTurn cs ws ls c in
-      chosen (λ (q : SwiQueues). length (q .swis) ≡ 96) (aged (clock (x .clocks) c) .fired) _ _
+      chosen (λ (q : SwiQueues). length (q .swis) ≡ swiCount * swiWidth) (aged (clock (x .clocks) c) .fired) _ _
       (λ _. posted-full (swiQueues (x .swis) (x .lines)) (clock (x .clocks) c .swi) ∙ still-full c)
       (λ _. still-full c)
 
@@ -137,7 +137,7 @@ tick-told t typed sound =
     (same? (k .used) 0))
 
 -- ---- the calls 12 to 16
-module _ (ws ls : List ℕ) (full : length ws ≡ 96) (a i : ℕ) (low : i < swiCount) where
+module _ (ws ls : List ℕ) (full : length ws ≡ swiCount * swiWidth) (a i : ℕ) (low : i < swiCount) where
   -- the trigger is v now, and the Swi posted if b says so
   changed : (v : ℕ) (b : Bool)
       → isPosted ((if b (posted a (triggered a v (swiQueues ws ls))) (triggered a v (swiQueues ws ls))) .swis) i ≡ (isPosted ws i || (b && eqb a i))
@@ -167,7 +167,7 @@ module _ (ws ls : List ℕ) (full : length ws ≡ 96) (a i : ℕ) (low : i < swi
     unfolding swiCall zeroEffect callPosts
     is-16 = let v = cleared (swi ws a TRIGGER) b in changed v (eqb v 0)
 
-pub posts-told : (ws ls : List ℕ) → length ws ≡ 96 → (cs st : List ℕ) (x number a b c d : ℕ) → 0x12 ≤ number → number ≤ 0x16
+pub posts-told : (ws ls : List ℕ) → length ws ≡ swiCount * swiWidth → (cs st : List ℕ) (x number a b c d : ℕ) → 0x12 ≤ number → number ≤ 0x16
     → PostTold ws ls cs st x number a b c d
 posts-told ws ls full cs st x number a b c d from to =
     record {

@@ -10,7 +10,9 @@ use lib.ListN.{length, getD}
 use Rattle.basics.specs.Find.{allBelow}
 use Rattle.basics.proofs.Finds.{all-make}
 use Rattle.rules.specs.Rows.{field}
-use Rattle.rules.specs.Tables.{task}
+use Rattle.rules.specs.Tables.{task, taskCount, swiCount, swiWidth, eventCount, eventWidth, mailboxCount, mailboxWidth, clockCount, clockWidth, heapUnits}
+use Rattle.rules.specs.Tables.{semaphoreCount, semaphoreWidth}
+use Rattle.rules.specs.Lines.{semaphoreLine, eventLine}
 use Rattle.rules.specs.Heap.{unit}
 use Rattle.rules.specs.declared.Tables.{Tables}
 use Rattle.rules.specs.declared.Task.{Task}
@@ -42,11 +44,11 @@ same-row w n t i = all-make _ w (λ f l. is-self (field w n t i f))
 
 same-mailbox : (bs ls : List ℕ) (i : ℕ) → sameMailbox bs ls bs ls i ≡ true
 unfolding sameMailbox
-same-mailbox bs ls i = rw (same-row 10 8 bs i, same-list)
+same-mailbox bs ls i = rw (same-row mailboxWidth mailboxCount bs i, same-list)
 
 same-heap : (h : List ℕ) → sameHeap h h ≡ true
 unfolding sameHeap
-same-heap h = all-make _ 256 (λ u l. is-self (unit h u))
+same-heap h = all-make _ heapUnits (λ u l. is-self (unit h u))
 
 -- ---- so nothing is told
 each-empty : (n : ℕ) (f : ℕ → List ℕ) → ((i : ℕ) → f i ≡ []) → eachBelow n f ≡ []
@@ -56,7 +58,7 @@ each-empty (suc n) f h = rw (each-empty n f h, h n)
 
 no-tasks : (ts : List ℕ) → changedTasks ts ts ≡ []
 unfolding changedTasks
-no-tasks ts = each-empty 32 _ (λ i. rw (same-task (task ts i)))
+no-tasks ts = each-empty taskCount _ (λ i. rw (same-task (task ts i)))
 
 no-rows : (w n : ℕ) (t : List ℕ) → changedRows w n t t ≡ []
 unfolding changedRows
@@ -89,7 +91,7 @@ module _ (q : Made) (code : q .answer .code ≢ 0) where
 
   no-clocks : (cs : List ℕ) → changedClocks q cs cs ≡ []
   unfolding changedClocks
-  no-clocks cs = rw is-refused (no-rows 5 16 cs)
+  no-clocks cs = rw is-refused (no-rows clockWidth clockCount cs)
 
 pub refused-told : (t : Tables) (q : Call) → made t q .answer .code ≢ 0 → NothingTold t q
 unfolding parts
@@ -98,6 +100,7 @@ refused-told t q code =
     record {
       parts = λ n.
           rw (same, no-tasks (t .tasks), no-posts (givenOf n q (made t q)) code (t .clocks) (t .swis), no-start (givenOf n q (made t q)) code (t .lines) (t .lines))
-          (rw (no-lined 3 16 0 (t .semaphores) (t .lines), no-lined 2 8 24 (t .events) (t .lines), no-mailboxes (t .mailboxes) (t .lines))
-          (rw (no-rows 6 16 (t .swis), no-clocks (givenOf n q (made t q)) code (t .clocks), no-heap (t .heap))));
+          (rw (no-lined semaphoreWidth semaphoreCount (semaphoreLine 0) (t .semaphores) (t .lines))
+          (rw (no-lined eventWidth eventCount (eventLine 0) (t .events) (t .lines), no-mailboxes (t .mailboxes) (t .lines))
+          (rw (no-rows swiWidth swiCount (t .swis), no-clocks (givenOf n q (made t q)) code (t .clocks), no-heap (t .heap)))));
     }

@@ -1,5 +1,5 @@
 -- The Swi that is told as started is the one that dispatch started.
-use Prim.Native.Nat.{ℕ, suc, _+_, _-_, _≤_, _<_}
+use Prim.Native.Nat.{ℕ, suc, _+_, _-_, _≤_, _<_, _*_}
 use mathlib.Core.Path.{_≡_, refl, sym, ap, _∙_}
 use mathlib.Core.Logic.{_≢_}
 use mathlib.Core.Bool.{Bool, true, false, _&&_, cond as if, and-eq-true-iff}
@@ -13,7 +13,7 @@ use Rattle.basics.specs.Lists.{bit}
 use Rattle.basics.proofs.Laws.{putAt-back}
 use Rattle.rules.specs.Answer.{codeOf, Words}
 use Rattle.rules.specs.Tables.{Typed, swi}
-use Rattle.rules.specs.Lines.{line, frontOf, outOf, joined, atBack, postedLine, activeLine}
+use Rattle.rules.specs.Lines.{line, frontOf, outOf, joined, atBack, postedLine, activeLine, lineCount, lineWidth, lineMost}
 use Rattle.rules.specs.Swis.{SwiQueues, swiQueues, top}
 use Rattle.rules.specs.Dispatch.{context, highestPosted, activeLevel, swiDue, nextLine, started, swiDispatched, dispatched}
 use Rattle.rules.specs.Sound.{Sound}
@@ -38,7 +38,7 @@ use Rattle.trace_told.proofs.Actives.{Active, effect-active}
 use Rattle.rules.specs.declared.Call.{Call}
 
 -- ---- a Swi that starts is the top active one
-module _ (ls : List ℕ) (full : length ls ≡ 2673) (room : length (line ls activeLine) < 32) (i j : ℕ) (other : activeLine ≢ j) where
+module _ (ls : List ℕ) (full : length ls ≡ lineCount * lineWidth) (room : length (line ls activeLine) < lineMost) (i j : ℕ) (other : activeLine ≢ j) where
   now-active : line (joined activeLine i (outOf j i ls)) activeLine ≡ line ls activeLine ++ (i ∷ [])
   now-active =
       let same = left-other ls j i activeLine other in
@@ -58,7 +58,8 @@ dispatch-full ws ls st =
     (λ _. refl)
 
 -- ---- by the number of active ones: tables with lines ls, the call's effect with vs, and dispatch
-module _ (number : ℕ) (ls ws vs st : List ℕ) (full : length vs ≡ 2673) (room : length (line vs activeLine) < 32) (active : Active number ls vs) where
+module _ (number : ℕ) (ls ws vs st : List ℕ) (full : length vs ≡ lineCount * lineWidth)
+    (room : length (line vs activeLine) < lineMost) (active : Active number ls vs) where
   abbrev i : ℕ
   i = frontOf vs (nextLine vs)
 
@@ -100,7 +101,7 @@ module _ (t : Tables) (typed : Typed t) (s : Sound t) (q : Call) (w : Words q) (
       let outOf = effect-leaves (q .number) (callFor t q .effect) (effect-code t x (q .number) (q .a) (q .b) (q .c) (q .d)) in
       ap (λ (x : Step). x .tables .lines) done ∙ ap (λ (u : Tables). u .lines) outOf
 
-  still-full : length (effectOf t q .lines) ≡ 2673
+  still-full : length (effectOf t q .lines) ≡ lineCount * lineWidth
   still-full =
       let v = effectOf t q in
       let after = step-typed t typed s (q .number) (q .a) (q .b) (q .c) (q .d) w .lines in
@@ -112,7 +113,7 @@ module _ (t : Tables) (typed : Typed t) (s : Sound t) (q : Call) (w : Words q) (
       let v = effectOf t q in
       let active = effect-active t typed s (q .number) (q .a) (q .b) (q .c) (q .d) .active no-case in
       let few = active-most (t .swis) (t .lines) (s .swis) (s .active) in
-      let room : length (line (v .lines) activeLine) < 32 = omega (arith, active .many) in
+      let room : length (line (v .lines) activeLine) < lineMost = omega (arith, active .many) in
       record {
         swi = λ n.
             rw (ok, lines-are)

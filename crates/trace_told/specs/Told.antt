@@ -26,8 +26,7 @@ use Rattle.rules.specs.declared.Call.{Call}
 
 -- what the trace is given of call q, record n, which left s
 abbrev pub givenOf : ℕ → Call → Step → Made
-givenOf n q s =
-    record { n = n; number = q .number; a = q .a; b = q .b; c = q .c; d = q .d; answer = s .answer; thread = s .thread }
+givenOf n q s = record { n = n; asked = q; answer = s .answer; thread = s .thread }
 
 -- the parts 2 to 13 of the line of call q on tables t
 abbrev pub partsOf : ℕ → Tables → Call → List (List ℕ)

@@ -5,12 +5,13 @@ use borrow.Author.Needs.{needs}
 use Rattle.call_lists.proofs.is_bad.Statement.{statement}
 use Rattle.call_lists.proofs.is_bad.Tie as tie
 
-mul-result : tie.Need-mul-result
-mul-result c = search needs
-
 returns : tie.Need-returns
 unfolding badList
 returns c = refl
 
 pub is-bad-spec : {M : Type 1} → statement M
-is-bad-spec = tie.close (tie.spec mul-result returns)
+is-bad-spec =
+    tie.close
+    (tie.spec
+    (λ c. search needs)
+    returns)

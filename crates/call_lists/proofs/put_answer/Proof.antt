@@ -7,35 +7,11 @@ use Rattle.call_lists.proofs.put_answer.Tie as tie
 returns : tie.Need-returns
 returns c = no-room (c .before .args .answers .now) (c .before .args .i) (c .before .args .answer) (c .if1 .taken)
 
-mul-k : tie.Need-mul-k
-mul-k c = search needs
-
-mul-answers : tie.Need-mul-answers
-mul-answers c = search needs
-
-slice-write-answers : tie.Need-slice-write-answers
-slice-write-answers c = search needs
-
-add-answers : tie.Need-add-answers
-add-answers c = search needs
-
-mul-answers-2 : tie.Need-mul-answers-2
-mul-answers-2 c = search needs
-
 slice-write-answers-2 : tie.Need-slice-write-answers-2
 slice-write-answers-2 c = second-inside (c .before .args .answers .now) (c .before .args .i) (c .before .args .answer) (c .if1 .left)
 
-add-answers-2 : tie.Need-add-answers-2
-add-answers-2 c = search needs
-
-mul-answers-3 : tie.Need-mul-answers-3
-mul-answers-3 c = search needs
-
 slice-write-answers-3 : tie.Need-slice-write-answers-3
 slice-write-answers-3 c = third-inside (c .before .args .answers .now) (c .before .args .i) (c .before .args .answer) (c .if1 .left)
-
-same-length : tie.Need-same-length
-same-length c = search needs
 
 returns-2 : tie.Need-returns-2
 returns-2 c = stored (c .before .args .answers .now) (c .before .args .i) (c .before .args .answer) (c .if1 .left)
@@ -45,14 +21,14 @@ put-answer-spec =
     tie.close
     (tie.spec
     returns
-    mul-k
-    mul-answers
-    slice-write-answers
-    add-answers
-    mul-answers-2
+    (λ c. search needs)
+    (λ c. search needs)
+    (λ c. search needs)
+    (λ c. search needs)
+    (λ c. search needs)
     slice-write-answers-2
-    add-answers-2
-    mul-answers-3
+    (λ c. search needs)
+    (λ c. search needs)
     slice-write-answers-3
-    same-length
+    (λ c. search needs)
     returns-2)

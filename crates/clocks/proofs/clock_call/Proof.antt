@@ -5,6 +5,13 @@ use borrow.Author.Needs.{needs}
 use Rattle.clocks.proofs.clock_call.Statement.{statement}
 use Rattle.clocks.proofs.clock_call.Tie as tie
 
+returns-5 : tie.Need-returns-5
+unfolding clockCall firstGiven
+returns-5 c =
+    let at-match = c .before in
+    let n = at-match .match .rest in
+    rw (ne-eqb _ 0x50 (n .0 .0 .0 .1), ne-eqb _ 0x51 (n .0 .0 .1), ne-eqb _ 0x52 (n .0 .1), ne-eqb _ 0x53 (n .1), c .refused .ensures)
+
 pub clock-call-spec : {M : Type 1} → statement M
 unfolding clockCall firstGiven
 clock-call-spec =
@@ -19,4 +26,4 @@ clock-call-spec =
     (λ c. rw (c .before .before .match .keys2) (c .delete .ensures))
     (λ c. rw (c .before .before .match .keys3) (c .start .ensures))
     (λ c. rw (c .before .before .match .keys4) (c .stop .ensures))
-    (λ c. let n = c .before .match .rest in rw (ne-eqb _ 0x50 (n .0 .0 .0 .1), ne-eqb _ 0x51 (n .0 .0 .1), ne-eqb _ 0x52 (n .0 .1), ne-eqb _ 0x53 (n .1), c .refused .ensures)))
+    returns-5)

@@ -15,7 +15,9 @@ abbrev at-lent : tie.After-records → tie.After-records-arg10
 at-lent c = c .before
 
 abbrev at-begin : tie.After-records-arg10 → tie.After-begin
-at-begin c = c .before .before .before .before .before .before .before .before .before .before
+at-begin c =
+    let at-lent = c .before .before .before .before .before in
+    at-lent .before .before .before .before .before
 
 abbrev at-front : tie.After-begin → tie.After-front
 at-front c = c .before .before

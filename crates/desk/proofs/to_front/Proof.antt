@@ -1,3 +1,4 @@
+-- `to_front` meets its contract: a byte is moved to a place before its own, and those that are moved so far stand in front.
 use Prim.Native.Nat.{_-_, min}
 use mathlib.Core.Path.{_≡_}
 use native.Mathlib.Omega.{arith}

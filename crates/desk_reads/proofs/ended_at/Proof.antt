@@ -9,4 +9,4 @@ ended-at-spec =
     (tie.spec
     (λ c κs. search needs)
     (λ c κs. search needs)
-    (λ c. let a = c .before .before .before .before .args in ended-is (a .log .now) (a .found) (a .offset) (a .ran) (c .before .put-last .ensures) (c .ran-to .ensures)))
+    (λ c. let a = c .before .before .before .before .args in ended-is (a .log .now) (a .found) (a .offset) (a .ran) (c .before .put-last .ensures) (c .place-at .ensures)))

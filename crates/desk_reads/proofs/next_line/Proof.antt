@@ -1,5 +1,4 @@
--- `next_line` meets its contract: what is read with the version that the tables tell is a record, whose call is `step`, or it ends the replay
-use mathlib.Core.Path.{_≡_}
+-- `next_line` meets its contract: by what the step found it is a record, whose line is put, or it ends the replay
 use Rattle.tables.specs.Lent.{lent}
 use Rattle.rules.specs.Log.{readIn}
 use Rattle.desk_parts.specs.Part.{versionBy}
@@ -9,56 +8,32 @@ use Rattle.desk_reads.proofs.next_line.Statement.{statement}
 use Rattle.desk_reads.proofs.next_line.Tie as tie
 
 -- ---- the places where something is known
-abbrev at-version : tie.After-step-in → tie.After-version-by
-at-version c = c .before
+abbrev at-lent : tie.After-next → tie.After-next-arg5
+at-lent c = c .before .before .before .before .before
 
-abbrev at-start : tie.After-version-by → tie.Start
-at-start c = c .before .before .before
-
-abbrev at-put : tie.After-ran-to → tie.After-put-said
-at-put c = c .before
-
-abbrev at-count : tie.After-put-said → tie.After-wrapping-add-u64
-at-count c = c .before .before
-
-abbrev at-step : tie.After-wrapping-add-u64 → tie.After-step
-at-step c = c .before
-
-abbrev at-call : tie.After-step → tie.After-record-call
-at-call c = c .before
-
-abbrev at-found : tie.After-record-call → tie.After-found
-at-found c = c .before .before .before .before .before .before .before .before .before .before .before
-
--- what was found is what stands there, with that version
-found-is : (c : tie.After-step-in)
-    → let a = at-start (at-version c) .args in c .step-in .result .found ≡ readIn (versionBy (a .state .now)) (a .log .now) (a .ran .at)
-found-is c = rw (at-version c .version-by .ensures) at (c .step-in .ensures .0)
+abbrev at-start : tie.After-next-arg5 → tie.Start
+at-start c = c .before .before .before .before .before .before
 
 returns : tie.Need-returns
 returns c =
-    let other = c .before .before in
-    let read = other .before in
-    let s = at-start (at-version read) in
-    let a = s .args in
-    let t = lent (a .tasks) (a .lines) (a .semaphores) (a .events) (a .mailboxes) (a .swis) (a .clocks) (a .heap) (a .state) in
-    (went-last _ (a .log .now) (a .offset) t (a .ran) (found-is read) (other .match .keys2) (c .ended-at .ensures), s .pre)
+    let read = c .before .before .before in
+    let a = at-start (at-lent read) .args in
+    let t = lent (a .tasks) (a .lines) (a .semaphores) (a .events) (a .mailboxes) (a .swis) (a .clocks) (a .heap) (a .state) in (
+      went-last (readIn (versionBy (a .state .now)) (a .log .now) (a .ran .at)) (a .log .now) (a .offset) t (a .ran) (read .next .result) (read .next .ensures .0)
+          (c .before .before .match .keys2) (c .ended-at .ensures),
+      read .next .ensures .1,
+    )
 
 returns-2 : tie.Need-returns-2
 returns-2 c =
-    let put = at-put c in
-    let up = at-count put in
-    let stepped = at-step up in
-    let asked = at-call stepped in
-    let known = at-found asked in
+    let up = c .before .before .before in
+    let known = up .before in
     let read = known .before .before in
-    let s = at-start (at-version read) in
-    let a = s .args in
-    let t = lent (a .tasks) (a .lines) (a .semaphores) (a .events) (a .mailboxes) (a .swis) (a .clocks) (a .heap) (a .state) in
-    let made = stepped .step .ensures .1 (s .pre .sound) in (
-      went-record _ (a .log .now) (a .offset) t (a .ran) (found-is read) (s .pre) _ _ (known .found .given .1) (asked .record-call .ensures) (made .is)
-          (up .wrapping-add-u64 .ensures) (put .put-said .ensures) (read .step-in .ensures .1) (c .ran-to .ensures),
-      made .safe,
+    let a = at-start (at-lent read) .args in
+    let t = lent (a .tasks) (a .lines) (a .semaphores) (a .events) (a .mailboxes) (a .swis) (a .clocks) (a .heap) (a .state) in (
+      went-record (readIn (versionBy (a .state .now)) (a .log .now) (a .ran .at)) (a .log .now) (a .offset) t (a .ran) (read .next .result)
+          (read .next .ensures .0) _ _ (known .enum-told .given .1) (up .wrapping-add-u64 .ensures) (c .before .put-replayed .ensures) (c .place-at .ensures),
+      read .next .ensures .1,
     )
 
 pub next-line-spec : {M : Type 1} → statement M
@@ -66,12 +41,9 @@ next-line-spec =
     tie.close
     (tie.spec
     (λ c κs. search needs)
-    (λ c κs. search needs)
     (λ c. search needs)
     (λ c κs. search needs)
     returns
-    (λ c κs. search needs)
-    (λ c κs. search needs)
     (λ c κs. search needs)
     (λ c κs. search needs)
     (λ c κs. search needs)

@@ -34,13 +34,17 @@ abbrev at-turn : Done → tie.After-replay-part Inv-loop μ-loop
 at-turn c = at-put c .before .before .before
 
 abbrev at-part : Done → tie.After-next-part Inv-loop μ-loop
-at-part c = at-turn c .before .before .before .before .before .before .before .before .before .before .before .before
+at-part c =
+    let at-lent = at-turn c .before .before .before .before .before .before in
+    at-lent .before .before .before .before .before .before
 
 abbrev at-loop : Done → tie.At-loop Inv-loop μ-loop
 at-loop c = at-part c .before .before .before .before
 
 abbrev at-start : tie.At-loop Inv-loop μ-loop → tie.Start Inv-loop μ-loop
-at-start c = c .before .before .before .before .before .before .before .before .before .before .before .before .before .before .before
+at-start c =
+    let at-tables = c .before .before .before .before .before .before .before .before in
+    at-tables .before .before .before .before .before .before .before
 
 -- a log in memory is short enough
 short : (s : tie.Start Inv-loop μ-loop) → length (s .args .log .now) < 2 ^ 64
@@ -52,13 +56,15 @@ not-ended c = not-true _ (at-part c .before .before .if1 .taken)
 -- ---- the needs
 loop-holds : tie.Need-loop-holds Inv-loop μ-loop
 loop-holds c =
-    let f : tie.After-fresh Inv-loop μ-loop = c .before .before .before .before .before .before .before .before .before .before .before in
+    let at-tables = c .before .before .before .before .before .before in
+    let f : tie.After-fresh Inv-loop μ-loop = at-tables .before .before .before .before .before in
     let s : tie.Start Inv-loop μ-loop = f .before .before .before in
     (sofar-none (s .args .log .now) (s .args .out .now) _ _ (few-fresh (f .fresh .ensures .0)) refl (c .begun .ensures) (short s), f .fresh .ensures .1)
 
 replay-part-requires : tie.Need-replay-part-requires Inv-loop μ-loop
 replay-part-requires c κs =
-    let part : tie.After-next-part Inv-loop μ-loop = c .before .before .before .before .before .before .before .before .before .before .before in
+    let at-lent = c .before .before .before .before .before .before in
+    let part : tie.After-next-part Inv-loop μ-loop = at-lent .before .before .before .before .before in
     part .before .before .before .before .loop .inv .1
 
 add-from : tie.Need-add-from Inv-loop μ-loop

@@ -11,5 +11,13 @@ dispatch-tasks-spec =
     (λ c κs. search needs)
     (λ c κs. search needs)
     (λ c. search needs)
-    (λ c. let b = c .before .before .before .before .before .before in task-chosen (b .args .lines .now) (b .args .state .now) (c .before .before .before .before .task-due .ensures) (c .before .before .before .if1 .taken) (c .before .front .ensures) (c .number .ensures))
-    (λ c. let b = c .before .before .before in task-stays (b .args .lines .now) (b .args .state .now) (c .before .task-due .ensures) (c .if1 .left)))
+    (λ c.
+    let at-front = c .before in
+    let at-test = at-front .before .before in
+    let at-due = at-test .before in
+    let a = at-due .before .before .args in
+    task-chosen (a .lines .now) (a .state .now) (at-due .task-due .ensures) (at-test .if1 .taken) (at-front .front .ensures) (c .number .ensures))
+    (λ c.
+    let at-due = c .before in
+    let a = at-due .before .before .args in
+    task-stays (a .lines .now) (a .state .now) (at-due .task-due .ensures) (c .if1 .left)))

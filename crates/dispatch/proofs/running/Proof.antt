@@ -1,3 +1,4 @@
+-- `running` meets its contract: past each test it is known whether an interrupt, a Swi or a task runs
 use mathlib.Core.Path.{sym, _∙_}
 use borrow.Author.Tests.{lt-ltb, le-ltb}
 use Rattle.rules.specs.Dispatch.{running}
@@ -15,7 +16,17 @@ running-spec =
     (λ c κs. search needs)
     (λ c κs. search needs)
     (λ c κs. search needs)
-    (λ c. rw (le-ltb _ _ (c .before .before .before .before .if1 .left), sym (c .before .before .before .anyone .ensures) ∙ c .before .before .if2 .taken, c .number .ensures, c .before .top .ensures))
+    (λ c.
+    let at-top = c .before in
+    let at-active = at-top .before in
+    let at-anyone = at-active .before in
+    let at-depth = at-anyone .before in
+    rw (le-ltb _ _ (at-depth .if1 .left), sym (at-anyone .anyone .ensures) ∙ at-active .if2 .taken, c .number .ensures, at-top .top .ensures))
     (λ c κs. search needs)
     (λ c κs. search needs)
-    (λ c. rw (le-ltb _ _ (c .before .before .before .before .if1 .left), sym (c .before .before .before .anyone .ensures) ∙ c .before .before .if2 .left, c .number2 .ensures, c .before .current .ensures)))
+    (λ c.
+    let at-current = c .before in
+    let at-none = at-current .before in
+    let at-anyone = at-none .before in
+    let at-depth = at-anyone .before in
+    rw (le-ltb _ _ (at-depth .if1 .left), sym (at-anyone .anyone .ensures) ∙ at-none .if2 .left, c .number2 .ensures, at-current .current .ensures)))

@@ -1,3 +1,4 @@
+-- `left_by` meets its contract: in the range of a kind it is what can be left to do after a call of that kind
 use borrow.Author.Needs.{needs}
 use Rattle.dispatch_after.proofs.ByParts.{tasks-part, swis-part, semaphores-part, events-part, mailboxes-part, no-part, switches-part}
 use Rattle.dispatch_after.proofs.left_by.Statement.{statement}
@@ -19,8 +20,17 @@ left-by-spec =
     (λ c κs. search needs)
     (λ c. tasks-part _ _ _ (c .before .if1 .taken) (c .tasks-only .ensures))
     (λ c. swis-part _ _ _ (c .before .before .if1 .left) (c .before .if2 .taken) (c .both-parts .ensures))
-    (λ c. let b = c .before .before in semaphores-part _ _ _ (b .before .if2 .left) (b .if3 .taken) (c .before .waits-or-wakes .ensures) (c .tasks-only2 .ensures))
-    (λ c. let b = c .before .before in events-part _ _ _ (b .before .if3 .left) (b .if4 .taken) (c .before .waits-or-wakes2 .ensures) (c .tasks-only3 .ensures))
-    (λ c. let b = c .before .before in mailboxes-part _ _ _ (b .before .if4 .left) (b .if5 .taken) (c .before .mailbox-moves .ensures) (c .tasks-only4 .ensures))
+    (λ c.
+    let in-range = c .before .before in
+    let past = in-range .before in
+    semaphores-part _ _ _ (past .if2 .left) (in-range .if3 .taken) (c .before .waits-or-wakes .ensures) (c .tasks-only2 .ensures))
+    (λ c.
+    let in-range = c .before .before in
+    let past = in-range .before in
+    events-part _ _ _ (past .if3 .left) (in-range .if4 .taken) (c .before .waits-or-wakes2 .ensures) (c .tasks-only3 .ensures))
+    (λ c.
+    let in-range = c .before .before in
+    let past = in-range .before in
+    mailboxes-part _ _ _ (past .if4 .left) (in-range .if5 .taken) (c .before .mailbox-moves .ensures) (c .tasks-only4 .ensures))
     (λ c. no-part _ _ _ (c .before .before .if5 .left) (c .before .if6 .taken) (c .tasks-only5 .ensures))
     (λ c. switches-part _ _ _ (c .before .if6 .left) (c .both-parts2 .ensures)))

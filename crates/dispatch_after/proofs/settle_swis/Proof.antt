@@ -9,5 +9,8 @@ settle-swis-spec =
     (tie.spec
     (λ c. search needs)
     (λ c κs. search needs)
-    (λ c. let b = c .before .before .before .before .before in swis-done (b .args .some) (b .args .state .now) _ (c .before .before .before .if1 .taken) (c .dispatch-swis .ensures))
+    (λ c.
+    let at-test = c .before .before .before in
+    let a = at-test .before .before .args in
+    swis-done (a .some) (a .state .now) _ (at-test .if1 .taken) (c .dispatch-swis .ensures))
     (λ c. let b = c .before .before in swis-left (b .args .some) (b .args .state .now) _ (c .if1 .left)))

@@ -8,11 +8,14 @@ use Rattle.kernel.proofs.step.Tie as tie
 
 returns : tie.Need-returns
 returns c =
+    -- nine tables are lent to each of `typed` and `any_call`: half of them, then the others
     let at-settle = c .before .before .before in
     let at-named = at-settle .before .before .before .before in
     let at-any-call = at-named .before in
-    let at-typed = at-any-call .before .before .before .before .before .before .before .before .before .before in
-    let at-words = at-typed .before .before .before .before .before .before .before .before .before .before in
+    let call-lent-half = at-any-call .before .before .before .before .before in
+    let at-typed = call-lent-half .before .before .before .before .before in
+    let typed-lent-half = at-typed .before .before .before .before .before in
+    let at-words = typed-lent-half .before .before .before .before .before in
     let q = at-words .before .args .asked in
     let e = quick-is _ q (at-any-call .any-call .ensures) (at-settle .settle .ensures) (c .running .ensures) (at-named .named .ensures) in
     (e, stepped _ q (at-typed .typed .ensures) (at-words .words .ensures) e)

@@ -1,3 +1,5 @@
+-- `insert` meets its contract: those from the place on are shifted back one by one, each carried to the next; a full line and no line stay.
+use Rattle.rules.specs.Lines.{lineCount, lineMost, lineWidth}
 use borrow.Author.Needs.{needs}
 use Prim.Native.Nat.{_-_, _*_, _<_}
 use mathlib.Core.Path.{_≡_, refl, _∙_}
@@ -10,10 +12,53 @@ use Rattle.lines.proofs.insert.Statement.{statement}
 use Rattle.lines.proofs.insert.Tie as tie
 
 abbrev Inv-loop : tie.InvT-loop
-Inv-loop lines₀ j place x at n end carry₀ k₀ lines carry k = (end ≡ length (listed 32 lines₀ (j * 33))) × (j < 81) × (end < 32) × Shifted 32 lines₀ (j * 33) place x carry k lines
+Inv-loop lines₀ j place x at n end carry₀ k₀ lines carry k =
+    (end ≡ length (listed lineMost lines₀ (j * lineWidth))) × (j < lineCount) × (end < lineMost)
+    × Shifted lineMost lines₀ (j * lineWidth) place x carry k lines
 
 abbrev μ-loop : tie.MeasureT-loop
 μ-loop lines₀ j place x at n end carry₀ k₀ lines carry k = end - k
+
+loop-holds : tie.Need-loop-holds Inv-loop μ-loop
+loop-holds c =
+    let at-wide = c .before in
+    let at-room = at-wide .before in
+    let at-row = at-room .before .before in
+    let a = at-row .before .args in
+    let ls = a .lines .now in
+    let j = a .j in
+    let e = at-wide .wide .ensures .0 ∙ room-length ls j (at-row .if1 .taken) refl (at-room .if2 .taken) in
+    (e, at-row .if1 .taken, omega arith, shifted-none lineMost ls (j * lineWidth) (a .place) (a .x) e (c .least .ensures))
+
+loop-again : tie.Need-loop-again Inv-loop μ-loop
+loop-again c =
+    let at-loop = c .before .before in
+    let a = at-loop .before .before .before .before .before .before .args in
+    let l = at-loop .loop in
+    let ls = a .lines .now in
+    let j = a .j in
+    let t : l .k < length (listed lineMost ls (j * lineWidth)) = omega (arith, l .inv .0) in
+    (l .inv .0, l .inv .1, l .inv .2, shifted-more lineMost ls (j * lineWidth) (a .place) (a .x) (l .k) (l .inv .3) t refl refl)
+
+returns : tie.Need-returns Inv-loop μ-loop
+returns c =
+    let at-loop = c .before in
+    let at-room = at-loop .before .before .before in
+    let at-row = at-room .before .before in
+    let a = at-row .before .args in
+    let l = at-loop .loop in
+    insert-is (a .lines .now) (a .j) (at-row .if1 .taken) refl (at-room .if2 .taken) (a .place) (a .x) (l .carry) (l .k) (l .inv .3) (omega arith)
+
+returns-2 : tie.Need-returns-2 Inv-loop μ-loop
+returns-2 c =
+    let at-row = c .before .before in
+    let a = at-row .before .args in
+    full-is (a .lines .now) (a .j) (at-row .if1 .taken) refl (λ xs. a .place) (a .x) (c .if2 .left)
+
+returns-3 : tie.Need-returns-3 Inv-loop μ-loop
+returns-3 c =
+    let a = c .before .args in
+    entered-past (a .lines .now) (a .j) (λ xs. a .place) (a .x) (c .if1 .left)
 
 pub insert-spec : {M : Type 1} → statement M
 insert-spec =
@@ -25,7 +70,7 @@ insert-spec =
     (λ c. search needs)
     (λ c κs. search needs)
     (λ c κs. search needs)
-    (λ c. let b = c .before .before .before .before .before in let ls = b .args .lines .now in let j = b .args .j in let e = c .before .wide .ensures .0 ∙ room-length ls j (c .before .before .before .before .if1 .taken) refl (c .before .before .if2 .taken) in (e, c .before .before .before .before .if1 .taken, omega arith, shifted-none 32 ls (j * 33) (b .args .place) (b .args .x) e (c .least .ensures)))
+    loop-holds
     (λ c. search needs)
     (λ c. search needs)
     (λ c. search needs)
@@ -34,12 +79,12 @@ insert-spec =
     (λ c. search needs)
     (λ c. search needs)
     (λ c. search needs)
-    (λ c. let b = c .before .before .before .before .before .before .before .before in let l = c .before .before .loop in let ls = b .args .lines .now in let j = b .args .j in let t : l .k < length (listed 32 ls (j * 33)) = omega (arith, l .inv .0) in (l .inv .0, l .inv .1, l .inv .2, shifted-more 32 ls (j * 33) (b .args .place) (b .args .x) (l .k) (l .inv .3) t refl refl))
+    loop-again
     (λ c. search needs)
     (λ c. search needs)
     (λ c. search needs)
     (λ c. search needs)
     (λ c. search needs)
-    (λ c. let b = c .before .before .before .before .before .before .before in let l = c .before .loop in insert-is (b .args .lines .now) (b .args .j) (c .before .before .before .before .before .before .if1 .taken) refl (c .before .before .before .before .if2 .taken) (b .args .place) (b .args .x) (l .carry) (l .k) (l .inv .3) (omega arith))
-    (λ c. let b = c .before .before .before in full-is (b .args .lines .now) (b .args .j) (c .before .before .if1 .taken) refl (λ xs. b .args .place) (b .args .x) (c .if2 .left))
-    (λ c. let b = c .before in entered-past (b .args .lines .now) (b .args .j) (λ xs. b .args .place) (b .args .x) (c .if1 .left)))
+    returns
+    returns-2
+    returns-3)

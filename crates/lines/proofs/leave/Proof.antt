@@ -1,3 +1,5 @@
+-- `leave` meets its contract: of those passed, all but x stand again from the front on; at the end that is the line without x.
+use Rattle.rules.specs.Lines.{lineCount, lineMost, lineWidth}
 use borrow.Author.Needs.{needs}
 use Prim.Native.Nat.{_-_, _*_, _≤_, _<_}
 use mathlib.Core.Path.{_≡_, sym, _∙_}
@@ -12,10 +14,44 @@ use Rattle.lines.proofs.leave.Statement.{statement}
 use Rattle.lines.proofs.leave.Tie as tie
 
 abbrev Inv-loop : tie.InvT-loop
-Inv-loop lines₀ j x at n m₀ k₀ lines m k = (n ≡ length (listed 32 lines₀ (j * 33))) × (j < 81) × (n ≤ 32) × Kept 32 lines₀ (j * 33) x k m lines
+Inv-loop lines₀ j x at n m₀ k₀ lines m k =
+    (n ≡ length (listed lineMost lines₀ (j * lineWidth))) × (j < lineCount) × (n ≤ lineMost) × Kept lineMost lines₀ (j * lineWidth) x k m lines
 
 abbrev μ-loop : tie.MeasureT-loop
 μ-loop lines₀ j x at n m₀ k₀ lines m k = n - k
+
+loop-holds : tie.Need-loop-holds Inv-loop μ-loop
+loop-holds c =
+    let at-row = c .before .before in
+    let a = at-row .before .args in
+    let ls = a .lines .now in
+    let j = a .j in
+    let e = listed-len ls j (at-row .if1 .taken) (c .len .ensures) in
+    (e, at-row .if1 .taken, omega (arith, listed-le lineMost ls (j * lineWidth)), kept-none lineMost ls (j * lineWidth) (a .x))
+
+loop-again : tie.Need-loop-again Inv-loop μ-loop
+loop-again c =
+    let at-loop = c .before .before .before in
+    let a = at-loop .before .before .before .before .args in
+    let l = at-loop .loop in
+    let ls = a .lines .now in
+    let j = a .j in
+    let x = a .x in
+    let t : l .k < length (listed lineMost ls (j * lineWidth)) = omega (arith, l .inv .0) in
+    let r = kept-read lineMost ls (j * lineWidth) x (l .k) (l .inv .3) t in (
+      l .inv .0,
+      l .inv .1,
+      l .inv .2,
+      ⊎-elim (λ w. turn-kept lineMost ls (j * lineWidth) x (l .k) (l .inv .3) t r (w .0 .taken) (w .3) (w .1 .ensures .0) (w .2))
+          (λ w. turn-left lineMost ls (j * lineWidth) x (l .k) (l .inv .3) t (sym r ∙ w .0 .left) (w .2) (w .1)) (c .if2 .came),
+    )
+
+returns : tie.Need-returns Inv-loop μ-loop
+returns c =
+    let at-loop = c .before in
+    let a = at-loop .before .before .before .before .args in
+    let l = at-loop .loop in
+    left-is (a .lines .now) (a .j) (l .inv .1) (a .x) (l .k) (l .inv .3) (omega (arith, l .inv .0))
 
 pub leave-spec : {M : Type 1} → statement M
 leave-spec =
@@ -25,7 +61,7 @@ leave-spec =
     μ-loop
     (λ c. search needs)
     (λ c κs. search needs)
-    (λ c. let b = c .before .before .before in let ls = b .args .lines .now in let j = b .args .j in let e = listed-len ls j (c .before .before .if1 .taken) (c .len .ensures) in (e, c .before .before .if1 .taken, omega (arith, listed-le 32 ls (j * 33)), kept-none 32 ls (j * 33) (b .args .x)))
+    loop-holds
     (λ c. search needs)
     (λ c. search needs)
     (λ c. search needs)
@@ -39,7 +75,7 @@ leave-spec =
     (λ c. search needs)
     (λ c. search needs)
     (λ c. search needs)
-    (λ c. let b = c .before .before .before .before .before .before .before in let l = c .before .before .before .loop in let ls = b .args .lines .now in let j = b .args .j in let x = b .args .x in let t : l .k < length (listed 32 ls (j * 33)) = omega (arith, l .inv .0) in let r = kept-read 32 ls (j * 33) x (l .k) (l .inv .3) t in (l .inv .0, l .inv .1, l .inv .2, ⊎-elim (λ w. turn-kept 32 ls (j * 33) x (l .k) (l .inv .3) t r (w .0 .taken) (w .3) (w .1 .ensures .0) (w .2)) (λ w. turn-left 32 ls (j * 33) x (l .k) (l .inv .3) t (sym r ∙ w .0 .left) (w .2) (w .1)) (c .if2 .came)))
+    loop-again
     (λ c. search needs)
-    (λ c. let b = c .before .before .before .before .before in let l = c .before .loop in left-is (b .args .lines .now) (b .args .j) (l .inv .1) (b .args .x) (l .k) (l .inv .3) (omega (arith, l .inv .0)))
-    (λ c. let b = c .before in left-past (b .args .lines .now) (b .args .j) (b .args .x) (c .if1 .left)))
+    returns
+    (λ c. left-past _ _ _ (c .if1 .left)))

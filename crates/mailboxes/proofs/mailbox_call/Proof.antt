@@ -1,3 +1,4 @@
+-- `mailbox_call` meets its contract: each number's call by what that call promises, and no other number is known.
 use Rattle.rules.specs.Waits.{waitTables}
 use Rattle.rules.specs.Mailboxes.{mailboxCall}
 use Rattle.rules_laws.proofs.Calls.{unknown-is}
@@ -6,8 +7,44 @@ use borrow.Author.Needs.{needs}
 use Rattle.mailboxes.proofs.mailbox_call.Statement.{statement}
 use Rattle.mailboxes.proofs.mailbox_call.Tie as tie
 
-pub mailbox-call-spec : {M : Type 1} → statement M
+returns : tie.Need-returns
 unfolding mailboxCall
+returns c =
+    let at-match = c .before .before in
+    let a = at-match .before .args in
+    rw (at-match .match .keys1) (c .create .ensures (a .tasks .now) (a .lines .now))
+
+returns-2 : tie.Need-returns-2
+unfolding mailboxCall
+returns-2 c =
+    let at-match = c .before .before .before in
+    let a = at-match .before .args in
+    rw (at-match .match .keys2) (c .delete .ensures (a .tasks .now))
+
+returns-3 : tie.Need-returns-3
+unfolding mailboxCall
+returns-3 c =
+    let at-match = c .before .before .before .before in
+    rw (at-match .match .keys3) (c .post .ensures)
+
+returns-4 : tie.Need-returns-4
+unfolding mailboxCall
+returns-4 c =
+    let at-match = c .before .before .before .before in
+    rw (at-match .match .keys4) (c .pend .ensures)
+
+returns-5 : tie.Need-returns-5
+unfolding mailboxCall
+returns-5 c =
+    let at-match = c .before in
+    let args = at-match .before .args in
+    let m = at-match .match .rest in
+    let q = waitTables (args .tasks .now) (args .lines .now) (args .mailboxes .now) in
+    unknown-is q _
+    (no-call q (args .state .now) (args .x) (args .number) (args .a) (args .b) (args .c) (args .d) (m .0 .0 .0 .1) (m .0 .0 .1) (m .0 .1) (m .1))
+    (c .refused .ensures)
+
+pub mailbox-call-spec : {M : Type 1} → statement M
 mailbox-call-spec =
     tie.close
     (tie.spec
@@ -16,8 +53,8 @@ mailbox-call-spec =
     (λ c κs. search needs)
     (λ c κs. search needs)
     (λ c κs. search needs)
-    (λ c. let b = c .before .before .before in rw (c .before .before .match .keys1) (c .create .ensures (b .args .tasks .now) (b .args .lines .now)))
-    (λ c. let b = c .before .before .before .before in rw (c .before .before .before .match .keys2) (c .delete .ensures (b .args .tasks .now)))
-    (λ c. rw (c .before .before .before .before .match .keys3) (c .post .ensures))
-    (λ c. rw (c .before .before .before .before .match .keys4) (c .pend .ensures))
-    (λ c. let b = c .before .before in let m = c .before .match .rest in let q = waitTables (b .args .tasks .now) (b .args .lines .now) (b .args .mailboxes .now) in unknown-is q _ (no-call q (b .args .state .now) (b .args .x) (b .args .number) (b .args .a) (b .args .b) (b .args .c) (b .args .d) (m .0 .0 .0 .1) (m .0 .0 .1) (m .0 .1) (m .1)) (c .refused .ensures)))
+    returns
+    returns-2
+    returns-3
+    returns-4
+    returns-5)

@@ -1,8 +1,27 @@
+-- `move_by_priority` meets its contract: the calls one after the other are the steps of `moved`, the place being the one by priority.
 use Rattle.rules.specs.Lines.{byPriority}
 use Rattle.moves.proofs.Steps.{moved-is, moved-out}
 use borrow.Author.Needs.{needs}
 use Rattle.moves.proofs.move_by_priority.Statement.{statement}
 use Rattle.moves.proofs.move_by_priority.Tie as tie
+
+returns : tie.Need-returns
+returns c =
+    let at-enter-by-priority = c .before .before in
+    let at-home-of2 = at-enter-by-priority .before in
+    let at-leave = at-home-of2 .before .before .before in
+    let at-home-of = at-leave .before in
+    let at-task = at-home-of .before .before in
+    let at-test = at-task .before .before in
+    let a = at-test .before .args in
+    moved-is (byPriority (a .tasks .now) (a .p)) (a .i) (a .k) (a .tasks .now) (a .lines .now) (at-test .if1 .taken) (at-task .task .ensures)
+    (at-home-of .home-of .ensures) (at-leave .leave .ensures) (at-home-of2 .home-of2 .ensures) (at-enter-by-priority .enter-by-priority .ensures)
+    (c .set-task .ensures)
+
+returns-2 : tie.Need-returns-2
+returns-2 c =
+    let a = c .before .args in
+    moved-out (byPriority (a .tasks .now) (a .p)) (a .i) (a .k) (a .tasks .now) (a .lines .now) (c .if1 .left)
 
 pub move-by-priority-spec : {M : Type 1} → statement M
 move-by-priority-spec =
@@ -16,5 +35,5 @@ move-by-priority-spec =
     (λ c. search needs)
     (λ c κs. search needs)
     (λ c κs. search needs)
-    (λ c. let b = c .before .before .before .before .before .before .before .before .before .before .before .before in moved-is (byPriority (b .args .tasks .now) (b .args .p)) (b .args .i) (b .args .k) (b .args .tasks .now) (b .args .lines .now) (c .before .before .before .before .before .before .before .before .before .before .before .if1 .taken) (c .before .before .before .before .before .before .before .before .before .task .ensures) (c .before .before .before .before .before .before .before .home-of .ensures) (c .before .before .before .before .before .before .leave .ensures) (c .before .before .before .home-of2 .ensures) (c .before .before .enter-by-priority .ensures) (c .set-task .ensures))
-    (λ c. let b = c .before in moved-out (byPriority (b .args .tasks .now) (b .args .p)) (b .args .i) (b .args .k) (b .args .tasks .now) (b .args .lines .now) (c .if1 .left)))
+    returns
+    returns-2)

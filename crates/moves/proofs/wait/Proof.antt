@@ -6,6 +6,14 @@ use borrow.Author.Needs.{needs}
 use Rattle.moves.proofs.wait.Statement.{statement}
 use Rattle.moves.proofs.wait.Tie as tie
 
+returns : tie.Need-returns
+returns c =
+    let at-waiting = c .before in
+    let at-task = at-waiting .before .before .before in
+    let a = at-task .before .before .args in
+    moved-from atBack (a .i) (λ (k : Task). waiting k (a .mode) (a .object) (a .limit) (a .held) (a .mask)) (a .tasks .now) (a .lines .now)
+    (at-task .task .ensures) (at-waiting .waiting .ensures) (c .move-back .ensures)
+
 pub wait-spec : {M : Type 1} → statement M
 wait-spec =
     tie.close
@@ -13,4 +21,4 @@ wait-spec =
     (λ c κs. search needs)
     (λ c κs. search needs)
     (λ c κs. search needs)
-    (λ c. let b = c .before .before .before .before .before .before in moved-from atBack (b .args .i) (λ (k : Task). waiting k (b .args .mode) (b .args .object) (b .args .limit) (b .args .held) (b .args .mask)) (b .args .tasks .now) (b .args .lines .now) (c .before .before .before .before .task .ensures) (c .before .waiting .ensures) (c .move-back .ensures)))
+    returns)

@@ -7,10 +7,17 @@ use borrow.Author.Needs.{needs}
 use Rattle.moves.proofs.wake.Statement.{statement}
 use Rattle.moves.proofs.wake.Tie as tie
 
+returns : tie.Need-returns
+returns c =
+    let at-task = c .before .before .before in
+    let a = at-task .before .before .args in
+    moved-from atBack (a .i) (λ (k : Task). readied k (a .outcome) (a .value)) (a .tasks .now) (a .lines .now) (at-task .task .ensures) refl
+    (c .move-back .ensures)
+
 pub wake-spec : {M : Type 1} → statement M
 wake-spec =
     tie.close
     (tie.spec
     (λ c κs. search needs)
     (λ c κs. search needs)
-    (λ c. let b = c .before .before .before .before .before in moved-from atBack (b .args .i) (λ (k : Task). readied k (b .args .outcome) (b .args .value)) (b .args .tasks .now) (b .args .lines .now) (c .before .before .before .task .ensures) refl (c .move-back .ensures)))
+    returns)

@@ -24,7 +24,9 @@ abbrev Done : Type 0
 Done = tie.After-turn Inv-loop μ-loop
 
 abbrev at-read : Done → tie.After-read-part Inv-loop μ-loop
-at-read c = c .before .before .before .before .before .before .before .before .before .before .before .before
+at-read c =
+    let at-lent = c .before .before .before .before .before .before in
+    at-lent .before .before .before .before .before .before
 
 abbrev at-loop : tie.After-read-part Inv-loop μ-loop → tie.At-loop Inv-loop μ-loop
 at-loop c = c .before .before .before .before
@@ -51,7 +53,8 @@ loop-holds c =
 
 turn-requires : tie.Need-turn-requires Inv-loop μ-loop
 turn-requires c κs =
-    let read : tie.After-read-part Inv-loop μ-loop = c .before .before .before .before .before .before .before .before .before .before .before in
+    let at-lent = c .before .before .before .before .before .before in
+    let read : tie.After-read-part Inv-loop μ-loop = at-lent .before .before .before .before .before in
     at-loop read .loop .inv .1
 
 sub-turns : tie.Need-sub-turns Inv-loop μ-loop

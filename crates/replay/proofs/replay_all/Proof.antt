@@ -7,7 +7,9 @@ use Rattle.replay.proofs.replay_all.Tie as tie
 
 abbrev at-fresh : tie.After-all-turns → tie.After-fresh
 at-fresh c =
-    c .before .before .before .before .before .before .before .before .before .before .before .before .before .before .before .before .before .before .before .before
+    let at-lent = c .before .before .before .before .before .before .before .before in
+    let at-tables = at-lent .before .before .before .before .before .before .before .before in
+    at-tables .before .before .before .before
 
 returns : tie.Need-returns
 returns c = replayed-from (few-fresh (at-fresh c .fresh .ensures .0)) (c .all-turns .ensures)

@@ -1,7 +1,7 @@
 -- `turn` meets its contract: where the read failed nothing is done; else what the turn left is handed on, or stopped.
 use borrow.Author.Needs.{needs}
 use Rattle.tables.specs.Lent.{lent}
-use Rattle.desk.specs.Done.{leftOf, behind}
+use Rattle.desk.specs.Done.{replayState, behind}
 use Rattle.replay.proofs.Turns.{handed-none, handed-on}
 use Rattle.replay.proofs.turn.Statement.{statement}
 use Rattle.replay.proofs.turn.Tie as tie
@@ -28,7 +28,9 @@ abbrev at-turn : tie.After-written → tie.After-replay-part
 at-turn c = c .before .before .before
 
 abbrev at-else : tie.After-replay-part → tie.Else1
-at-else c = c .before .before .before .before .before .before .before .before .before .before .before .before
+at-else c =
+    let at-lent = c .before .before .before .before .before .before in
+    at-lent .before .before .before .before .before .before
 
 returns-2 : tie.Need-returns-2
 returns-2 c =
@@ -38,7 +40,7 @@ returns-2 c =
     let t = lent (a .tasks) (a .lines) (a .semaphores) (a .events) (a .mailboxes) (a .swis) (a .clocks) (a .heap) (a .state) in (
       handed-on
           (a .read)
-          (leftOf t (a .part .now) (a .out .now) (a .p))
+          (replayState t (a .part .now) (a .out .now) (a .p))
           (behind (a .part .now) (a .p) (a .read .more))
           (past .if1 .left)
           (turned .ensures .0)

@@ -3,6 +3,16 @@ use borrow.Author.Needs.{needs}
 use Rattle.rows.proofs.clock.Statement.{statement}
 use Rattle.rows.proofs.clock.Tie as tie
 
+returns : tie.Need-returns
+returns c =
+    let at-clock-word4 = c .before in
+    let at-clock-word3 = at-clock-word4 .before in
+    let at-clock-word2 = at-clock-word3 .before in
+    let at-clock-word = at-clock-word2 .before in
+    let a = at-clock-word .before .args in
+    clock-is (a .clocks .now) (a .i) (at-clock-word .clock-word .ensures) (at-clock-word2 .clock-word2 .ensures)
+    (at-clock-word3 .clock-word3 .ensures) (at-clock-word4 .clock-word4 .ensures) (c .clock-word5 .ensures)
+
 pub clock-spec : {M : Type 1} → statement M
 clock-spec =
     tie.close
@@ -12,4 +22,4 @@ clock-spec =
     (λ c κs. search needs)
     (λ c κs. search needs)
     (λ c κs. search needs)
-    (λ c. let b = c .before .before .before .before .before in clock-is (b .args .clocks .now) (b .args .i) (c .before .before .before .before .clock-word .ensures) (c .before .before .before .clock-word2 .ensures) (c .before .before .clock-word3 .ensures) (c .before .clock-word4 .ensures) (c .clock-word5 .ensures)))
+    returns)

@@ -1,3 +1,4 @@
+-- `swi_call` meets its contract: each number's call by what that call promises, and no other number is known.
 use Rattle.rules_laws.proofs.Calls.{unknown-is}
 use Rattle.swis.proofs.Steps.{no-call}
 use Rattle.rules.specs.Swis.{swiCall}
@@ -5,8 +6,53 @@ use borrow.Author.Needs.{needs}
 use Rattle.swis.proofs.swi_call.Statement.{statement}
 use Rattle.swis.proofs.swi_call.Tie as tie
 
-pub swi-call-spec : {M : Type 1} → statement M
+returns : tie.Need-returns
 unfolding swiCall
+returns c = let at-match = c .before .before in rw (at-match .match .keys1) (c .create .ensures _)
+
+returns-2 : tie.Need-returns-2
+unfolding swiCall
+returns-2 c = let at-match = c .before .before .before in rw (at-match .match .keys2) (c .delete .ensures)
+
+returns-3 : tie.Need-returns-3
+unfolding swiCall
+returns-3 c = let at-match = c .before .before .before in rw (at-match .match .keys3) (c .post .ensures)
+
+returns-4 : tie.Need-returns-4
+unfolding swiCall
+returns-4 c = let at-match = c .before .before .before in rw (at-match .match .keys4) (c .add .ensures)
+
+returns-5 : tie.Need-returns-5
+unfolding swiCall
+returns-5 c = let at-match = c .before .before .before in rw (at-match .match .keys5) (c .take .ensures)
+
+returns-6 : tie.Need-returns-6
+unfolding swiCall
+returns-6 c = let at-match = c .before .before .before in rw (at-match .match .keys6) (c .set-bits .ensures)
+
+returns-7 : tie.Need-returns-7
+unfolding swiCall
+returns-7 c = let at-match = c .before .before .before in rw (at-match .match .keys7) (c .clear-bits .ensures)
+
+returns-8 : tie.Need-returns-8
+unfolding swiCall
+returns-8 c = let at-match = c .before .before .before in rw (at-match .match .keys8) (c .end .ensures)
+
+returns-9 : tie.Need-returns-9
+unfolding swiCall
+returns-9 c = let at-match = c .before .before .before in rw (at-match .match .keys9) (c .taken .ensures)
+
+returns-10 : tie.Need-returns-10
+unfolding swiCall
+returns-10 c =
+    let at-match = c .before in
+    let n = at-match .match .rest in
+    unknown-is _ _
+    (no-call _ _ _ _ _ _ _ _ _ (n .0 .0 .0 .0 .0 .0 .0 .0 .1) (n .0 .0 .0 .0 .0 .0 .0 .1) (n .0 .0 .0 .0 .0 .0 .1) (n .0 .0 .0 .0 .0 .1)
+    (n .0 .0 .0 .0 .1) (n .0 .0 .0 .1) (n .0 .0 .1) (n .0 .1) (n .1))
+    (c .refused .ensures)
+
+pub swi-call-spec : {M : Type 1} → statement M
 swi-call-spec =
     tie.close
     (tie.spec
@@ -20,13 +66,13 @@ swi-call-spec =
     (λ c κs. search needs)
     (λ c κs. search needs)
     (λ c κs. search needs)
-    (λ c. rw (c .before .before .match .keys1) (c .create .ensures (c .before .before .before .args .lines .now)))
-    (λ c. rw (c .before .before .before .match .keys2) (c .delete .ensures))
-    (λ c. rw (c .before .before .before .match .keys3) (c .post .ensures))
-    (λ c. rw (c .before .before .before .match .keys4) (c .add .ensures))
-    (λ c. rw (c .before .before .before .match .keys5) (c .take .ensures))
-    (λ c. rw (c .before .before .before .match .keys6) (c .set-bits .ensures))
-    (λ c. rw (c .before .before .before .match .keys7) (c .clear-bits .ensures))
-    (λ c. rw (c .before .before .before .match .keys8) (c .end .ensures))
-    (λ c. rw (c .before .before .before .match .keys9) (c .taken .ensures))
-    (λ c. let n = c .before .match .rest in unknown-is _ _ (no-call _ _ _ _ _ _ _ _ _ (n .0 .0 .0 .0 .0 .0 .0 .0 .1) (n .0 .0 .0 .0 .0 .0 .0 .1) (n .0 .0 .0 .0 .0 .0 .1) (n .0 .0 .0 .0 .0 .1) (n .0 .0 .0 .0 .1) (n .0 .0 .0 .1) (n .0 .0 .1) (n .0 .1) (n .1)) (c .refused .ensures)))
+    returns
+    returns-2
+    returns-3
+    returns-4
+    returns-5
+    returns-6
+    returns-7
+    returns-8
+    returns-9
+    returns-10)

@@ -12,7 +12,8 @@ expect-requires c κs =
     let one = second .before in
     let first = one .before in
     let read = first .before .before .before in
-    as-expected (read .walk .ensures) (first .is-record .ensures) (one .are .ensures) (second .is-record2 .ensures) (two .are2 .ensures) (third .is-version .ensures)
+    as-expected (read .walk .ensures) (first .is-record .ensures) (one .are .ensures) (second .is-record2 .ensures) (two .are2 .ensures)
+    (third .is-version .ensures)
 
 pub main-spec : {M : Type 1} → statement M
 main-spec =

@@ -1,3 +1,4 @@
+-- `put_digits` meets its contract: the digits in front by the call that it makes of itself, and then the last one
 use Prim.Native.Nat.{ℕ, _<_}
 use borrow.Author.Needs.{needs}
 use borrow.Fn.Kinds.{In}
@@ -35,10 +36,19 @@ pub +put-digits-spec : {M : Type 1} → statement M
     (λ c. search needs)
     (λ c. search needs)
     (λ c κs. search needs)
-    (λ c. let b = c .before .before .before .before in put-digit (b .args .k) (b .args .n) (c .before .before .before .if1 .left) (c .before .before .if2 .taken) (c .put-byte .ensures))
+    (λ c.
+    let at-test = c .before .before in
+    let at-some = at-test .before in
+    let a = at-some .before .args in
+    put-digit (a .k) (a .n) (at-some .if1 .left) (at-test .if2 .taken) (c .put-byte .ensures))
     (λ c. search needs)
     (λ c κs. search needs)
     (λ c. search needs)
     (λ c. search needs)
     (λ c κs. search needs)
-    (λ c. let b = c .before .before .before .before .before .before in put-digits-more (b .args .k) (b .args .n) (c .before .before .before .before .before .if1 .left) (c .before .before .before .before .if2 .left) (c .before .before .put-digits .ensures) (c .put-byte2 .ensures))
+    (λ c.
+    let at-front = c .before .before in
+    let at-test = at-front .before .before in
+    let at-some = at-test .before in
+    let a = at-some .before .args in
+    put-digits-more (a .k) (a .n) (at-some .if1 .left) (at-test .if2 .left) (at-front .put-digits .ensures) (c .put-byte2 .ensures))

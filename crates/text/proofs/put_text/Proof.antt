@@ -1,3 +1,4 @@
+-- `put_text` meets its contract: i bytes of the text are put, and they end at p
 use Prim.Native.Nat.{_-_, _≤_}
 use lib.ListN.{length, take}
 use borrow.Author.Needs.{needs}
@@ -23,5 +24,14 @@ put-text-spec =
     (λ c κs. search needs)
     (λ c. search needs)
     (λ c. search needs)
-    (λ c. let b = c .before .before .before .before .before .before in let l = c .before .before .before .before .loop in (search needs, put-next (b .args .text .now) (l .i) (c .before .before .before .loop-test .taken) (l .inv .1) (c .put-byte .ensures)))
-    (λ c. let b = c .before .before .before in let l = c .before .loop in put-whole (b .args .text .now) (l .i) (c .loop-test .left) (l .inv .1)))
+    (λ c.
+    let at-test = c .before .before .before in
+    let at-loop = at-test .before in
+    let a = at-loop .before .before .args in
+    let l = at-loop .loop in
+    (search needs, put-next (a .text .now) (l .i) (at-test .loop-test .taken) (l .inv .1) (c .put-byte .ensures)))
+    (λ c.
+    let at-loop = c .before in
+    let a = at-loop .before .before .args in
+    let l = at-loop .loop in
+    put-whole (a .text .now) (l .i) (c .loop-test .left) (l .inv .1)))

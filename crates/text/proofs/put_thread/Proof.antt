@@ -14,6 +14,10 @@ put-thread-spec =
     (λ c κs. search needs)
     (λ c. search needs)
     (λ c κs. search needs)
-    (λ c. rw (c .before .before .before .thread .given .1) (c .put-lettered .ensures))
-    (λ c. rw (c .before .before .before .thread2 .given .1) (c .put-lettered2 .ensures))
+    (λ c.
+    let at-task = c .before .before .before in
+    rw (at-task .thread .given .1) (c .put-lettered .ensures))
+    (λ c.
+    let at-swi = c .before .before .before in
+    rw (at-swi .thread2 .given .1) (c .put-lettered2 .ensures))
     (λ c. rw (c .before .before .enum-told .given .1) (c .put-byte .ensures)))

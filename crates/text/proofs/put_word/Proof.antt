@@ -1,3 +1,4 @@
+-- `put_word` meets its contract: the word and the number one after the other
 use Rattle.text.proofs.Puts.{put-more, word-is}
 use borrow.Author.Needs.{needs}
 use Rattle.text.proofs.put_word.Statement.{statement}
@@ -11,4 +12,10 @@ put-word-spec =
     (λ c κs. search needs)
     (λ c κs. search needs)
     (λ c κs. search needs)
-    (λ c. let a = c .before .before .before .before .before .before .before .before .before .args in rw (← word-is (a .word .now) (a .n)) (put-more (c .before .before .before .before .before .before .put-text .ensures) (put-more (c .before .before .before .before .put-byte .ensures) (put-more (c .before .before .put-decimal .ensures) (c .put-byte2 .ensures))))))
+    (λ c.
+    let at-number = c .before .before in
+    let at-space = at-number .before .before in
+    let at-word = at-space .before .before in
+    let a = at-word .before .before .before .args in
+    rw (← word-is (a .word .now) (a .n)) (put-more (at-word .put-text .ensures)
+    (put-more (at-space .put-byte .ensures) (put-more (at-number .put-decimal .ensures) (c .put-byte2 .ensures))))))

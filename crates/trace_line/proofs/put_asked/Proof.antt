@@ -10,7 +10,8 @@ returns c =
     let at-put3 = at-put4 .before .before in
     let at-put2 = at-put3 .before .before in
     let at-put = at-put2 .before .before in
-    tells-more _ _ (at-put .put .ensures) (tells-more _ _ (at-put2 .put2 .ensures) (tells-more _ _ (at-put3 .put3 .ensures) (tells-more _ _ (at-put4 .put4 .ensures) (c .put5 .ensures))))
+    tells-more _ _ (at-put .put .ensures) (tells-more _ _ (at-put2 .put2 .ensures)
+    (tells-more _ _ (at-put3 .put3 .ensures) (tells-more _ _ (at-put4 .put4 .ensures) (c .put5 .ensures))))
 
 pub put-asked-spec : {M : Type 1} → statement M
 put-asked-spec =

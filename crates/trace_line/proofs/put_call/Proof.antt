@@ -11,13 +11,14 @@ unfolding callText
 returns c =
     let at-put-answer = c .before .before in
     let at-put-asked = at-put-answer .before .before .before in
-    let at-put-thread = at-put-asked .before .before in
+    let at-put-thread = at-put-asked .before .before .before in
     let at-running = at-put-thread .before in
     let at-put = at-running .before .before in
     let at-put-long = at-put .before .before .before in
     let n = tells-more _ _ (at-put-long .put-long .ensures) (at-put .put .ensures) in
     let caller = rw (at-running .running .ensures) at (at-put-thread .put-thread .ensures) in
-    put-more n (put-more caller (put-more (tells-more _ _ (at-put-asked .put-asked .ensures) (at-put-answer .put-answer .ensures)) (c .put-thread2 .ensures)))
+    put-more n (put-more caller (put-more (tells-more _ _ (at-put-asked .put-asked .ensures) (at-put-answer .put-answer .ensures))
+    (c .put-thread2 .ensures)))
 
 pub put-call-spec : {M : Type 1} → statement M
 put-call-spec =

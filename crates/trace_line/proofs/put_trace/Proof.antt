@@ -16,8 +16,12 @@ returns c =
     let at-put-threads = at-put-waited .before .before in
     let at-put-call = at-put-threads .before .before in
     let at-are-typical = at-put-call .before .before in
-    let told = parts-more _ _ (at-put-threads .put-threads .ensures) (parts-more _ _ (at-put-waited .put-waited .ensures) (at-put-others .put-others .ensures)) in
-    record { put = put-more (at-put-call .put-call .ensures) (put-more told (c .put-byte .ensures)); short = trace-most _ _ _ (at-are-typical .are-typical .ensures) }
+    let told = parts-more _ _ (at-put-threads .put-threads .ensures)
+    (parts-more _ _ (at-put-waited .put-waited .ensures) (at-put-others .put-others .ensures)) in
+    record {
+      put = put-more (at-put-call .put-call .ensures) (put-more told (c .put-byte .ensures));
+      short = trace-most _ _ _ (at-are-typical .are-typical .ensures);
+    }
 
 pub put-trace-spec : {M : Type 1} → statement M
 put-trace-spec =

@@ -19,7 +19,8 @@ returns-2 c =
     let at-if1 = at-count-units .before in
     let at-same-heap = at-if1 .before in
     told-changed (at-same-heap .same-heap .ensures) _ (at-if1 .if1 .left)
-    (tells-more _ _ (rw (at-count-units .count-units .ensures .0) at (at-put-long .put-long .ensures)) (rw (at-count-units .count-units .ensures .0, at-count-units2 .count-units2 .ensures .0) at (c .put-long2 .ensures)))
+    (tells-more _ _ (rw (at-count-units .count-units .ensures .0) at (at-put-long .put-long .ensures))
+    (rw (at-count-units .count-units .ensures .0, at-count-units2 .count-units2 .ensures .0) at (c .put-long2 .ensures)))
 
 pub put-heap-spec : {M : Type 1} → statement M
 put-heap-spec =

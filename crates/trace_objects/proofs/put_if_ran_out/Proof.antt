@@ -10,10 +10,15 @@ returns c =
     let at-runs-out = at-if1 .before in
     let at-clock = at-runs-out .before in
     let at-wide = at-clock .before in
-    told-yes (rw (at-clock .clock .ensures, at-wide .wide .ensures .0) at (at-runs-out .runs-out .ensures)) _ (at-if1 .if1 .taken) (c .put-object .ensures)
+    told-yes (rw (at-clock .clock .ensures, at-wide .wide .ensures .0) at (at-runs-out .runs-out .ensures)) _ (at-if1 .if1 .taken)
+    (c .put-object .ensures)
 
 returns-2 : tie.Need-returns-2
-returns-2 c = told-no (rw (c .before .before .clock .ensures, c .before .before .before .wide .ensures .0) at (c .before .runs-out .ensures)) _ (c .if1 .left)
+returns-2 c =
+    let at-runs-out = c .before in
+    let at-clock = at-runs-out .before in
+    let at-wide = at-clock .before in
+    told-no (rw (at-clock .clock .ensures, at-wide .wide .ensures .0) at (at-runs-out .runs-out .ensures)) _ (c .if1 .left)
 
 pub put-if-ran-out-spec : {M : Type 1} → statement M
 put-if-ran-out-spec =

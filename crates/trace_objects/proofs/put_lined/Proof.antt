@@ -12,7 +12,10 @@ use Rattle.trace_objects.proofs.put_lined.Statement.{statement}
 use Rattle.trace_objects.proofs.put_lined.Tie as tie
 
 abbrev Inv-loop : tie.InvT-loop
-Inv-loop out₀ at before t w n lines-before lines from p₀ i₀ out p i = (i ≤ n) × Put out₀ at (columns (eachBelow i (λ k. told (not (sameRow w n before t k && sameList (line lines-before (from + k)) (line lines (from + k)))) (k ∷ (row w n t k ++ waiting lines (from + k)))))) out p
+Inv-loop out₀ at before t w n lines-before lines from p₀ i₀ out p i =
+    (i ≤ n) × Put out₀ at (columns (eachBelow i
+    (λ k. told (not (sameRow w n before t k && sameList (line lines-before (from + k)) (line lines (from + k))))
+    (k ∷ (row w n t k ++ waiting lines (from + k)))))) out p
 
 abbrev μ-loop : tie.MeasureT-loop
 μ-loop out₀ at before t w n lines-before lines from p₀ i₀ out p i = n - i
@@ -21,14 +24,17 @@ loop-holds : tie.Need-loop-holds Inv-loop μ-loop
 loop-holds c = (search needs, each-none _)
 
 loop-again : tie.Need-loop-again Inv-loop μ-loop
-loop-again c = let l = c .before .before .before .loop in (search needs, each-next _ (l .i) (l .inv .1) (c .put-lined-if-changed .ensures))
+loop-again c =
+    let l = c .before .before .before .loop in
+    (search needs, each-next _ (l .i) (l .inv .1) (c .put-lined-if-changed .ensures))
 
 returns : tie.Need-returns Inv-loop μ-loop
 unfolding changedLined
 returns c =
     let at-loop = c .before in
-    let start = at-loop .before .before .before in
-    let l = at-loop .loop in each-end _ (l .i) (l .inv .1) (start .args .n) (l .inv .0) (c .loop-test .left)
+    let a = at-loop .before .before .before .args in
+    let l = at-loop .loop in
+    each-end _ (l .i) (l .inv .1) (a .n) (l .inv .0) (c .loop-test .left)
 
 pub put-lined-spec : {M : Type 1} → statement M
 put-lined-spec =

@@ -11,7 +11,8 @@ returns c =
     let at-same-row = at-same-line .before in
     let at-wide2 = at-same-row .before in
     let at-wide = at-wide2 .before in
-    told-same (both (at-same-row .same-row .ensures) (rw (at-wide .wide .ensures .0, at-wide2 .wide2 .ensures .0) at (at-same-line .same-line .ensures))) _ (c .if1 .taken)
+    told-same (both (at-same-row .same-row .ensures)
+    (rw (at-wide .wide .ensures .0, at-wide2 .wide2 .ensures .0) at (at-same-line .same-line .ensures))) _ (c .if1 .taken)
 
 returns-2 : tie.Need-returns-2
 returns-2 c =
@@ -21,7 +22,9 @@ returns-2 c =
     let at-same-row = at-same-line .before in
     let at-wide2 = at-same-row .before in
     let at-wide = at-wide2 .before in
-    told-changed (both (at-same-row .same-row .ensures) (rw (at-wide .wide .ensures .0, at-wide2 .wide2 .ensures .0) at (at-same-line .same-line .ensures))) _ (at-if1 .if1 .left) (tells-more _ _ (at-put-object .put-object .ensures) (rw (at-wide .wide .ensures .0, at-wide2 .wide2 .ensures .0) at (c .put-waiting .ensures)))
+    told-changed (both (at-same-row .same-row .ensures)
+    (rw (at-wide .wide .ensures .0, at-wide2 .wide2 .ensures .0) at (at-same-line .same-line .ensures))) _ (at-if1 .if1 .left)
+    (tells-more _ _ (at-put-object .put-object .ensures) (rw (at-wide .wide .ensures .0, at-wide2 .wide2 .ensures .0) at (c .put-waiting .ensures)))
 
 pub put-lined-if-changed-spec : {M : Type 1} → statement M
 put-lined-if-changed-spec =

@@ -14,7 +14,8 @@ use Rattle.trace_objects.proofs.put_messages.Statement.{statement}
 use Rattle.trace_objects.proofs.put_messages.Tie as tie
 
 abbrev Inv-loop : tie.InvT-loop
-Inv-loop out₀ at mailboxes i n p₀ k₀ out p k = ((n ≡ length (messages mailboxes i)) × (k ≤ n)) × Put out₀ at (columns (eachBelow k (λ m. getD (messages mailboxes i) m 0 ∷ []))) out p
+Inv-loop out₀ at mailboxes i n p₀ k₀ out p k =
+    ((n ≡ length (messages mailboxes i)) × (k ≤ n)) × Put out₀ at (columns (eachBelow k (λ m. getD (messages mailboxes i) m 0 ∷ []))) out p
 
 abbrev μ-loop : tie.MeasureT-loop
 μ-loop out₀ at mailboxes i n p₀ k₀ out p k = n - k
@@ -34,10 +35,23 @@ loop-again c =
     let at-loop-test = at-mailbox .before .before in
     let at-loop = at-loop-test .before in
     let start = at-loop .before .before in
-    let l = at-loop .loop in ((l .inv .0 .0, search needs), each-next _ (l .k) (l .inv .1) (rw (at-mailbox .mailbox .ensures, message-is (start .args .mailboxes .now) (start .args .i) (l .k) (l .inv .0 .0) (at-loop-test .loop-test .taken)) at (c .put .ensures)))
+    let l = at-loop .loop in (
+      (l .inv .0 .0, search needs),
+      each-next _ (l .k) (l .inv .1)
+          (rw (
+            at-mailbox .mailbox .ensures,
+            message-is (start .args .mailboxes .now) (start .args .i) (l .k) (l .inv .0 .0)
+                (at-loop-test .loop-test .taken),
+          ) at (c .put .ensures)),
+    )
 
 returns : tie.Need-returns Inv-loop μ-loop
-returns c = let start = c .before .before .before in let l = c .before .loop in let told = each-end _ (l .k) (l .inv .1) _ (l .inv .0 .1) (c .loop-test .left) in rw (l .inv .0 .0, each-member (messages (start .args .mailboxes .now) (start .args .i))) at told
+returns c =
+    let at-loop = c .before in
+    let a = at-loop .before .before .args in
+    let l = at-loop .loop in
+    let told = each-end _ (l .k) (l .inv .1) _ (l .inv .0 .1) (c .loop-test .left) in
+    rw (l .inv .0 .0, each-member (messages (a .mailboxes .now) (a .i))) at told
 
 pub put-messages-spec : {M : Type 1} → statement M
 put-messages-spec =

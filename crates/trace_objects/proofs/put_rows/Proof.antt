@@ -20,14 +20,17 @@ loop-holds : tie.Need-loop-holds Inv-loop μ-loop
 loop-holds c = (search needs, each-none _)
 
 loop-again : tie.Need-loop-again Inv-loop μ-loop
-loop-again c = let l = c .before .before .before .loop in (search needs, each-next _ (l .i) (l .inv .1) (c .put-if-changed .ensures))
+loop-again c =
+    let l = c .before .before .before .loop in
+    (search needs, each-next _ (l .i) (l .inv .1) (c .put-if-changed .ensures))
 
 returns : tie.Need-returns Inv-loop μ-loop
 unfolding changedRows
 returns c =
     let at-loop = c .before in
-    let start = at-loop .before .before .before in
-    let l = at-loop .loop in each-end _ (l .i) (l .inv .1) (start .args .n) (l .inv .0) (c .loop-test .left)
+    let a = at-loop .before .before .before .args in
+    let l = at-loop .loop in
+    each-end _ (l .i) (l .inv .1) (a .n) (l .inv .0) (c .loop-test .left)
 
 pub put-rows-spec : {M : Type 1} → statement M
 put-rows-spec =

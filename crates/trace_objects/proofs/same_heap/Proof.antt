@@ -2,6 +2,7 @@
 use Prim.Native.Nat.{_-_, _≤_}
 use mathlib.Core.Path.{_≡_, sym}
 use lib.Dec.{eqb}
+use Rattle.rules.specs.Tables.{heapUnits}
 use borrow.Author.Needs.{needs}
 use Rattle.basics.specs.Find.{allBelow}
 use Rattle.basics.proofs.Finds.{all-none, all-step, all-end}
@@ -12,20 +13,23 @@ use Rattle.trace_objects.proofs.same_heap.Statement.{statement}
 use Rattle.trace_objects.proofs.same_heap.Tie as tie
 
 abbrev Inv-loop : tie.InvT-loop
-Inv-loop before heap same₀ u₀ same u = (u ≤ 256) × (same ≡ allBelow u (λ k. eqb (unit before k) (unit heap k)))
+Inv-loop before heap same₀ u₀ same u = (u ≤ heapUnits) × (same ≡ allBelow u (λ k. eqb (unit before k) (unit heap k)))
 
 abbrev μ-loop : tie.MeasureT-loop
-μ-loop before heap same₀ u₀ same u = 256 - u
+μ-loop before heap same₀ u₀ same u = heapUnits - u
 
 loop-holds : tie.Need-loop-holds Inv-loop μ-loop
 loop-holds c = (search needs, sym (all-none _))
 
 loop-again : tie.Need-loop-again Inv-loop μ-loop
-loop-again c = let l = c .before .before .before .loop in (search needs, all-step _ (l .u) (l .inv .1) (same-words (c .before .unit .ensures) (c .unit2 .ensures)))
+loop-again c =
+    let at-unit = c .before in
+    let l = at-unit .before .before .loop in
+    (search needs, all-step _ (l .u) (l .inv .1) (same-words (at-unit .unit .ensures) (c .unit2 .ensures)))
 
 returns : tie.Need-returns Inv-loop μ-loop
 unfolding sameHeap
-returns c = let l = c .before .loop in all-end _ (l .u) 256 (l .inv .0) (c .loop-test .left) (l .inv .1)
+returns c = let l = c .before .loop in all-end _ (l .u) heapUnits (l .inv .0) (c .loop-test .left) (l .inv .1)
 
 pub same-heap-spec : {M : Type 1} → statement M
 same-heap-spec =

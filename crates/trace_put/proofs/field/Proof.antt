@@ -21,13 +21,18 @@ returns c =
     let at-if2 = at-wide .before in
     let at-if1 = at-if2 .before in
     let start = at-if1 .before .before in
-    c .word .ensures ∙ rw (at-wide .wide .ensures .0, at-wide2 .wide2 .ensures .0, at-wide3 .wide3 .ensures .0) (sym (field-in (start .args .w) (start .args .n) (start .args .t .now) (start .args .i) (start .args .f) (at-if1 .if1 .taken) (at-if2 .if2 .taken)))
+    c .word .ensures ∙ rw (at-wide .wide .ensures .0, at-wide2 .wide2 .ensures .0, at-wide3 .wide3 .ensures .0)
+    (sym (field-in (start .args .w) (start .args .n) (start .args .t .now) (start .args .i) (start .args .f) (at-if1 .if1 .taken) (at-if2 .if2 .taken)))
 
 returns-2 : tie.Need-returns-2
-returns-2 c = let start = c .before .before .before in sym (field-past (start .args .w) (start .args .n) (start .args .t .now) (start .args .i) (start .args .f) (c .if2 .left))
+returns-2 c =
+    let a = c .before .before .before .args in
+    sym (field-past (a .w) (a .n) (a .t .now) (a .i) (a .f) (c .if2 .left))
 
 returns-3 : tie.Need-returns-3
-returns-3 c = let start = c .before .before in sym (field-out (start .args .w) (start .args .n) (start .args .t .now) (start .args .i) (start .args .f) (c .if1 .left))
+returns-3 c =
+    let start = c .before .before in
+    sym (field-out (start .args .w) (start .args .n) (start .args .t .now) (start .args .i) (start .args .f) (c .if1 .left))
 
 pub field-spec : {M : Type 1} → statement M
 field-spec =

@@ -12,7 +12,8 @@ use Rattle.trace_put.proofs.put_line.Statement.{statement}
 use Rattle.trace_put.proofs.put_line.Tie as tie
 
 abbrev Inv-loop : tie.InvT-loop
-Inv-loop out₀ at lines j n p₀ k₀ out p k = ((n ≡ length (line lines j)) × (k ≤ n)) × Put out₀ at (columns (eachBelow k (λ m. getD (line lines j) m 0 ∷ []))) out p
+Inv-loop out₀ at lines j n p₀ k₀ out p k =
+    ((n ≡ length (line lines j)) × (k ≤ n)) × Put out₀ at (columns (eachBelow k (λ m. getD (line lines j) m 0 ∷ []))) out p
 
 abbrev μ-loop : tie.MeasureT-loop
 μ-loop out₀ at lines j n p₀ k₀ out p k = n - k
@@ -23,11 +24,16 @@ loop-holds c = ((c .len .ensures, search needs), each-none _)
 loop-again : tie.Need-loop-again Inv-loop μ-loop
 loop-again c =
     let at-member = c .before in
-    let at-loop = at-member .before .before .before in
-    let l = at-loop .loop in ((l .inv .0 .0, search needs), each-next _ (l .k) (l .inv .1) (rw (at-member .member .ensures) at (c .put-small .ensures)))
+    let l = at-member .before .before .before .loop in
+    ((l .inv .0 .0, search needs), each-next _ (l .k) (l .inv .1) (rw (at-member .member .ensures) at (c .put-small .ensures)))
 
 returns : tie.Need-returns Inv-loop μ-loop
-returns c = let start = c .before .before .before in let l = c .before .loop in let told = each-end _ (l .k) (l .inv .1) _ (l .inv .0 .1) (c .loop-test .left) in rw (l .inv .0 .0, each-member (line (start .args .lines .now) (start .args .j))) at told
+returns c =
+    let at-loop = c .before in
+    let a = at-loop .before .before .args in
+    let l = at-loop .loop in
+    let told = each-end _ (l .k) (l .inv .1) _ (l .inv .0 .1) (c .loop-test .left) in
+    rw (l .inv .0 .0, each-member (line (a .lines .now) (a .j))) at told
 
 pub put-line-spec : {M : Type 1} → statement M
 put-line-spec =

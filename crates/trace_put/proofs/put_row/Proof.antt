@@ -22,12 +22,16 @@ loop-holds c = (search needs, each-none _)
 loop-again : tie.Need-loop-again Inv-loop μ-loop
 loop-again c =
     let at-field = c .before in
-    let at-loop = at-field .before .before .before in
-    let l = at-loop .loop in (search needs, each-next _ (l .f) (l .inv .1) (rw (at-field .field .ensures) at (c .put .ensures)))
+    let l = at-field .before .before .before .loop in
+    (search needs, each-next _ (l .f) (l .inv .1) (rw (at-field .field .ensures) at (c .put .ensures)))
 
 returns : tie.Need-returns Inv-loop μ-loop
 unfolding row
-returns c = let start = c .before .before .before in let l = c .before .loop in each-end _ (l .f) (l .inv .1) (start .args .w) (l .inv .0) (c .loop-test .left)
+returns c =
+    let at-loop = c .before in
+    let a = at-loop .before .before .args in
+    let l = at-loop .loop in
+    each-end _ (l .f) (l .inv .1) (a .w) (l .inv .0) (c .loop-test .left)
 
 pub put-row-spec : {M : Type 1} → statement M
 put-row-spec =

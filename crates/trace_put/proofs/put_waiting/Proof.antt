@@ -7,7 +7,10 @@ use Rattle.trace_put.proofs.put_waiting.Tie as tie
 
 returns : tie.Need-returns
 unfolding waiting
-returns c = tells-more _ _ (rw (c .before .before .before .len .ensures) at (c .before .before .put-long .ensures)) (c .put-line .ensures)
+returns c =
+    let at-put-long = c .before .before in
+    let at-len = at-put-long .before in
+    tells-more _ _ (rw (at-len .len .ensures) at (at-put-long .put-long .ensures)) (c .put-line .ensures)
 
 pub put-waiting-spec : {M : Type 1} → statement M
 put-waiting-spec =

@@ -21,10 +21,16 @@ loop-holds : tie.Need-loop-holds Inv-loop μ-loop
 loop-holds c = (search needs, sym (all-none _))
 
 loop-again : tie.Need-loop-again Inv-loop μ-loop
-loop-again c = let l = c .before .before .before .loop in (search needs, all-step _ (l .k) (l .inv .1) (same-words (c .before .member .ensures) (c .member2 .ensures)))
+loop-again c =
+    let at-member = c .before in
+    let l = at-member .before .before .loop in
+    (search needs, all-step _ (l .k) (l .inv .1) (same-words (at-member .member .ensures) (c .member2 .ensures)))
 
 returns : tie.Need-returns Inv-loop μ-loop
-returns c = let start = c .before .before in let l = c .before .loop in all-end _ (l .k) (start .args .n) (l .inv .0) (c .loop-test .left) (l .inv .1)
+returns c =
+    let start = c .before .before in
+    let l = c .before .loop in
+    all-end _ (l .k) (start .args .n) (l .inv .0) (c .loop-test .left) (l .inv .1)
 
 pub same-front-spec : {M : Type 1} → statement M
 same-front-spec =

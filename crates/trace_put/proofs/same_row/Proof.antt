@@ -20,14 +20,18 @@ loop-holds : tie.Need-loop-holds Inv-loop μ-loop
 loop-holds c = (search needs, sym (all-none _))
 
 loop-again : tie.Need-loop-again Inv-loop μ-loop
-loop-again c = let l = c .before .before .before .loop in (search needs, all-step _ (l .f) (l .inv .1) (rw (c .before .field .ensures, c .field2 .ensures)))
+loop-again c =
+    let at-field = c .before in
+    let l = at-field .before .before .loop in
+    (search needs, all-step _ (l .f) (l .inv .1) (rw (at-field .field .ensures, c .field2 .ensures)))
 
 returns : tie.Need-returns Inv-loop μ-loop
 unfolding sameRow
 returns c =
     let at-loop = c .before in
-    let start = at-loop .before .before .before in
-    let l = at-loop .loop in all-end _ (l .f) (start .args .w) (l .inv .0) (c .loop-test .left) (l .inv .1)
+    let a = at-loop .before .before .before .args in
+    let l = at-loop .loop in
+    all-end _ (l .f) (a .w) (l .inv .0) (c .loop-test .left) (l .inv .1)
 
 pub same-row-spec : {M : Type 1} → statement M
 same-row-spec =

@@ -2,6 +2,7 @@
 use mathlib.Core.Path.{_∙_}
 use native.Mathlib.Omega.{arith}
 use lib.Dec.{eqb}
+use Rattle.rules.specs.Lines.{activeLine}
 use borrow.Author.Needs.{needs}
 use Rattle.trace_changes.specs.Changes.{isStarted}
 use Rattle.rules_laws.proofs.Lines.{line-le}
@@ -13,8 +14,8 @@ add-result : tie.Need-add-result
 add-result c =
     let at-index = c .before .before .before in
     let at-bit = at-index .before in
-    let start = at-bit .before .before .before in
-    omega (arith, c .len2 .ensures, line-le (start .args .lines .now) 48, at-index .index .ensures ∙ at-bit .bit .ensures, bit-most (eqb (start .args .made .number) 0x17))
+    let start = at-bit .before .before .before .before in
+    omega (arith, c .len2 .ensures, line-le (start .args .lines .now) activeLine, at-index .index .ensures ∙ at-bit .bit .ensures, bit-most (eqb (start .args .made .asked .number) 0x17))
 
 returns : tie.Need-returns
 unfolding isStarted

@@ -26,11 +26,15 @@ loop-again c =
     let at-clock = at-runs-out .before in
     let at-index = at-clock .before in
     let at-loop = at-index .before .before in
-    let l = at-loop .loop in (search needs, all-step _ (l .n) (l .inv .1) (rw (at-runs-out .runs-out .ensures, at-clock .clock .ensures, at-index .index .ensures)))
+    let l = at-loop .loop in
+    (search needs, all-step _ (l .n) (l .inv .1) (rw (at-runs-out .runs-out .ensures, at-clock .clock .ensures, at-index .index .ensures)))
 
 returns : tie.Need-returns Inv-loop μ-loop
 unfolding postedBelow
-returns c = let start = c .before .before in let l = c .before .loop in ap not (all-end _ (l .n) (start .args .c) (l .inv .0) (c .loop-test .left) (l .inv .1))
+returns c =
+    let start = c .before .before in
+    let l = c .before .loop in
+    ap not (all-end _ (l .n) (start .args .c) (l .inv .0) (c .loop-test .left) (l .inv .1))
 
 pub posted-below-spec : {M : Type 1} → statement M
 posted-below-spec =

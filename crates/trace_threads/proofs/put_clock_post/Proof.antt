@@ -21,7 +21,11 @@ returns c =
 
 returns-2 : tie.Need-returns-2
 unfolding clockPost
-returns-2 c = told-no (rw (c .before .before .clock .ensures, c .before .before .before .index .ensures) at (c .before .runs-out .ensures)) _ (c .if1 .left)
+returns-2 c =
+    let at-runs-out = c .before in
+    let at-clock = at-runs-out .before in
+    let at-index = at-clock .before in
+    told-no (rw (at-clock .clock .ensures, at-index .index .ensures) at (at-runs-out .runs-out .ensures)) _ (c .if1 .left)
 
 pub put-clock-post-spec : {M : Type 1} → statement M
 put-clock-post-spec =

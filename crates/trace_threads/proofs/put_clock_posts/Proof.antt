@@ -1,5 +1,6 @@
 -- `put_clock_posts` meets its contract: the invariant is that the clocks so far are told.
 use Prim.Native.Nat.{_-_, _≤_}
+use Rattle.rules.specs.Tables.{clockCount}
 use borrow.Author.Needs.{needs}
 use Rattle.text.specs.Put.{Put}
 use Rattle.trace_changes.specs.Numbers.{columns, eachBelow}
@@ -9,20 +10,22 @@ use Rattle.trace_threads.proofs.put_clock_posts.Statement.{statement}
 use Rattle.trace_threads.proofs.put_clock_posts.Tie as tie
 
 abbrev Inv-loop : tie.InvT-loop
-Inv-loop out₀ at clocks swis p₀ c₀ out p c = (c ≤ 16) × Put out₀ at (columns (eachBelow c (clockPost clocks swis))) out p
+Inv-loop out₀ at clocks swis p₀ c₀ out p c = (c ≤ clockCount) × Put out₀ at (columns (eachBelow c (clockPost clocks swis))) out p
 
 abbrev μ-loop : tie.MeasureT-loop
-μ-loop out₀ at clocks swis p₀ c₀ out p c = 16 - c
+μ-loop out₀ at clocks swis p₀ c₀ out p c = clockCount - c
 
 loop-holds : tie.Need-loop-holds Inv-loop μ-loop
 loop-holds c = (search needs, each-none _)
 
 loop-again : tie.Need-loop-again Inv-loop μ-loop
-loop-again c = let l = c .before .before .before .loop in (search needs, each-next _ (l .c) (l .inv .1) (c .put-clock-post .ensures))
+loop-again c =
+    let l = c .before .before .before .loop in
+    (search needs, each-next _ (l .c) (l .inv .1) (c .put-clock-post .ensures))
 
 returns : tie.Need-returns Inv-loop μ-loop
 unfolding clockPosts
-returns c = let start = c .before .before in let l = c .before .loop in each-end _ (l .c) (l .inv .1) 16 (l .inv .0) (c .loop-test .left)
+returns c = let l = c .before .loop in each-end _ (l .c) (l .inv .1) clockCount (l .inv .0) (c .loop-test .left)
 
 pub put-clock-posts-spec : {M : Type 1} → statement M
 put-clock-posts-spec =

@@ -1,5 +1,6 @@
 -- `put_posted` meets its contract: the invariant is that the queues so far are told.
 use Prim.Native.Nat.{_-_, _≤_}
+use Rattle.rules.specs.Tables.{swiLevels}
 use borrow.Author.Needs.{needs}
 use Rattle.rules.specs.Lines.{line, postedLine}
 use Rattle.text.specs.Put.{Put}
@@ -10,20 +11,22 @@ use Rattle.trace_threads.proofs.put_posted.Statement.{statement}
 use Rattle.trace_threads.proofs.put_posted.Tie as tie
 
 abbrev Inv-loop : tie.InvT-loop
-Inv-loop out₀ at lines p₀ k₀ out p k = (k ≤ 16) × Put out₀ at (columns (eachBelow k (λ q. line lines (postedLine (15 - q))))) out p
+Inv-loop out₀ at lines p₀ k₀ out p k = (k ≤ swiLevels) × Put out₀ at (columns (eachBelow k (λ q. line lines (postedLine (15 - q))))) out p
 
 abbrev μ-loop : tie.MeasureT-loop
-μ-loop out₀ at lines p₀ k₀ out p k = 16 - k
+μ-loop out₀ at lines p₀ k₀ out p k = swiLevels - k
 
 loop-holds : tie.Need-loop-holds Inv-loop μ-loop
 loop-holds c = (search needs, each-none _)
 
 loop-again : tie.Need-loop-again Inv-loop μ-loop
-loop-again c = let l = c .before .before .before .loop in (search needs, each-next _ (l .k) (l .inv .1) (c .put-line .ensures))
+loop-again c =
+    let l = c .before .before .before .loop in
+    (search needs, each-next _ (l .k) (l .inv .1) (c .put-line .ensures))
 
 returns : tie.Need-returns Inv-loop μ-loop
 unfolding postedSwis
-returns c = let start = c .before .before in let l = c .before .loop in each-end _ (l .k) (l .inv .1) 16 (l .inv .0) (c .loop-test .left)
+returns c = let l = c .before .loop in each-end _ (l .k) (l .inv .1) swiLevels (l .inv .0) (c .loop-test .left)
 
 pub put-posted-spec : {M : Type 1} → statement M
 put-posted-spec =

@@ -8,22 +8,20 @@ use Rattle.trace_threads.proofs.put_posts.Tie as tie
 
 returns : tie.Need-returns
 unfolding postsMade
-returns c = let start = c .before .before .before in rw (ne-eqb _ 0 (c .if1 .taken)) (tells-none _ _)
+returns c = rw (ne-eqb _ 0 (c .if1 .taken)) (tells-none _ _)
 
 returns-2 : tie.Need-returns-2
 unfolding postsMade
 returns-2 c =
     let at-if2 = c .before .before in
-    let at-if1 = at-if2 .before .before in
-    let start = at-if1 .before .before .before in
+    let at-if1 = at-if2 .before .before .before in
     rw (eq-eqb _ 0 (at-if1 .if1 .left), eq-eqb _ 0x76 (at-if2 .if2 .taken)) (c .put-clock-posts .ensures)
 
 returns-3 : tie.Need-returns-3
 unfolding postsMade
 returns-3 c =
     let at-if2 = c .before .before in
-    let at-if1 = at-if2 .before .before in
-    let start = at-if1 .before .before .before in
+    let at-if1 = at-if2 .before .before .before in
     rw (eq-eqb _ 0 (at-if1 .if1 .left), ne-eqb _ 0x76 (at-if2 .if2 .left)) (c .put-call-post .ensures)
 
 pub put-posts-spec : {M : Type 1} → statement M

@@ -14,7 +14,9 @@ returns c =
     let at-put2 = at-put3 .before .before in
     let at-put = at-put2 .before .before in
     let at-put-long = at-put .before .before in
-    tells-more _ _ (at-put-long .put-long .ensures) (tells-more _ _ (at-put .put .ensures) (tells-more _ _ (at-put2 .put2 .ensures) (tells-more _ _ (at-put3 .put3 .ensures) (tells-more _ _ (at-put4 .put4 .ensures) (tells-more _ _ (at-put5 .put5 .ensures) (c .put6 .ensures))))))
+    tells-more _ _ (at-put-long .put-long .ensures)
+    (tells-more _ _ (at-put .put .ensures) (tells-more _ _ (at-put2 .put2 .ensures)
+    (tells-more _ _ (at-put3 .put3 .ensures) (tells-more _ _ (at-put4 .put4 .ensures) (tells-more _ _ (at-put5 .put5 .ensures) (c .put6 .ensures))))))
 
 pub put-task-spec : {M : Type 1} → statement M
 put-task-spec =

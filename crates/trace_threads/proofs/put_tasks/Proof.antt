@@ -2,7 +2,7 @@
 use Prim.Native.Nat.{_-_, _≤_}
 use mathlib.Core.Bool.{not}
 use borrow.Author.Needs.{needs}
-use Rattle.rules.specs.Tables.{task}
+use Rattle.rules.specs.Tables.{task, taskCount}
 use Rattle.text.specs.Put.{Put}
 use Rattle.trace_changes.specs.Numbers.{columns, eachBelow, told}
 use Rattle.trace_changes.specs.Changes.{sameTask, taskNumbers, changedTasks}
@@ -11,20 +11,23 @@ use Rattle.trace_threads.proofs.put_tasks.Statement.{statement}
 use Rattle.trace_threads.proofs.put_tasks.Tie as tie
 
 abbrev Inv-loop : tie.InvT-loop
-Inv-loop out₀ at before tasks p₀ i₀ out p i = (i ≤ 32) × Put out₀ at (columns (eachBelow i (λ k. told (not (sameTask (task before k) (task tasks k))) (taskNumbers k (task tasks k))))) out p
+Inv-loop out₀ at before tasks p₀ i₀ out p i =
+    (i ≤ taskCount) × Put out₀ at (columns (eachBelow i (λ k. told (not (sameTask (task before k) (task tasks k))) (taskNumbers k (task tasks k))))) out p
 
 abbrev μ-loop : tie.MeasureT-loop
-μ-loop out₀ at before tasks p₀ i₀ out p i = 32 - i
+μ-loop out₀ at before tasks p₀ i₀ out p i = taskCount - i
 
 loop-holds : tie.Need-loop-holds Inv-loop μ-loop
 loop-holds c = (search needs, each-none _)
 
 loop-again : tie.Need-loop-again Inv-loop μ-loop
-loop-again c = let l = c .before .before .before .loop in (search needs, each-next _ (l .i) (l .inv .1) (c .put-if-changed .ensures))
+loop-again c =
+    let l = c .before .before .before .loop in
+    (search needs, each-next _ (l .i) (l .inv .1) (c .put-if-changed .ensures))
 
 returns : tie.Need-returns Inv-loop μ-loop
 unfolding changedTasks
-returns c = let l = c .before .loop in each-end _ (l .i) (l .inv .1) 32 (l .inv .0) (c .loop-test .left)
+returns c = let l = c .before .loop in each-end _ (l .i) (l .inv .1) taskCount (l .inv .0) (c .loop-test .left)
 
 pub put-tasks-spec : {M : Type 1} → statement M
 put-tasks-spec =

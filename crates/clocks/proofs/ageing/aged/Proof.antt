@@ -1,8 +1,23 @@
+-- `aged` meets its contract: a stopped clock stays, one on its last tick fires and starts its period, another has a tick less.
 use borrow.Author.Tests.{eq-eqb, ne-eqb}
 use Rattle.rules.specs.Tick.{aged}
 use borrow.Author.Needs.{needs}
 use Rattle.clocks.proofs.ageing.aged.Statement.{statement}
 use Rattle.clocks.proofs.ageing.aged.Tie as tie
+
+returns-2 : tie.Need-returns-2
+unfolding aged
+returns-2 c =
+    let at-last = c .before in
+    let at-running = at-last .before .before in
+    rw (ne-eqb _ 0 (at-running .if1 .left), eq-eqb _ 1 (at-last .if2 .taken), c .with-left .ensures)
+
+returns-3 : tie.Need-returns-3
+unfolding aged
+returns-3 c =
+    let at-last = c .before .before in
+    let at-running = at-last .before .before in
+    rw (ne-eqb _ 0 (at-running .if1 .left), ne-eqb _ 1 (at-last .if2 .left), c .with-left2 .ensures)
 
 pub aged-spec : {M : Type 1} → statement M
 unfolding aged
@@ -11,7 +26,7 @@ aged-spec =
     (tie.spec
     (λ c. rw (eq-eqb _ 0 (c .if1 .taken)))
     (λ c κs. search needs)
-    (λ c. rw (ne-eqb _ 0 (c .before .before .before .if1 .left), eq-eqb _ 1 (c .before .if2 .taken), c .with-left .ensures))
+    returns-2
     (λ c. search needs)
     (λ c κs. search needs)
-    (λ c. rw (ne-eqb _ 0 (c .before .before .before .before .if1 .left), ne-eqb _ 1 (c .before .before .if2 .left), c .with-left2 .ensures)))
+    returns-3)

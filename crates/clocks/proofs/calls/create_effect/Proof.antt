@@ -5,8 +5,14 @@ use borrow.Author.Needs.{needs}
 use Rattle.clocks.proofs.calls.create_effect.Statement.{statement}
 use Rattle.clocks.proofs.calls.create_effect.Tie as tie
 
-pub create-effect-spec : {M : Type 1} → statement M
+returns : tie.Need-returns
 unfolding createEffect
+returns c =
+    let at-set-clock = c .before in
+    let at-free-clock = at-set-clock .before .before in
+    rw (← (at-free-clock .free-clock .ensures .0)) (stored _ _ (at-set-clock .set-clock .ensures) (c .accepted .ensures) refl)
+
+pub create-effect-spec : {M : Type 1} → statement M
 create-effect-spec =
     tie.close
     (tie.spec
@@ -14,4 +20,4 @@ create-effect-spec =
     (λ c κs. search needs)
     (λ c. search needs)
     (λ c κs. search needs)
-    (λ c. rw (← (c .before .before .before .free-clock .ensures .0)) (stored _ _ (c .before .set-clock .ensures) (c .accepted .ensures) refl)))
+    returns)

@@ -3,6 +3,12 @@ use borrow.Author.Needs.{needs}
 use Rattle.clocks.proofs.calls.start.Statement.{statement}
 use Rattle.clocks.proofs.calls.start.Tie as tie
 
+returns-2 : tie.Need-returns-2
+returns-2 c =
+    let at-test = c .before .before in
+    let at-start-stop-code = at-test .before in
+    effected _ _ _ (at-start-stop-code .start-stop-code .ensures) (at-test .if1 .left) (c .start-effect .ensures)
+
 pub start-spec : {M : Type 1} → statement M
 start-spec =
     tie.close
@@ -11,4 +17,4 @@ start-spec =
     (λ c κs. search needs)
     (λ c. refusal _ _ _ (c .before .before .start-stop-code .ensures) (c .before .if1 .taken) (c .refused .ensures))
     (λ c κs. search needs)
-    (λ c. effected _ _ _ (c .before .before .before .start-stop-code .ensures) (c .before .before .if1 .left) (c .start-effect .ensures)))
+    returns-2)

@@ -6,8 +6,16 @@ use borrow.Author.Needs.{needs}
 use Rattle.clocks.proofs.calls.stop_effect.Statement.{statement}
 use Rattle.clocks.proofs.calls.stop_effect.Tie as tie
 
-pub stop-effect-spec : {M : Type 1} → statement M
+returns : tie.Need-returns
 unfolding stopEffect
+returns c =
+    let at-set-clock = c .before in
+    let at-with-left = at-set-clock .before .before in
+    let at-clock = at-with-left .before in
+    stored _ _ (at-set-clock .set-clock .ensures) (c .accepted .ensures)
+    (at-with-left .with-left .ensures ∙ ap (λ (k : Clock). withLeft k 0) (at-clock .clock .ensures))
+
+pub stop-effect-spec : {M : Type 1} → statement M
 stop-effect-spec =
     tie.close
     (tie.spec
@@ -15,4 +23,4 @@ stop-effect-spec =
     (λ c κs. search needs)
     (λ c κs. search needs)
     (λ c κs. search needs)
-    (λ c. stored _ _ (c .before .set-clock .ensures) (c .accepted .ensures) (c .before .before .before .with-left .ensures ∙ ap (λ (k : Clock). withLeft k 0) (c .before .before .before .before .clock .ensures))))
+    returns)

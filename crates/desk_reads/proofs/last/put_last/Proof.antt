@@ -1,3 +1,4 @@
+-- `put_last` meets its contract: each thing that can be found, but a record, has its word, and a fault the place in the log.
 use Rattle.text.proofs.Puts.{put-none}
 use Rattle.desk_parts.specs.Part.{lastText}
 use borrow.Author.Needs.{needs}

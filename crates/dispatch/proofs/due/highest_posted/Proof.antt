@@ -4,6 +4,7 @@ use mathlib.Core.Path.{_≡_, refl, sym, _∙_}
 use native.Mathlib.Omega.{arith}
 use Rattle.basics.specs.Find.{highestBelow}
 use Rattle.basics.proofs.Finds.{high-goes, high-here, high-none}
+use Rattle.rules.specs.Tables.{swiLevels}
 use Rattle.rules.specs.Lines.{anyone, postedLine}
 use Rattle.rules.specs.Dispatch.{highestPosted}
 use borrow.Author.Needs.{needs}
@@ -12,7 +13,7 @@ use Rattle.dispatch.proofs.due.highest_posted.Tie as tie
 
 abbrev Inv-loop : tie.InvT-loop
 Inv-loop lines level₀ level =
-    (level ≤ 16) × (highestBelow level (λ p. anyone lines (postedLine p)) ≡ highestBelow 16 (λ p. anyone lines (postedLine p)))
+    (level ≤ swiLevels) × (highestBelow level (λ p. anyone lines (postedLine p)) ≡ highestBelow swiLevels (λ p. anyone lines (postedLine p)))
 
 abbrev μ-loop : tie.MeasureT-loop
 μ-loop lines level₀ level = level

@@ -1,4 +1,4 @@
--- `ready_queues` meets its contract: the loop makes the word of the empty queues from the top, and what it leaves of all bits is the word of the others
+-- `ready_queues` meets its contract: the loop makes the word of the empty queues from the top, and the bits that it leaves are the word of the others
 use Prim.Native.Nat.{ℕ, _+_, _*_, _≤_, _<_, min}
 use mathlib.Core.Path.{_≡_}
 use mathlib.Core.Bool.{Bool, not}
@@ -11,7 +11,8 @@ use Rattle.dispatch.proofs.due.ready_queues.Statement.{statement}
 use Rattle.dispatch.proofs.due.ready_queues.Tie as tie
 
 abbrev Inv-loop : tie.InvT-loop
-Inv-loop lines from n first empties₀ p₀ empties p = (first ≡ from) × (first < 256) × Made (min n 32) (λ q. not (anyone lines (readyLine (from + q)))) p empties
+Inv-loop lines from n first empties₀ p₀ empties p =
+    (first ≡ from) × (first < 256) × Made (min n 32) (λ q. not (anyone lines (readyLine (from + q)))) p empties
 
 abbrev μ-loop : tie.MeasureT-loop
 μ-loop lines from n first empties₀ p₀ empties p = p
@@ -51,7 +52,8 @@ ready-queues-spec =
     (λ c.
     let at-test = c .before in
     let at-loop = at-test .before .loop in
-    (at-loop .inv .0, at-loop .inv .1, made-more _ _ _ (omega (arith, at-test .loop-test .taken)) (at-loop .inv .2) (rw (at-loop .inv .0) at (c .empty .ensures .0))))
+    let (first-is, first-low, so-far) = at-loop .inv in
+    (first-is, first-low, made-more _ _ _ (omega (arith, at-test .loop-test .taken)) so-far (rw first-is at (c .empty .ensures .0))))
     (λ c κs. search needs)
     (λ c.
     let at-test = c .before in

@@ -5,11 +5,17 @@ use borrow.Author.Needs.{needs}
 use Rattle.events.proofs.calls.delete_effect.Statement.{statement}
 use Rattle.events.proofs.calls.delete_effect.Tie as tie
 
-pub delete-effect-spec : {M : Type 1} → statement M
+returns : tie.Need-returns
 unfolding deleteEffect
+returns c =
+    let at-put-event = c .before in
+    let a = at-put-event .before .before .args in
+    λ ts ls. objects-is (waitTables ts ls (a .events .now)) 0 0 (c .accepted .ensures) (at-put-event .put-event .ensures)
+
+pub delete-effect-spec : {M : Type 1} → statement M
 delete-effect-spec =
     tie.close
     (tie.spec
     (λ c κs. search needs)
     (λ c κs. search needs)
-    (λ c. λ ts ls. objects-is (waitTables ts ls (c .before .before .before .args .events .now)) 0 0 (c .accepted .ensures) (c .before .put-event .ensures)))
+    returns)

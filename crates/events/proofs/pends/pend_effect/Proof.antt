@@ -1,7 +1,39 @@
+-- `pend_effect` meets its contract: bits that match are taken; else limit 0 is not done, and with another the current task waits.
 use Rattle.events.proofs.PendPost.{pend-takes, pend-not, pend-waits}
 use borrow.Author.Needs.{needs}
 use Rattle.events.proofs.pends.pend_effect.Statement.{statement}
 use Rattle.events.proofs.pends.pend_effect.Tie as tie
+
+returns : tie.Need-returns
+returns c =
+    let at-set-event = c .before in
+    let at-event = at-set-event .before .before in
+    let at-matched = at-event .before .before in
+    let at-event-match = at-matched .before in
+    let args = at-event-match .before .before .args in
+    pend-takes (args .tasks .now) (args .lines .now) (args .events .now) (args .state .now) (args .a) (args .b) (args .c) (args .limit)
+    (at-event-match .event-match .ensures) (at-matched .if1 .taken) (at-event .event .ensures) (at-set-event .set-event .ensures) (c .accepted .ensures)
+
+returns-2 : tie.Need-returns-2
+returns-2 c =
+    let at-limit = c .before in
+    let at-matched = at-limit .before in
+    let at-event-match = at-matched .before in
+    let args = at-event-match .before .before .args in
+    pend-not (args .tasks .now) (args .lines .now) (args .events .now) (args .state .now) (args .a) (args .b) (args .c) (args .limit)
+    (at-event-match .event-match .ensures) (at-matched .if1 .left) (at-limit .if2 .taken) (c .accepted2 .ensures)
+
+returns-3 : tie.Need-returns-3
+returns-3 c =
+    let at-wait = c .before in
+    let at-current = at-wait .before .before .before in
+    let at-limit = at-current .before in
+    let at-matched = at-limit .before in
+    let at-event-match = at-matched .before in
+    let args = at-event-match .before .before .args in
+    pend-waits (args .tasks .now) (args .lines .now) (args .events .now) (args .state .now) (args .a) (args .b) (args .c) (args .limit)
+    (at-event-match .event-match .ensures) (at-matched .if1 .left) (at-limit .if2 .left) (at-current .current .ensures) (at-wait .wait .ensures)
+    (c .accepted3 .ensures)
 
 pub pend-effect-spec : {M : Type 1} → statement M
 pend-effect-spec =
@@ -11,11 +43,11 @@ pend-effect-spec =
     (λ c κs. search needs)
     (λ c κs. search needs)
     (λ c κs. search needs)
-    (λ c. let b = c .before .before .before .before .before .before .before .before in pend-takes (b .args .tasks .now) (b .args .lines .now) (b .args .events .now) (b .args .state .now) (b .args .a) (b .args .b) (b .args .c) (b .args .limit) (c .before .before .before .before .before .before .event-match .ensures) (c .before .before .before .before .before .if1 .taken) (c .before .before .before .event .ensures) (c .before .set-event .ensures) (c .accepted .ensures))
+    returns
     (λ c κs. search needs)
-    (λ c. let b = c .before .before .before .before .before in pend-not (b .args .tasks .now) (b .args .lines .now) (b .args .events .now) (b .args .state .now) (b .args .a) (b .args .b) (b .args .c) (b .args .limit) (c .before .before .before .event-match .ensures) (c .before .before .if1 .left) (c .before .if2 .taken) (c .accepted2 .ensures))
+    returns-2
     (λ c κs. search needs)
     (λ c. search needs)
     (λ c κs. search needs)
     (λ c κs. search needs)
-    (λ c. let b = c .before .before .before .before .before .before .before .before .before in pend-waits (b .args .tasks .now) (b .args .lines .now) (b .args .events .now) (b .args .state .now) (b .args .a) (b .args .b) (b .args .c) (b .args .limit) (c .before .before .before .before .before .before .before .event-match .ensures) (c .before .before .before .before .before .before .if1 .left) (c .before .before .before .before .before .if2 .left) (c .before .before .before .before .current .ensures) (c .before .wait .ensures) (c .accepted3 .ensures)))
+    returns-3)

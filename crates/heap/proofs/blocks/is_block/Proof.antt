@@ -1,8 +1,23 @@
+-- `is_block` meets its contract: a whole offset, a block's first unit there, and its units as many as the bytes take.
 use borrow.Author.Tests.{eq-eqb, ne-eqb}
 use Rattle.rules.specs.Heap.{isBlock}
 use borrow.Author.Needs.{needs}
 use Rattle.heap.proofs.blocks.is_block.Statement.{statement}
 use Rattle.heap.proofs.blocks.is_block.Tie as tie
+
+returns-3 : tie.Need-returns-3
+unfolding isBlock
+returns-3 c =
+    let at-units = c .before in
+    let at-test-2 = at-units .before in
+    let at-unit = at-test-2 .before in
+    let at-test = at-unit .before in
+    rw (
+      eq-eqb _ 0 (at-test .if1 .left),
+      eq-eqb _ 1 (rw (at-unit .unit .ensures) at (at-test-2 .if2 .left)),
+      at-units .units .ensures,
+      c .block-size .ensures,
+    )
 
 pub is-block-spec : {M : Type 1} → statement M
 unfolding isBlock
@@ -15,4 +30,4 @@ is-block-spec =
     (λ c. rw (eq-eqb _ 0 (c .before .before .if1 .left), ne-eqb _ 1 (rw (c .before .unit .ensures) at (c .if2 .taken))))
     (λ c κs. search needs)
     (λ c κs. search needs)
-    (λ c. rw (eq-eqb _ 0 (c .before .before .before .before .if1 .left), eq-eqb _ 1 (rw (c .before .before .before .unit .ensures) at (c .before .before .if2 .left)), c .before .units .ensures, c .block-size .ensures)))
+    returns-3)

@@ -1,3 +1,5 @@
+-- `mark` meets its contract: k units are marked so far, at the end all n; what does not fit in the heap is not marked.
+use Rattle.rules.specs.Tables.{heapUnits}
 use Prim.Native.Nat.{_-_, _≤_, _<_}
 use native.Mathlib.Omega.{arith}
 use borrow.Author.Needs.{needs}
@@ -6,10 +8,24 @@ use Rattle.heap.proofs.blocks.mark.Statement.{statement}
 use Rattle.heap.proofs.blocks.mark.Tie as tie
 
 abbrev Inv-loop : tie.InvT-loop
-Inv-loop heap₀ u n first later k₀ heap k = (u < 256) × (n ≤ 256 - u) × Marked heap₀ u n later k heap
+Inv-loop heap₀ u n first later k₀ heap k = (u < heapUnits) × (n ≤ heapUnits - u) × Marked heap₀ u n later k heap
 
 abbrev μ-loop : tie.MeasureT-loop
 μ-loop heap₀ u n first later k₀ heap k = n - k
+
+returns : tie.Need-returns Inv-loop μ-loop
+returns c =
+    let at-loop = c .before in
+    let at-fits = at-loop .before in
+    let at-unit = at-fits .before in
+    let a = at-unit .before .args in
+    marked-all _ _ _ (a .heap .now) (a .first) _ (at-unit .if1 .taken) (at-fits .if2 .taken) (c .loop-test .left) (at-loop .loop .inv .2)
+
+returns-2 : tie.Need-returns-2 Inv-loop μ-loop
+returns-2 c = let a = c .before .before .args in marked-out (a .u) (a .n) (a .later) (a .heap .now) (a .first) (omega arith)
+
+returns-3 : tie.Need-returns-3 Inv-loop μ-loop
+returns-3 c = let a = c .before .args in marked-out (a .u) (a .n) (a .later) (a .heap .now) (a .first) (omega arith)
 
 pub mark-spec : {M : Type 1} → statement M
 mark-spec =
@@ -25,6 +41,6 @@ mark-spec =
     (λ c. search needs)
     (λ c. search needs)
     (λ c. (search needs, search needs, marked-more _ _ _ _ _ (c .loop-test .taken) (c .before .loop .inv .2)))
-    (λ c. let b = c .before .before .before .before in marked-all _ _ _ (b .args .heap .now) (b .args .first) _ (c .before .before .before .if1 .taken) (c .before .before .if2 .taken) (c .loop-test .left) (c .before .loop .inv .2))
-    (λ c. let b = c .before .before in marked-out (b .args .u) (b .args .n) (b .args .later) (b .args .heap .now) (b .args .first) (omega arith))
-    (λ c. let b = c .before in marked-out (b .args .u) (b .args .n) (b .args .later) (b .args .heap .now) (b .args .first) (omega arith)))
+    returns
+    returns-2
+    returns-3)

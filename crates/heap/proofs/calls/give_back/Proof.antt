@@ -1,3 +1,4 @@
+-- `give_back` meets its contract: the codes in order, then the units of the block are free again.
 use mathlib.Core.Path.{_∙_}
 use borrow.Author.Tests.{eq-eqb, ne-eqb}
 use Rattle.rules.specs.Answer.{firstGiven}
@@ -6,6 +7,32 @@ use borrow.Author.Needs.{needs}
 use Rattle.heap.proofs.BlockUnits.{give-is, block-is}
 use Rattle.heap.proofs.calls.give_back.Statement.{statement}
 use Rattle.heap.proofs.calls.give_back.Tie as tie
+
+returns-2 : tie.Need-returns-2
+unfolding firstGiven giveCases
+returns-2 c =
+    let at-given = c .before in
+    let at-unused = at-given .before in
+    let at-is-block = at-unused .before in
+    let at-task = at-is-block .before .before in
+    rw (
+      c .refused2 .ensures,
+      eq-eqb _ 0 (at-task .if1 .left),
+      rw (at-is-block .is-block .ensures, at-unused .unused .ensures) at (at-given .if2 .taken),
+    )
+
+returns-3 : tie.Need-returns-3
+unfolding firstGiven giveCases
+returns-3 c =
+    let at-mark = c .before in
+    let at-units = at-mark .before in
+    let at-given = at-units .before .before in
+    let at-unused = at-given .before in
+    let at-is-block = at-unused .before in
+    let at-task = at-is-block .before .before in
+    let t = rw (at-is-block .is-block .ensures, at-unused .unused .ensures) at (at-given .if2 .left) in
+    let n = at-units .units .ensures ∙ block-is _ _ _ _ t in
+    rw (eq-eqb _ 0 (at-task .if1 .left), t) (give-is _ _ n (at-mark .mark .ensures) (c .accepted .ensures))
 
 pub give-back-spec : {M : Type 1} → statement M
 unfolding firstGiven giveCases
@@ -17,19 +44,9 @@ give-back-spec =
     (λ c κs. search needs)
     (λ c κs. search needs)
     (λ c κs. search needs)
-    (λ c.
-    let b = c .before in
-    rw (
-      c .refused2 .ensures,
-      eq-eqb _ 0 (b .before .before .before .before .if1 .left),
-      rw (b .before .before .is-block .ensures, b .before .unused .ensures) at (b .if2 .taken),
-    ))
+    returns-2
     (λ c. search needs)
     (λ c κs. search needs)
     (λ c κs. search needs)
     (λ c κs. search needs)
-    (λ c.
-    let b = c .before .before .before .before in
-    let t = rw (b .before .before .is-block .ensures, b .before .unused .ensures) at (b .if2 .left) in
-    let n = c .before .before .units .ensures ∙ block-is _ _ _ _ t in
-    rw (eq-eqb _ 0 (b .before .before .before .before .if1 .left), t) (give-is _ _ n (c .before .mark .ensures) (c .accepted .ensures))))
+    returns-3)

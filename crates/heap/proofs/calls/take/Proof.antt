@@ -1,3 +1,5 @@
+-- `take` meets its contract: the codes in order, then the lowest run is marked and its offset is the value.
+use Rattle.rules.specs.Tables.{heapUnits}
 use borrow.Author.Tests.{eq-eqb, ne-eqb}
 use Rattle.rules.specs.Answer.{firstGiven}
 use Rattle.rules.specs.Heap.{takeCases}
@@ -5,6 +7,43 @@ use borrow.Author.Needs.{needs}
 use Rattle.heap.proofs.BlockUnits.{take-is}
 use Rattle.heap.proofs.calls.take.Statement.{statement}
 use Rattle.heap.proofs.calls.take.Tie as tie
+
+returns-2 : tie.Need-returns-2
+unfolding firstGiven takeCases
+returns-2 c =
+    let at-given = c .before in
+    let at-unused = at-given .before in
+    let at-task = at-unused .before in
+    rw (c .refused2 .ensures, eq-eqb _ 0 (at-task .if1 .left), rw (at-unused .unused .ensures) at (at-given .if2 .taken))
+
+returns-3 : tie.Need-returns-3
+unfolding firstGiven takeCases
+returns-3 c =
+    let at-run = c .before in
+    let at-lowest-run = at-run .before in
+    let at-units = at-lowest-run .before .before in
+    let at-given = at-units .before in
+    let at-unused = at-given .before in
+    let at-task = at-unused .before in
+    let t = rw (at-unused .unused .ensures) at (at-given .if2 .left) in
+    let none = rw (at-lowest-run .lowest-run .ensures .0, at-units .units .ensures) at (at-run .if3 .taken) in
+    rw (c .refused3 .ensures, eq-eqb _ 0 (at-task .if1 .left), t, eq-eqb _ heapUnits none)
+
+returns-4 : tie.Need-returns-4
+unfolding firstGiven takeCases
+returns-4 c =
+    let at-mark = c .before in
+    let at-run = at-mark .before .before in
+    let at-lowest-run = at-run .before in
+    let at-units = at-lowest-run .before .before in
+    let at-given = at-units .before in
+    let at-unused = at-given .before in
+    let at-task = at-unused .before in
+    let t = rw (at-unused .unused .ensures) at (at-given .if2 .left) in
+    let n = at-units .units .ensures in
+    let u = at-lowest-run .lowest-run .ensures .0 in
+    let some = rw (u, n) at (at-run .if3 .left) in
+    rw (eq-eqb _ 0 (at-task .if1 .left), t, ne-eqb _ heapUnits some) (take-is _ _ n u (at-mark .mark .ensures) (c .accepted .ensures))
 
 pub take-spec : {M : Type 1} → statement M
 unfolding firstGiven takeCases
@@ -15,24 +54,13 @@ take-spec =
     (λ c. rw (c .refused .ensures, ne-eqb _ 0 (c .before .if1 .taken)))
     (λ c κs. search needs)
     (λ c κs. search needs)
-    (λ c. rw (c .refused2 .ensures, eq-eqb _ 0 (c .before .before .before .if1 .left), rw (c .before .before .unused .ensures) at (c .before .if2 .taken)))
+    returns-2
     (λ c κs. search needs)
     (λ c κs. search needs)
     (λ c κs. search needs)
-    (λ c.
-    let b = c .before .before in
-    let t = rw (b .before .before .before .before .unused .ensures) at (b .before .before .before .if2 .left) in
-    let none = rw (b .lowest-run .ensures .0, b .before .before .units .ensures) at (c .before .if3 .taken) in
-    rw (c .refused3 .ensures, eq-eqb _ 0 (b .before .before .before .before .before .if1 .left), t, eq-eqb _ 256 none))
+    returns-3
     (λ c κs. search needs)
     (λ c. search needs)
     (λ c. search needs)
     (λ c κs. search needs)
-    (λ c.
-    let b = c .before .before .before .before in
-    let t = rw (b .before .before .before .before .unused .ensures) at (b .before .before .before .if2 .left) in
-    let n = b .before .before .units .ensures in
-    let u = b .lowest-run .ensures .0 in
-    let some = rw (u, n) at (c .before .before .before .if3 .left) in
-    rw (eq-eqb _ 0 (b .before .before .before .before .before .if1 .left), t, ne-eqb _ 256 some)
-    (take-is _ _ n u (c .before .mark .ensures) (c .accepted .ensures))))
+    returns-4)

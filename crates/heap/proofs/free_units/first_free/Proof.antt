@@ -1,3 +1,5 @@
+-- `first_free` meets its contract: no unit passed is free; four are tried a turn, and the last few one by one.
+use Rattle.rules.specs.Tables.{heapUnits}
 use Prim.Native.Nat.{_-_}
 use mathlib.Core.Path.{_≡_, sym, _∙_}
 use borrow.Author.Needs.{needs}
@@ -10,7 +12,47 @@ abbrev Inv-loop : tie.InvT-loop
 Inv-loop heap from u₀ u = firstFree heap u ≡ firstFree heap from
 
 abbrev μ-loop : tie.MeasureT-loop
-μ-loop heap from u₀ u = 256 - u
+μ-loop heap from u₀ u = heapUnits - u
+
+returns : tie.Need-returns Inv-loop μ-loop
+returns c = let at-loop = c .before .before .before in sym (free-here _ _ (search needs) (c .if1 .taken)) ∙ at-loop .loop .inv
+
+returns-2 : tie.Need-returns-2 Inv-loop μ-loop
+returns-2 c =
+    let at-first = c .before .before in
+    let at-loop-test = at-first .before .before in
+    let at-loop = at-loop-test .before in
+    sym (free-here _ _ (search needs) (c .if2 .taken)) ∙ past-1 _ _ (at-loop-test .loop-test .taken) (at-first .if1 .left) ∙ at-loop .loop .inv
+
+returns-3 : tie.Need-returns-3 Inv-loop μ-loop
+returns-3 c =
+    let at-second = c .before .before in
+    let at-first = at-second .before .before in
+    let at-loop-test = at-first .before .before in
+    let at-loop = at-loop-test .before in
+    sym (free-here _ _ (search needs) (c .if3 .taken))
+    ∙ past-2 _ _ (at-loop-test .loop-test .taken) (at-first .if1 .left) (at-second .if2 .left)
+    ∙ at-loop .loop .inv
+
+returns-4 : tie.Need-returns-4 Inv-loop μ-loop
+returns-4 c =
+    let at-third = c .before .before in
+    let at-second = at-third .before .before in
+    let at-first = at-second .before .before in
+    let at-loop-test = at-first .before .before in
+    let at-loop = at-loop-test .before in
+    sym (free-here _ _ (search needs) (c .if4 .taken))
+    ∙ past-3 _ _ (at-loop-test .loop-test .taken) (at-first .if1 .left) (at-second .if2 .left) (at-third .if3 .left)
+    ∙ at-loop .loop .inv
+
+loop-again : tie.Need-loop-again Inv-loop μ-loop
+loop-again c =
+    let at-third = c .before .before in
+    let at-second = at-third .before .before in
+    let at-first = at-second .before .before in
+    let at-loop-test = at-first .before .before in
+    let at-loop = at-loop-test .before in
+    past-4 _ _ (at-loop-test .loop-test .taken) (at-first .if1 .left) (at-second .if2 .left) (at-third .if3 .left) (c .if4 .left) ∙ at-loop .loop .inv
 
 pub first-free-spec : {M : Type 1} → statement M
 first-free-spec =
@@ -21,21 +63,21 @@ first-free-spec =
     (λ c κs. search needs)
     (λ c. c .past-full .ensures)
     (λ c. search needs)
-    (λ c. sym (free-here _ _ (search needs) (c .if1 .taken)) ∙ c .before .before .before .loop .inv)
+    returns
     (λ c. search needs)
     (λ c. search needs)
     (λ c. search needs)
-    (λ c. sym (free-here _ _ (search needs) (c .if2 .taken)) ∙ past-1 _ _ (c .before .before .before .before .loop-test .taken) (c .before .before .if1 .left) ∙ c .before .before .before .before .before .loop .inv)
+    returns-2
     (λ c. search needs)
     (λ c. search needs)
     (λ c. search needs)
-    (λ c. sym (free-here _ _ (search needs) (c .if3 .taken)) ∙ past-2 _ _ (c .before .before .before .before .before .before .loop-test .taken) (c .before .before .before .before .if1 .left) (c .before .before .if2 .left) ∙ c .before .before .before .before .before .before .before .loop .inv)
+    returns-3
     (λ c. search needs)
     (λ c. search needs)
     (λ c. search needs)
-    (λ c. sym (free-here _ _ (search needs) (c .if4 .taken)) ∙ past-3 _ _ (c .before .before .before .before .before .before .before .before .loop-test .taken) (c .before .before .before .before .before .before .if1 .left) (c .before .before .before .before .if2 .left) (c .before .before .if3 .left) ∙ c .before .before .before .before .before .before .before .before .before .loop .inv)
+    returns-4
     (λ c. search needs)
     (λ c. search needs)
-    (λ c. past-4 _ _ (c .before .before .before .before .before .before .before .before .loop-test .taken) (c .before .before .before .before .before .before .if1 .left) (c .before .before .before .before .if2 .left) (c .before .before .if3 .left) (c .if4 .left) ∙ c .before .before .before .before .before .before .before .before .before .loop .inv)
+    loop-again
     (λ c κs. search needs)
     (λ c. c .next-free .ensures ∙ c .before .before .loop .inv))

@@ -1,3 +1,4 @@
+-- `free_from` meets its contract: from the end back all units are free, to the first that is not.
 use borrow.Author.Needs.{needs}
 use Rattle.heap.proofs.Runs.{FreeTo, from-start, from-here, from-on, from-none}
 use Rattle.heap.proofs.free_units.free_from.Statement.{statement}
@@ -9,6 +10,18 @@ Inv-loop heap u end p₀ p = FreeTo heap end p
 abbrev μ-loop : tie.MeasureT-loop
 μ-loop heap u end p₀ p = p
 
+returns : tie.Need-returns Inv-loop μ-loop
+returns c =
+    let at-loop-test = c .before .before in
+    let at-loop = at-loop-test .before in
+    from-here _ _ _ _ (at-loop .loop .inv) (at-loop-test .loop-test .taken) (c .if1 .taken)
+
+loop-again : tie.Need-loop-again Inv-loop μ-loop
+loop-again c =
+    let at-loop-test = c .before .before in
+    let at-loop = at-loop-test .before in
+    from-on _ _ _ _ (at-loop .loop .inv) (at-loop-test .loop-test .taken) (c .if1 .left)
+
 pub free-from-spec : {M : Type 1} → statement M
 free-from-spec =
     tie.close
@@ -19,8 +32,8 @@ free-from-spec =
     (λ c. from-start _ _ (c .least .ensures))
     (λ c. search needs)
     (λ c. search needs)
-    (λ c. from-here _ _ _ _ (c .before .before .before .loop .inv) (c .before .before .loop-test .taken) (c .if1 .taken))
+    returns
     (λ c. search needs)
     (λ c. search needs)
-    (λ c. from-on _ _ _ _ (c .before .before .before .loop .inv) (c .before .before .loop-test .taken) (c .if1 .left))
+    loop-again
     (λ c. from-none _ _ _ _ (c .before .loop .inv) (c .loop-test .left)))

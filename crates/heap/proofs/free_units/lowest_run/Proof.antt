@@ -1,3 +1,5 @@
+-- `lowest_run` meets its contract: no run begins before u, so the next free place has the lowest, or there is none.
+use Rattle.rules.specs.Tables.{heapUnits}
 use Prim.Native.Nat.{_-_}
 use borrow.Author.Needs.{needs}
 use Rattle.heap.proofs.Runs.{NoRun, run-never, run-start, run-here, run-later, run-next, run-end}
@@ -8,7 +10,32 @@ abbrev Inv-loop : tie.InvT-loop
 Inv-loop heap n u₀ u = NoRun heap n u
 
 abbrev μ-loop : tie.MeasureT-loop
-μ-loop heap n u₀ u = 256 - u
+μ-loop heap n u₀ u = heapUnits - u
+
+returns-2 : tie.Need-returns-2 Inv-loop μ-loop
+returns-2 c =
+    let at-free-from = c .before in
+    let at-loop-test = at-free-from .before in
+    let at-loop = at-loop-test .before in
+    (run-here _ _ _ (at-loop .loop .inv) _ (at-loop-test .loop-test .taken) (at-free-from .free-from .ensures) (c .if2 .taken), search needs)
+
+loop-less : tie.Need-loop-less Inv-loop μ-loop
+loop-less c =
+    let at-test-2 = c .before in
+    let at-free-from = at-test-2 .before in
+    let at-loop-test = at-free-from .before in
+    let at-loop = at-loop-test .before in
+    run-later _ _ _ (at-loop .loop .inv) _ (at-loop-test .loop-test .taken) (at-free-from .free-from .ensures) (at-test-2 .if2 .left)
+    (c .first-free .ensures)
+
+loop-again : tie.Need-loop-again Inv-loop μ-loop
+loop-again c =
+    let at-test-2 = c .before in
+    let at-free-from = at-test-2 .before in
+    let at-loop-test = at-free-from .before in
+    let at-loop = at-loop-test .before in
+    run-next _ _ _ (at-loop .loop .inv) _ (at-loop-test .loop-test .taken) (at-free-from .free-from .ensures) (at-test-2 .if2 .left)
+    (c .first-free .ensures)
 
 pub lowest-run-spec : {M : Type 1} → statement M
 lowest-run-spec =
@@ -20,8 +47,8 @@ lowest-run-spec =
     (λ c. run-start _ _ (c .if1 .left))
     (λ c. search needs)
     (λ c κs. search needs)
-    (λ c. (run-here _ _ _ (c .before .before .before .loop .inv) _ (c .before .before .loop-test .taken) (c .before .free-from .ensures) (c .if2 .taken), search needs))
+    returns-2
     (λ c κs. search needs)
-    (λ c. run-later _ _ _ (c .before .before .before .before .loop .inv) _ (c .before .before .before .loop-test .taken) (c .before .before .free-from .ensures) (c .before .if2 .left) (c .first-free .ensures))
-    (λ c. run-next _ _ _ (c .before .before .before .before .loop .inv) _ (c .before .before .before .loop-test .taken) (c .before .before .free-from .ensures) (c .before .if2 .left) (c .first-free .ensures))
+    loop-less
+    loop-again
     (λ c. (run-end _ _ _ (c .before .loop .inv) (c .loop-test .left), search needs)))

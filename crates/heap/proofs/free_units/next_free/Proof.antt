@@ -1,3 +1,5 @@
+-- `next_free` meets its contract: no unit passed is free, so the first that is free is found, or none is.
+use Rattle.rules.specs.Tables.{heapUnits}
 use Prim.Native.Nat.{_-_}
 use mathlib.Core.Path.{_≡_, refl, sym, _∙_}
 use borrow.Author.Needs.{needs}
@@ -10,7 +12,19 @@ abbrev Inv-loop : tie.InvT-loop
 Inv-loop heap from u₀ u = firstFree heap u ≡ firstFree heap from
 
 abbrev μ-loop : tie.MeasureT-loop
-μ-loop heap from u₀ u = 256 - u
+μ-loop heap from u₀ u = heapUnits - u
+
+returns : tie.Need-returns Inv-loop μ-loop
+returns c =
+    let at-loop-test = c .before .before in
+    let at-loop = at-loop-test .before in
+    sym (free-here _ _ (at-loop-test .loop-test .taken) (c .if1 .taken)) ∙ at-loop .loop .inv
+
+loop-again : tie.Need-loop-again Inv-loop μ-loop
+loop-again c =
+    let at-loop-test = c .before .before in
+    let at-loop = at-loop-test .before in
+    free-on _ _ (at-loop-test .loop-test .taken) (c .if1 .left) ∙ at-loop .loop .inv
 
 pub next-free-spec : {M : Type 1} → statement M
 next-free-spec =
@@ -20,8 +34,8 @@ next-free-spec =
     μ-loop
     (λ c. refl)
     (λ c. search needs)
-    (λ c. sym (free-here _ _ (c .before .before .loop-test .taken) (c .if1 .taken)) ∙ c .before .before .before .loop .inv)
+    returns
     (λ c. search needs)
     (λ c. search needs)
-    (λ c. free-on _ _ (c .before .before .loop-test .taken) (c .if1 .left) ∙ c .before .before .before .loop .inv)
+    loop-again
     (λ c. sym (free-end _ _ (c .loop-test .left)) ∙ c .before .loop .inv))

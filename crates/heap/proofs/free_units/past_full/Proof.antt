@@ -1,3 +1,4 @@
+use Rattle.rules.specs.Tables.{heapUnits}
 use Prim.Native.Nat.{_-_}
 use mathlib.Core.Path.{_≡_, refl, sym, _∙_}
 use native.Mathlib.Omega.{arith}
@@ -11,7 +12,7 @@ abbrev Inv-loop : tie.InvT-loop
 Inv-loop heap from u₀ u = firstFree heap u ≡ firstFree heap from
 
 abbrev μ-loop : tie.MeasureT-loop
-μ-loop heap from u₀ u = 256 - u
+μ-loop heap from u₀ u = heapUnits - u
 
 pub past-full-spec : {M : Type 1} → statement M
 past-full-spec =

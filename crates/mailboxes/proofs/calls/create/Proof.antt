@@ -1,10 +1,13 @@
 use Rattle.rules_laws.proofs.Calls.{refusal, effected}
-use Rattle.rules.specs.Answer.{codeOf}
-use Rattle.rules.specs.Waits.{waitTables}
-use Rattle.rules.specs.Mailboxes.{createCases, createEffect}
 use borrow.Author.Needs.{needs}
 use Rattle.mailboxes.proofs.calls.create.Statement.{statement}
 use Rattle.mailboxes.proofs.calls.create.Tie as tie
+
+returns-2 : tie.Need-returns-2
+returns-2 c =
+    let at-test = c .before .before in
+    let at-create-code = at-test .before in
+    λ ts ls. effected _ _ _ (at-create-code .create-code .ensures) (at-test .if1 .left) (c .create-effect .ensures ts ls)
 
 pub create-spec : {M : Type 1} → statement M
 create-spec =
@@ -12,6 +15,6 @@ create-spec =
     (tie.spec
     (λ c κs. search needs)
     (λ c κs. search needs)
-    (λ c. let b = c .before .before .before .before in λ ts ls. refusal (waitTables ts ls (b .args .mailboxes .now)) (createEffect (waitTables ts ls (b .args .mailboxes .now)) (b .args .a)) (codeOf (createCases (b .args .mailboxes .now) (b .args .x) (b .args .a) (b .args .b) (b .args .c) (b .args .d))) (c .before .before .create-code .ensures) (c .before .if1 .taken) (c .refused .ensures))
+    (λ c. λ ts ls. refusal _ _ _ (c .before .before .create-code .ensures) (c .before .if1 .taken) (c .refused .ensures))
     (λ c κs. search needs)
-    (λ c. let b = c .before .before .before .before .before in λ ts ls. effected (waitTables ts ls (b .args .mailboxes .now)) (createEffect (waitTables ts ls (b .args .mailboxes .now)) (b .args .a)) (codeOf (createCases (b .args .mailboxes .now) (b .args .x) (b .args .a) (b .args .b) (b .args .c) (b .args .d))) (c .before .before .before .create-code .ensures) (c .before .before .if1 .left) (c .create-effect .ensures ts ls)))
+    returns-2)

@@ -8,8 +8,16 @@ use borrow.Author.Needs.{needs}
 use Rattle.mailboxes.proofs.calls.create_effect.Statement.{statement}
 use Rattle.mailboxes.proofs.calls.create_effect.Tie as tie
 
-pub create-effect-spec : {M : Type 1} → statement M
+returns : tie.Need-returns
 unfolding createEffect
+returns c =
+    let at-put-mailbox = c .before in
+    let at-free-mailbox = at-put-mailbox .before .before in
+    let args = at-free-mailbox .before .before .args in
+    λ ts ls. made-is (waitTables ts ls (args .mailboxes .now)) (λ n. mailboxRow (args .mailboxes .now) n (args .a ∷ zeros 9))
+    (freeMailbox (args .mailboxes .now)) (at-free-mailbox .free-mailbox .ensures .0) (at-put-mailbox .put-mailbox .ensures) (c .accepted .ensures)
+
+pub create-effect-spec : {M : Type 1} → statement M
 create-effect-spec =
     tie.close
     (tie.spec
@@ -17,4 +25,4 @@ create-effect-spec =
     (λ c κs. search needs)
     (λ c. search needs)
     (λ c κs. search needs)
-    (λ c. let b = c .before .before .before .before .before in λ ts ls. made-is (waitTables ts ls (b .args .mailboxes .now)) (λ n. mailboxRow (b .args .mailboxes .now) n (b .args .a ∷ zeros 9)) (freeMailbox (b .args .mailboxes .now)) (c .before .before .before .free-mailbox .ensures .0) (c .before .put-mailbox .ensures) (c .accepted .ensures)))
+    returns)

@@ -4,11 +4,23 @@ use borrow.Author.Needs.{needs}
 use Rattle.mailboxes.proofs.messages.count_behind.Statement.{statement}
 use Rattle.mailboxes.proofs.messages.count_behind.Tie as tie
 
+returns : tie.Need-returns
+returns c =
+    let at-count = c .before in
+    let a = at-count .before .args in
+    omega (arith, behind-is (a .mailboxes .now) (a .i), at-count .count .ensures)
+
+returns-2 : tie.Need-returns-2
+returns-2 c =
+    let at-count = c .before in
+    let a = at-count .before .args in
+    omega (arith, behind-is (a .mailboxes .now) (a .i), at-count .count .ensures)
+
 pub count-behind-spec : {M : Type 1} → statement M
 count-behind-spec =
     tie.close
     (tie.spec
     (λ c κs. search needs)
     (λ c. search needs)
-    (λ c. let b = c .before .before in let ms = b .args .mailboxes .now in let i = b .args .i in omega (arith, behind-is ms i, c .before .count .ensures))
-    (λ c. let b = c .before .before in let ms = b .args .mailboxes .now in let i = b .args .i in omega (arith, behind-is ms i, c .before .count .ensures)))
+    returns
+    returns-2)

@@ -7,11 +7,24 @@ use borrow.Author.Needs.{needs}
 use Rattle.mailboxes.proofs.messages.oldest.Statement.{statement}
 use Rattle.mailboxes.proofs.messages.oldest.Tie as tie
 
+returns : tie.Need-returns
+returns c =
+    let at-test = c .before in
+    let at-count = at-test .before in
+    let a = at-count .before .args in
+    c .mailbox .ensures ∙ oldest-is (a .mailboxes .now) (a .i) (at-count .count .ensures) (at-test .if1 .taken)
+
+returns-2 : tie.Need-returns-2
+returns-2 c =
+    let at-count = c .before in
+    let a = at-count .before .args in
+    sym (List·getD-eq-default (messages (a .mailboxes .now) (a .i)) 0 {n = 0} (omega (arith, at-count .count .ensures)))
+
 pub oldest-spec : {M : Type 1} → statement M
 oldest-spec =
     tie.close
     (tie.spec
     (λ c κs. search needs)
     (λ c κs. search needs)
-    (λ c. let b = c .before .before .before in let ms = b .args .mailboxes .now in let i = b .args .i in c .mailbox .ensures ∙ oldest-is ms i (c .before .before .count .ensures) (c .before .if1 .taken))
-    (λ c. let b = c .before .before in let ms = b .args .mailboxes .now in let i = b .args .i in sym (List·getD-eq-default (messages ms i) 0 {n = 0} (omega (arith, c .before .count .ensures)))))
+    returns
+    returns-2)

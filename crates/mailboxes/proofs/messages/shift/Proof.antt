@@ -1,3 +1,5 @@
+-- `shift` meets its contract: of those behind the first, k stand one place further front; at the end the word goes behind them.
+use Rattle.rules.specs.Tables.{mailboxCount, mailboxWidth, mailboxMost, MESSAGES}
 use Rattle.mailboxes.proofs.InMailbox.{Up, up-none, up-more, listed-behind, behind-le, shift-is, with-out}
 use Prim.Native.Nat.{_+_, _-_, _*_, _<_}
 use mathlib.Core.Path.{_≡_, refl, sym}
@@ -10,10 +12,43 @@ use Rattle.mailboxes.proofs.messages.shift.Tie as tie
 
 abbrev Inv-loop : tie.InvT-loop
 Inv-loop mailboxes₀ i word at n k₀ mailboxes k =
-    (i < 8) × (n ≡ length (drop 1 (listed 8 mailboxes₀ (i * 10 + 1)))) × (n < 8) × Up 8 mailboxes₀ (i * 10 + 1) k mailboxes
+    (i < mailboxCount) × (n ≡ length (drop 1 (listed mailboxMost mailboxes₀ (i * mailboxWidth + MESSAGES)))) × (n < mailboxMost)
+    × Up mailboxMost mailboxes₀ (i * mailboxWidth + MESSAGES) k mailboxes
 
 abbrev μ-loop : tie.MeasureT-loop
 μ-loop mailboxes₀ i word at n k₀ mailboxes k = n - k
+
+loop-holds : tie.Need-loop-holds Inv-loop μ-loop
+loop-holds c =
+    let at-test = c .before .before in
+    let a = at-test .before .args in
+    let ms = a .mailboxes .now in
+    let i = a .i in
+    let e = listed-behind ms i (at-test .if1 .taken) (c .count-behind .ensures) in
+    (at-test .if1 .taken, e, omega (arith, behind-le ms i (at-test .if1 .taken)), up-none mailboxMost ms (i * mailboxWidth + MESSAGES))
+
+loop-again : tie.Need-loop-again Inv-loop μ-loop
+loop-again c =
+    let at-loop = c .before .before in
+    let a = at-loop .before .before .before .before .args in
+    let ms = a .mailboxes .now in
+    let i = a .i in
+    let l = at-loop .loop in
+    let t : l .k < length (drop 1 (listed mailboxMost ms (i * mailboxWidth + MESSAGES))) = omega (arith, l .inv .1) in
+    (l .inv .0, l .inv .1, l .inv .2, up-more mailboxMost ms (i * mailboxWidth + MESSAGES) (l .k) (l .inv .3) t refl)
+
+returns : tie.Need-returns Inv-loop μ-loop
+returns c =
+    let at-loop = c .before in
+    let a = at-loop .before .before .before .before .args in
+    let ms = a .mailboxes .now in
+    let i = a .i in
+    let l = at-loop .loop in
+    shift-is ms i (l .inv .0) (a .word) (l .k) (l .inv .3) (l .inv .1) (c .loop-test .left)
+
+returns-2 : tie.Need-returns-2 Inv-loop μ-loop
+returns-2 c =
+    sym (with-out _ _ _ (c .if1 .left))
 
 pub shift-spec : {M : Type 1} → statement M
 shift-spec =
@@ -24,7 +59,7 @@ shift-spec =
     (λ c. search needs)
     (λ c. search needs)
     (λ c κs. search needs)
-    (λ c. let b = c .before .before .before in let ms = b .args .mailboxes .now in let i = b .args .i in let e = listed-behind ms i (c .before .before .if1 .taken) (c .count-behind .ensures) in (c .before .before .if1 .taken, e, omega (arith, behind-le ms i (c .before .before .if1 .taken)), up-none 8 ms (i * 10 + 1)))
+    loop-holds
     (λ c. search needs)
     (λ c. search needs)
     (λ c. search needs)
@@ -35,7 +70,7 @@ shift-spec =
     (λ c. search needs)
     (λ c. search needs)
     (λ c. search needs)
-    (λ c. let b = c .before .before .before .before .before .before in let ms = b .args .mailboxes .now in let i = b .args .i in let l = c .before .before .loop in let t : l .k < length (drop 1 (listed 8 ms (i * 10 + 1))) = omega (arith, l .inv .1) in (l .inv .0, l .inv .1, l .inv .2, up-more 8 ms (i * 10 + 1) (l .k) (l .inv .3) t refl))
+    loop-again
     (λ c. search needs)
     (λ c. search needs)
     (λ c. search needs)
@@ -44,5 +79,5 @@ shift-spec =
     (λ c. search needs)
     (λ c. search needs)
     (λ c. search needs)
-    (λ c. let b = c .before .before .before .before .before in let ms = b .args .mailboxes .now in let i = b .args .i in let l = c .before .loop in shift-is ms i (l .inv .0) (b .args .word) (l .k) (l .inv .3) (l .inv .1) (c .loop-test .left))
-    (λ c. let b = c .before in let ms = b .args .mailboxes .now in let i = b .args .i in sym (with-out ms i _ (c .if1 .left))))
+    returns
+    returns-2)

@@ -1,8 +1,29 @@
+-- `take_word` meets its contract: the others are shifted with a 0 behind them, then there is one less; with none there nothing is taken.
 use Rattle.mailboxes.proofs.InMailbox.{count-is, take-is, none-is}
 use native.Mathlib.Omega.{arith}
 use borrow.Author.Needs.{needs}
 use Rattle.mailboxes.proofs.messages.take_word.Statement.{statement}
 use Rattle.mailboxes.proofs.messages.take_word.Tie as tie
+
+cast-set-mailbox : tie.Need-cast-set-mailbox
+cast-set-mailbox c =
+    let at-count = c .before .before .before .before in
+    let a = at-count .before .before .args in
+    omega (arith, count-is (a .mailboxes .now) (a .i), at-count .count .ensures)
+
+returns : tie.Need-returns
+returns c =
+    let at-shift = c .before .before in
+    let at-test = at-shift .before .before in
+    let at-count = at-test .before in
+    let a = at-count .before .before .args in
+    take-is (a .mailboxes .now) (a .i) (at-count .count .ensures) (at-test .if1 .taken) (at-shift .shift .ensures) (c .set-mailbox .ensures)
+
+returns-2 : tie.Need-returns-2
+returns-2 c =
+    let at-count = c .before in
+    let a = at-count .before .before .args in
+    none-is (a .mailboxes .now) (a .i) (at-count .count .ensures) (c .if1 .left)
 
 pub take-word-spec : {M : Type 1} → statement M
 take-word-spec =
@@ -10,8 +31,8 @@ take-word-spec =
     (tie.spec
     (λ c κs. search needs)
     (λ c κs. search needs)
-    (λ c. let b = c .before .before .before .before .before .before in let ms = b .args .mailboxes .now in let i = b .args .i in omega (arith, count-is ms i, c .before .before .before .before .count .ensures))
+    cast-set-mailbox
     (λ c. search needs)
     (λ c κs. search needs)
-    (λ c. let b = c .before .before .before .before .before .before .before in let ms = b .args .mailboxes .now in let i = b .args .i in take-is ms i (c .before .before .before .before .before .count .ensures) (c .before .before .before .before .if1 .taken) (c .before .before .shift .ensures) (c .set-mailbox .ensures))
-    (λ c. let b = c .before .before .before in let ms = b .args .mailboxes .now in let i = b .args .i in none-is ms i (c .before .count .ensures) (c .if1 .left)))
+    returns
+    returns-2)

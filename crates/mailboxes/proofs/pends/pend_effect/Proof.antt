@@ -1,7 +1,26 @@
+-- `pend_effect` meets its contract: with no message it is not done; else the oldest is the answer's value, and it is taken.
 use Rattle.mailboxes.proofs.PendPost.{pend-empty, pend-takes}
 use borrow.Author.Needs.{needs}
 use Rattle.mailboxes.proofs.pends.pend_effect.Statement.{statement}
 use Rattle.mailboxes.proofs.pends.pend_effect.Tie as tie
+
+returns : tie.Need-returns
+returns c =
+    let at-empty = c .before .before .before in
+    let at-mailbox = at-empty .before in
+    let args = at-mailbox .before .before .args in
+    pend-empty (args .tasks .now) (args .lines .now) (args .mailboxes .now) (args .state .now) (args .a) (args .limit) (at-mailbox .mailbox .ensures)
+    (at-empty .if1 .taken) (c .not-done .ensures (args .mailboxes .now))
+
+returns-2 : tie.Need-returns-2
+returns-2 c =
+    let at-take = c .before in
+    let at-oldest = at-take .before .before .before .before in
+    let at-empty = at-oldest .before .before in
+    let at-mailbox = at-empty .before in
+    let args = at-mailbox .before .before .args in
+    pend-takes (args .tasks .now) (args .lines .now) (args .mailboxes .now) (args .state .now) (args .a) (args .limit) (at-mailbox .mailbox .ensures)
+    (at-empty .if1 .left) (at-oldest .oldest .ensures) (at-take .take .ensures) (c .accepted .ensures)
 
 pub pend-effect-spec : {M : Type 1} → statement M
 pend-effect-spec =
@@ -9,8 +28,8 @@ pend-effect-spec =
     (tie.spec
     (λ c κs. search needs)
     (λ c κs. search needs)
-    (λ c. let b = c .before .before .before .before .before .before in pend-empty (b .args .tasks .now) (b .args .lines .now) (b .args .mailboxes .now) (b .args .state .now) (b .args .a) (b .args .limit) (c .before .before .before .before .mailbox .ensures) (c .before .before .before .if1 .taken) (c .not-done .ensures (b .args .mailboxes .now)))
+    returns
     (λ c κs. search needs)
     (λ c κs. search needs)
     (λ c κs. search needs)
-    (λ c. let b = c .before .before .before .before .before .before .before .before .before .before in pend-takes (b .args .tasks .now) (b .args .lines .now) (b .args .mailboxes .now) (b .args .state .now) (b .args .a) (b .args .limit) (c .before .before .before .before .before .before .before .before .mailbox .ensures) (c .before .before .before .before .before .before .before .if1 .left) (c .before .before .before .before .before .oldest .ensures) (c .before .take .ensures) (c .accepted .ensures)))
+    returns-2)

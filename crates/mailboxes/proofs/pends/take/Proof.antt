@@ -1,7 +1,27 @@
+-- `take` meets its contract: a first writer's word goes behind the others and the writer is woken; else the oldest only goes.
 use Rattle.mailboxes.proofs.PendPost.{take-writer, take-none}
 use borrow.Author.Needs.{needs}
 use Rattle.mailboxes.proofs.pends.take.Statement.{statement}
 use Rattle.mailboxes.proofs.pends.take.Tie as tie
+
+returns : tie.Need-returns
+returns c =
+    let at-shift = c .before .before .before in
+    let at-task = at-shift .before .before in
+    let at-first = at-task .before .before in
+    let at-writer = at-first .before .before in
+    let at-waits-first = at-writer .before in
+    let args = at-waits-first .before .before .before .args in
+    take-writer (args .tasks .now) (args .lines .now) (args .mailboxes .now) (args .a) (at-waits-first .waits-first .ensures) (at-writer .if1 .taken)
+    (at-first .first .ensures) (at-task .task .ensures) (at-shift .shift .ensures) (c .wake .ensures)
+
+returns-2 : tie.Need-returns-2
+returns-2 c =
+    let at-writer = c .before .before in
+    let at-waits-first = at-writer .before in
+    let args = at-waits-first .before .before .before .args in
+    take-none (args .tasks .now) (args .lines .now) (args .mailboxes .now) (args .a) (at-waits-first .waits-first .ensures) (at-writer .if1 .left)
+    (c .take-word .ensures)
 
 pub take-spec : {M : Type 1} → statement M
 take-spec =
@@ -14,5 +34,5 @@ take-spec =
     (λ c κs. search needs)
     (λ c κs. search needs)
     (λ c κs. search needs)
-    (λ c. let b = c .before .before .before .before .before .before .before .before .before .before .before .before .before in take-writer (b .args .tasks .now) (b .args .lines .now) (b .args .mailboxes .now) (b .args .a) (c .before .before .before .before .before .before .before .before .before .before .waits-first .ensures) (c .before .before .before .before .before .before .before .before .before .if1 .taken) (c .before .before .before .before .before .before .before .first .ensures) (c .before .before .before .before .before .task .ensures) (c .before .before .before .shift .ensures) (c .wake .ensures))
-    (λ c. let b = c .before .before .before .before .before .before in take-none (b .args .tasks .now) (b .args .lines .now) (b .args .mailboxes .now) (b .args .a) (c .before .before .before .waits-first .ensures) (c .before .before .if1 .left) (c .take-word .ensures)))
+    returns
+    returns-2)

@@ -1,7 +1,39 @@
+-- `post_effect` meets its contract: a first reader gets the word; else a full mailbox leaves it not done, and one with room keeps it.
 use Rattle.mailboxes.proofs.PendPost.{post-reader, post-full, post-room}
 use borrow.Author.Needs.{needs}
 use Rattle.mailboxes.proofs.posts.post_effect.Statement.{statement}
 use Rattle.mailboxes.proofs.posts.post_effect.Tie as tie
+
+returns : tie.Need-returns
+returns c =
+    let at-reader = c .before .before .before in
+    let at-waits-first = at-reader .before in
+    let args = at-waits-first .before .before .before .args in
+    post-reader (args .tasks .now) (args .lines .now) (args .mailboxes .now) (args .state .now) (args .a) (args .word) (args .limit)
+    (at-waits-first .waits-first .ensures) (at-reader .if1 .taken) (c .wake-first .ensures (args .mailboxes .now))
+
+returns-2 : tie.Need-returns-2
+returns-2 c =
+    let at-full = c .before .before .before in
+    let at-is-full = at-full .before in
+    let at-reader = at-is-full .before .before in
+    let at-waits-first = at-reader .before in
+    let args = at-waits-first .before .before .before .args in
+    post-full (args .tasks .now) (args .lines .now) (args .mailboxes .now) (args .state .now) (args .a) (args .word) (args .limit)
+    (at-waits-first .waits-first .ensures) (at-reader .if1 .left) (at-is-full .is-full .ensures) (at-full .if2 .taken)
+    (c .not-done .ensures (args .mailboxes .now))
+
+returns-3 : tie.Need-returns-3
+returns-3 c =
+    let at-put-word = c .before in
+    let at-full = at-put-word .before .before in
+    let at-is-full = at-full .before in
+    let at-reader = at-is-full .before .before in
+    let at-waits-first = at-reader .before in
+    let args = at-waits-first .before .before .before .args in
+    post-room (args .tasks .now) (args .lines .now) (args .mailboxes .now) (args .state .now) (args .a) (args .word) (args .limit)
+    (at-waits-first .waits-first .ensures) (at-reader .if1 .left) (at-is-full .is-full .ensures) (at-full .if2 .left) (at-put-word .put-word .ensures)
+    (c .accepted .ensures)
 
 pub post-effect-spec : {M : Type 1} → statement M
 post-effect-spec =
@@ -10,10 +42,10 @@ post-effect-spec =
     (λ c κs. search needs)
     (λ c. search needs)
     (λ c κs. search needs)
-    (λ c. let test = c .before .before .before in let b = test .before .before .before .before in post-reader (b .args .tasks .now) (b .args .lines .now) (b .args .mailboxes .now) (b .args .state .now) (b .args .a) (b .args .word) (b .args .limit) (test .before .waits-first .ensures) (test .if1 .taken) (c .wake-first .ensures (b .args .mailboxes .now)))
+    returns
     (λ c κs. search needs)
     (λ c κs. search needs)
-    (λ c. let b = c .before .before .before .before .before .before .before .before .before .before in post-full (b .args .tasks .now) (b .args .lines .now) (b .args .mailboxes .now) (b .args .state .now) (b .args .a) (b .args .word) (b .args .limit) (c .before .before .before .before .before .before .before .waits-first .ensures) (c .before .before .before .before .before .before .if1 .left) (c .before .before .before .before .is-full .ensures) (c .before .before .before .if2 .taken) (c .not-done .ensures (b .args .mailboxes .now)))
+    returns-2
     (λ c κs. search needs)
     (λ c κs. search needs)
-    (λ c. let b = c .before .before .before .before .before .before .before .before .before .before in post-room (b .args .tasks .now) (b .args .lines .now) (b .args .mailboxes .now) (b .args .state .now) (b .args .a) (b .args .word) (b .args .limit) (c .before .before .before .before .before .before .before .waits-first .ensures) (c .before .before .before .before .before .before .if1 .left) (c .before .before .before .before .is-full .ensures) (c .before .before .before .if2 .left) (c .before .put-word .ensures) (c .accepted .ensures)))
+    returns-3)

@@ -1,3 +1,5 @@
+-- `put_mailbox` meets its contract: k zeros are stored so far, at the end a row of them, and then the capacity in front.
+use Rattle.rules.specs.Tables.{mailboxCount, mailboxWidth}
 use Rattle.mailboxes.proofs.InMailbox.{zeros-more, row-is, no-row}
 use Prim.Native.Nat.{_-_, _*_, _≤_, _<_}
 use mathlib.Core.Path.{_≡_, refl}
@@ -9,10 +11,24 @@ use Rattle.mailboxes.proofs.table.put_mailbox.Statement.{statement}
 use Rattle.mailboxes.proofs.table.put_mailbox.Tie as tie
 
 abbrev Inv-loop : tie.InvT-loop
-Inv-loop mailboxes₀ i capacity at k₀ mailboxes k = (i < 8) × (k ≤ 10) × (mailboxes ≡ sets mailboxes₀ (i * 10) (zeros k))
+Inv-loop mailboxes₀ i capacity at k₀ mailboxes k = (i < mailboxCount) × (k ≤ mailboxWidth) × (mailboxes ≡ sets mailboxes₀ (i * mailboxWidth) (zeros k))
 
 abbrev μ-loop : tie.MeasureT-loop
-μ-loop mailboxes₀ i capacity at k₀ mailboxes k = 10 - k
+μ-loop mailboxes₀ i capacity at k₀ mailboxes k = mailboxWidth - k
+
+loop-again : tie.Need-loop-again Inv-loop μ-loop
+loop-again c =
+    let at-loop = c .before in
+    let a = at-loop .before .before .args in
+    let l = at-loop .loop in
+    (l .inv .0, omega arith, zeros-more (a .mailboxes .now) (a .i) (l .k) (l .inv .2))
+
+returns : tie.Need-returns Inv-loop μ-loop
+returns c =
+    let at-loop = c .before in
+    let a = at-loop .before .before .args in
+    let l = at-loop .loop in
+    row-is (a .mailboxes .now) (a .i) (a .capacity) (l .k) (l .inv .0) (l .inv .2) (l .inv .1) (c .loop-test .left)
 
 pub put-mailbox-spec : {M : Type 1} → statement M
 put-mailbox-spec =
@@ -21,14 +37,14 @@ put-mailbox-spec =
     Inv-loop
     μ-loop
     (λ c. search needs)
-    (λ c. let b = c .before in let ms = b .args .mailboxes .now in let i = b .args .i in (c .if1 .taken, omega arith, refl))
+    (λ c. (c .if1 .taken, omega arith, refl))
     (λ c. search needs)
     (λ c. search needs)
     (λ c. search needs)
     (λ c. search needs)
     (λ c. search needs)
-    (λ c. let b = c .before .before .before in let ms = b .args .mailboxes .now in let i = b .args .i in let l = c .before .loop in (l .inv .0, omega arith, zeros-more ms i (l .k) (l .inv .2)))
+    loop-again
     (λ c. search needs)
     (λ c. search needs)
-    (λ c. let b = c .before .before .before in let ms = b .args .mailboxes .now in let i = b .args .i in let l = c .before .loop in row-is ms i (b .args .capacity) (l .k) (l .inv .0) (l .inv .2) (l .inv .1) (c .loop-test .left))
-    (λ c. let b = c .before in let ms = b .args .mailboxes .now in let i = b .args .i in no-row ms i (b .args .capacity) (c .if1 .left)))
+    returns
+    (λ c. no-row _ _ _ (c .if1 .left)))

@@ -1,16 +1,33 @@
+-- `not_done` meets its contract: with limit 0 nothing changes, with another the current task waits.
 use Rattle.mailboxes.proofs.PendPost.{not-met, now-waits}
 use borrow.Author.Needs.{needs}
 use Rattle.mailboxes.proofs.waiters.not_done.Statement.{statement}
 use Rattle.mailboxes.proofs.waiters.not_done.Tie as tie
+
+returns : tie.Need-returns
+returns c =
+    let at-limit = c .before in
+    let args = at-limit .before .args in
+    not-met (args .tasks .now) (args .lines .now) (args .state .now) (args .mode) (args .a) (args .limit) (args .word) (at-limit .if1 .taken)
+    (c .accepted .ensures)
+
+returns-2 : tie.Need-returns-2
+returns-2 c =
+    let at-wait = c .before in
+    let at-current = at-wait .before .before .before in
+    let at-limit = at-current .before in
+    let args = at-limit .before .args in
+    now-waits (args .tasks .now) (args .lines .now) (args .state .now) (args .mode) (args .a) (args .limit) (args .word) (at-limit .if1 .left)
+    (at-current .current .ensures) (at-wait .wait .ensures) (c .accepted2 .ensures)
 
 pub not-done-spec : {M : Type 1} → statement M
 not-done-spec =
     tie.close
     (tie.spec
     (λ c κs. search needs)
-    (λ c. let b = c .before .before in not-met (b .args .tasks .now) (b .args .lines .now) (b .args .state .now) (b .args .mode) (b .args .a) (b .args .limit) (b .args .word) (c .before .if1 .taken) (c .accepted .ensures))
+    returns
     (λ c κs. search needs)
     (λ c. search needs)
     (λ c κs. search needs)
     (λ c κs. search needs)
-    (λ c. let b = c .before .before .before .before .before .before in now-waits (b .args .tasks .now) (b .args .lines .now) (b .args .state .now) (b .args .mode) (b .args .a) (b .args .limit) (b .args .word) (c .before .before .before .before .before .if1 .left) (c .before .before .before .before .current .ensures) (c .before .wait .ensures) (c .accepted2 .ensures)))
+    returns-2)

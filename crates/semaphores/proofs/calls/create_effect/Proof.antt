@@ -8,8 +8,17 @@ use borrow.Author.Needs.{needs}
 use Rattle.semaphores.proofs.calls.create_effect.Statement.{statement}
 use Rattle.semaphores.proofs.calls.create_effect.Tie as tie
 
-pub create-effect-spec : {M : Type 1} → statement M
+returns : tie.Need-returns
 unfolding createEffect
+returns c =
+    let at-put-semaphore = c .before in
+    let at-free-semaphore = at-put-semaphore .before .before in
+    let args = at-free-semaphore .before .before .args in
+    let ss = args .semaphores .now in
+    λ ts ls. made-is (waitTables ts ls ss) (λ (i : ℕ). semaphoreRow ss i (1 ∷ args .a ∷ args .b ∷ [])) (freeSemaphore ss)
+    (at-free-semaphore .free-semaphore .ensures .0) (at-put-semaphore .put-semaphore .ensures) (c .accepted .ensures)
+
+pub create-effect-spec : {M : Type 1} → statement M
 create-effect-spec =
     tie.close
     (tie.spec
@@ -17,4 +26,4 @@ create-effect-spec =
     (λ c κs. search needs)
     (λ c. search needs)
     (λ c κs. search needs)
-    (λ c. let b = c .before .before .before .before .before in let ss = b .args .semaphores .now in λ ts ls. made-is (waitTables ts ls ss) (λ (i : ℕ). semaphoreRow ss i (1 ∷ b .args .a ∷ b .args .b ∷ [])) (freeSemaphore ss) (c .before .before .before .free-semaphore .ensures .0) (c .before .put-semaphore .ensures) (c .accepted .ensures)))
+    returns)

@@ -3,6 +3,12 @@ use borrow.Author.Needs.{needs}
 use Rattle.semaphores.proofs.calls.reset.Statement.{statement}
 use Rattle.semaphores.proofs.calls.reset.Tie as tie
 
+returns-2 : tie.Need-returns-2
+returns-2 c =
+    let at-test = c .before .before in
+    let at-reset-code = at-test .before in
+    λ ts. effected _ _ _ (at-reset-code .reset-code .ensures) (at-test .if1 .left) (c .reset-effect .ensures ts _)
+
 pub reset-spec : {M : Type 1} → statement M
 reset-spec =
     tie.close
@@ -11,4 +17,4 @@ reset-spec =
     (λ c κs. search needs)
     (λ c. λ ts. refusal _ _ _ (c .before .before .reset-code .ensures) (c .before .if1 .taken) (c .refused .ensures))
     (λ c κs. search needs)
-    (λ c. λ ts. effected _ _ _ (c .before .before .before .reset-code .ensures) (c .before .before .if1 .left) (c .reset-effect .ensures ts (c .before .before .before .before .before .args .lines .now))))
+    returns-2)

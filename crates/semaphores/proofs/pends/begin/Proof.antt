@@ -1,7 +1,26 @@
+-- `begin` meets its contract: the kind picks the place, at the back or by priority, and the task moves there.
 use Rattle.semaphores.proofs.PendPost.{begun-back, begun-by-priority}
 use borrow.Author.Needs.{needs}
 use Rattle.semaphores.proofs.pends.begin.Statement.{statement}
 use Rattle.semaphores.proofs.pends.begin.Tie as tie
+
+returns : tie.Need-returns
+returns c =
+    let at-test = c .before .before .before in
+    let at-waiting = at-test .before in
+    let at-task = at-waiting .before in
+    let args = at-task .before .before .args in
+    begun-back (args .kind) (args .i) (args .a) (args .limit) (args .tasks .now) (args .lines .now) (at-task .task .ensures)
+    (at-waiting .waiting .ensures) (at-test .if1 .taken) (c .move-back .ensures)
+
+returns-2 : tie.Need-returns-2
+returns-2 c =
+    let at-test = c .before .before .before in
+    let at-waiting = at-test .before in
+    let at-task = at-waiting .before in
+    let args = at-task .before .before .args in
+    begun-by-priority (args .kind) (args .i) (args .a) (args .limit) (args .tasks .now) (args .lines .now) (at-task .task .ensures)
+    (at-waiting .waiting .ensures) (at-test .if1 .left) (c .move-by-priority .ensures)
 
 pub begin-spec : {M : Type 1} → statement M
 begin-spec =
@@ -11,5 +30,5 @@ begin-spec =
     (λ c κs. search needs)
     (λ c κs. search needs)
     (λ c κs. search needs)
-    (λ c. let b = c .before .before .before .before .before .before .before in begun-back (b .args .kind) (b .args .i) (b .args .a) (b .args .limit) (b .args .tasks .now) (b .args .lines .now) (c .before .before .before .before .before .task .ensures) (c .before .before .before .before .waiting .ensures) (c .before .before .before .if1 .taken) (c .move-back .ensures))
-    (λ c. let b = c .before .before .before .before .before .before .before in begun-by-priority (b .args .kind) (b .args .i) (b .args .a) (b .args .limit) (b .args .tasks .now) (b .args .lines .now) (c .before .before .before .before .before .task .ensures) (c .before .before .before .before .waiting .ensures) (c .before .before .before .if1 .left) (c .move-by-priority .ensures)))
+    returns
+    returns-2)

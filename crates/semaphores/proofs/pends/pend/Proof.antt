@@ -3,6 +3,12 @@ use borrow.Author.Needs.{needs}
 use Rattle.semaphores.proofs.pends.pend.Statement.{statement}
 use Rattle.semaphores.proofs.pends.pend.Tie as tie
 
+returns-2 : tie.Need-returns-2
+returns-2 c =
+    let at-test = c .before .before .before .before in
+    let at-pend-code = at-test .before in
+    effected _ _ _ (at-pend-code .pend-code .ensures) (at-test .if1 .left) (c .pend-effect .ensures)
+
 pub pend-spec : {M : Type 1} → statement M
 pend-spec =
     tie.close
@@ -11,4 +17,4 @@ pend-spec =
     (λ c κs. search needs)
     (λ c. refusal _ _ _ (c .before .before .pend-code .ensures) (c .before .if1 .taken) (c .refused .ensures))
     (λ c κs. search needs)
-    (λ c. effected _ _ _ (c .before .before .before .before .before .pend-code .ensures) (c .before .before .before .before .if1 .left) (c .pend-effect .ensures)))
+    returns-2)

@@ -1,7 +1,39 @@
+-- `pend_effect` meets its contract: a count above 0 is taken; else limit 0 is not done, and with another the current task waits.
 use Rattle.semaphores.proofs.PendPost.{pend-takes, pend-not, pend-waits}
 use borrow.Author.Needs.{needs}
 use Rattle.semaphores.proofs.pends.pend_effect.Statement.{statement}
 use Rattle.semaphores.proofs.pends.pend_effect.Tie as tie
+
+returns : tie.Need-returns
+returns c =
+    let at-set-semaphore = c .before in
+    let at-none-left = at-set-semaphore .before .before in
+    let at-semaphore = at-none-left .before in
+    let args = at-semaphore .before .before .args in
+    pend-takes (args .tasks .now) (args .lines .now) (args .semaphores .now) (args .state .now) (args .a) (args .limit)
+    (at-semaphore .semaphore .ensures) (at-none-left .if1 .taken) (at-set-semaphore .set-semaphore .ensures) (c .accepted .ensures)
+
+returns-2 : tie.Need-returns-2
+returns-2 c =
+    let at-limit = c .before in
+    let at-none-left = at-limit .before in
+    let at-semaphore = at-none-left .before in
+    let args = at-semaphore .before .before .args in
+    pend-not (args .tasks .now) (args .lines .now) (args .semaphores .now) (args .state .now) (args .a) (args .limit)
+    (at-semaphore .semaphore .ensures) (at-none-left .if1 .left) (at-limit .if2 .taken) (c .accepted2 .ensures)
+
+returns-3 : tie.Need-returns-3
+returns-3 c =
+    let at-begin = c .before in
+    let at-current = at-begin .before in
+    let at-semaphore2 = at-current .before .before .before in
+    let at-limit = at-semaphore2 .before .before in
+    let at-none-left = at-limit .before in
+    let at-semaphore = at-none-left .before in
+    let args = at-semaphore .before .before .args in
+    pend-waits (args .tasks .now) (args .lines .now) (args .semaphores .now) (args .state .now) (args .a) (args .limit)
+    (at-semaphore .semaphore .ensures) (at-none-left .if1 .left) (at-limit .if2 .left) (at-semaphore2 .semaphore2 .ensures) (at-current .current .ensures)
+    (at-begin .begin .ensures) (c .accepted3 .ensures)
 
 pub pend-effect-spec : {M : Type 1} → statement M
 pend-effect-spec =
@@ -11,12 +43,12 @@ pend-effect-spec =
     (λ c. search needs)
     (λ c κs. search needs)
     (λ c κs. search needs)
-    (λ c. let b = c .before .before .before .before .before .before in pend-takes (b .args .tasks .now) (b .args .lines .now) (b .args .semaphores .now) (b .args .state .now) (b .args .a) (b .args .limit) (c .before .before .before .before .semaphore .ensures) (c .before .before .before .if1 .taken) (c .before .set-semaphore .ensures) (c .accepted .ensures))
+    returns
     (λ c κs. search needs)
-    (λ c. let b = c .before .before .before .before .before in pend-not (b .args .tasks .now) (b .args .lines .now) (b .args .semaphores .now) (b .args .state .now) (b .args .a) (b .args .limit) (c .before .before .before .semaphore .ensures) (c .before .before .if1 .left) (c .before .if2 .taken) (c .accepted2 .ensures))
+    returns-2
     (λ c κs. search needs)
     (λ c κs. search needs)
     (λ c. search needs)
     (λ c κs. search needs)
     (λ c κs. search needs)
-    (λ c. let b = c .before .before .before .before .before .before .before .before .before .before .before in pend-waits (b .args .tasks .now) (b .args .lines .now) (b .args .semaphores .now) (b .args .state .now) (b .args .a) (b .args .limit) (c .before .before .before .before .before .before .before .before .before .semaphore .ensures) (c .before .before .before .before .before .before .before .before .if1 .left) (c .before .before .before .before .before .before .before .if2 .left) (c .before .before .before .before .before .semaphore2 .ensures) (c .before .before .current .ensures) (c .before .begin .ensures) (c .accepted3 .ensures)))
+    returns-3)

@@ -1,3 +1,4 @@
+-- `active_rise` meets its contract: each turn compares one active Swi with the next, and all but the last are compared
 use Prim.Native.Nat.{suc, _-_, _≤_}
 use mathlib.Core.Path.{_≡_, sym, _∙_}
 use native.Mathlib.Numerals.{add-one}
@@ -6,13 +7,15 @@ use lib.ListN.{length, getD}
 use Rattle.basics.specs.Find.{allBelow}
 use Rattle.basics.proofs.Finds.{all-none, all-step, all-end}
 use Rattle.rules.specs.Tables.{swi, PRIORITY}
-use Rattle.rules.specs.Lines.{line}
+use Rattle.rules.specs.Lines.{line, activeLine}
 use borrow.Author.Needs.{needs}
 use Rattle.sound.proofs.objects.active_rise.Statement.{statement}
 use Rattle.sound.proofs.objects.active_rise.Tie as tie
 
 abbrev Inv-loop : tie.InvT-loop
-Inv-loop swis lines n ok₀ k₀ ok k = (n ≡ length (line lines 48) - 1) × (k ≤ n) × (ok ≡ allBelow k (λ i. ltb (swi swis (getD (line lines 48) i 0) PRIORITY) (swi swis (getD (line lines 48) (suc i) 0) PRIORITY)))
+Inv-loop swis lines n ok₀ k₀ ok k =
+    (n ≡ length (line lines activeLine) - 1) × (k ≤ n)
+    × (ok ≡ allBelow k (λ i. ltb (swi swis (getD (line lines activeLine) i 0) PRIORITY) (swi swis (getD (line lines activeLine) (suc i) 0) PRIORITY)))
 
 abbrev μ-loop : tie.MeasureT-loop
 μ-loop swis lines n ok₀ k₀ ok k = n - k
@@ -31,5 +34,8 @@ active-rise-spec =
     (λ c κs. search needs)
     (λ c. search needs)
     (λ c. search needs)
-    (λ c. (c .before .before .before .loop .inv .0, search needs, all-step _ _ (c .before .before .before .loop .inv .2) (rw (c .before .active-priority .ensures, c .active-priority2 .ensures, add-one))))
+    (λ c.
+    let at-lower = c .before in
+    let at-loop = at-lower .before .before .loop in
+    (at-loop .inv .0, search needs, all-step _ _ (at-loop .inv .2) (rw (at-lower .active-priority .ensures, c .active-priority2 .ensures, add-one))))
     (λ c. rw (c .before .loop .inv .0) at (all-end _ (c .before .loop .k) _ (c .before .loop .inv .1) (c .loop-test .left) (c .before .loop .inv .2))))

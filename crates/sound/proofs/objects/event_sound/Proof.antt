@@ -1,3 +1,4 @@
+-- `event_sound` meets its contract: of an event that is there, what is read is what its rule reads
 use mathlib.Core.Bool.{and-assoc, Bool·not-not}
 use borrow.Author.Tests.{lt-ltb, le-ltb}
 use Rattle.rules.specs.Sound.{eventRule}
@@ -19,5 +20,22 @@ event-sound-spec =
     (λ c κs. search needs)
     (λ c κs. search needs)
     (λ c κs. search needs)
-    (λ c. rw (lt-ltb _ _ (c .before .before .before .before .before .before .before .if1 .taken)) (simp (and-assoc, Bool·not-not) (rw (c .matched .ensures, c .before .task .ensures, c .before .before .wide .ensures .0, c .before .before .before .first .ensures, c .before .before .before .before .len .ensures, c .before .before .before .before .before .event2 .ensures, c .before .before .before .before .before .before .event .ensures))))
+    (λ c.
+    let at-task = c .before in
+    let at-wide = at-task .before in
+    let at-first = at-wide .before in
+    let at-len = at-first .before in
+    let at-bits = at-len .before in
+    let at-used = at-bits .before in
+    let at-range = at-used .before in
+    rw (lt-ltb _ _ (at-range .if1 .taken)) (simp (and-assoc, Bool·not-not)
+    (rw (
+      c .matched .ensures,
+      at-task .task .ensures,
+      at-wide .wide .ensures .0,
+      at-first .first .ensures,
+      at-len .len .ensures,
+      at-bits .event2 .ensures,
+      at-used .event .ensures,
+    ))))
     (λ c. rw (le-ltb _ _ (c .if1 .left))))

@@ -1,19 +1,21 @@
+-- `events_sound` meets its contract: each turn adds one event to those that are sound
 use Prim.Native.Nat.{_-_, _≤_}
 use mathlib.Core.Path.{_≡_, sym}
 use Rattle.basics.specs.Find.{allBelow}
 use Rattle.basics.specs.Rule.{holds}
 use Rattle.basics.proofs.Finds.{all-none, all-step, all-end}
 use Rattle.rules.specs.Sound.{eventRule}
+use Rattle.rules.specs.Tables.{eventCount}
 use Rattle.sound.proofs.StandingLoops.{in-range}
 use borrow.Author.Needs.{needs}
 use Rattle.sound.proofs.objects.events_sound.Statement.{statement}
 use Rattle.sound.proofs.objects.events_sound.Tie as tie
 
 abbrev Inv-loop : tie.InvT-loop
-Inv-loop tasks events lines ok₀ e₀ ok e = (e ≤ 8) × (ok ≡ allBelow e (λ k. holds (eventRule tasks events lines k)))
+Inv-loop tasks events lines ok₀ e₀ ok e = (e ≤ eventCount) × (ok ≡ allBelow e (λ k. holds (eventRule tasks events lines k)))
 
 abbrev μ-loop : tie.MeasureT-loop
-μ-loop tasks events lines ok₀ e₀ ok e = 8 - e
+μ-loop tasks events lines ok₀ e₀ ok e = eventCount - e
 
 pub events-sound-spec : {M : Type 1} → statement M
 events-sound-spec =
@@ -26,4 +28,4 @@ events-sound-spec =
     (λ c. search needs)
     (λ c. search needs)
     (λ c. (search needs, all-step _ _ (c .before .before .loop .inv .1) (in-range _ _ (c .before .loop-test .taken) (c .event-sound .ensures))))
-    (λ c. all-end _ (c .before .loop .e) 8 (c .before .loop .inv .0) (c .loop-test .left) (c .before .loop .inv .1)))
+    (λ c. all-end _ (c .before .loop .e) eventCount (c .before .loop .inv .0) (c .loop-test .left) (c .before .loop .inv .1)))

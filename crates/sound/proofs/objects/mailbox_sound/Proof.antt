@@ -1,3 +1,4 @@
+-- `mailbox_sound` meets its contract: of a mailbox that is there, what is read is what its rule reads
 use mathlib.Core.Bool.{and-assoc}
 use borrow.Author.Tests.{lt-ltb, le-ltb}
 use Rattle.rules.specs.Sound.{mailboxRule}
@@ -18,5 +19,19 @@ mailbox-sound-spec =
     (λ c κs. search needs)
     (λ c. search needs)
     (λ c κs. search needs)
-    (λ c. rw (lt-ltb _ _ (c .before .before .before .before .before .if1 .taken)) (simp and-assoc (rw (at-most (c .before .before .before .mailbox2 .result) (c .before .before .before .before .mailbox .result), in-range _ _ (c .before .before .before .before .before .if1 .taken) (c .before .zeros-behind .ensures), c .waiters-sound .ensures, c .before .before .len .ensures, c .before .before .before .mailbox2 .ensures, c .before .before .before .before .mailbox .ensures))))
+    (λ c.
+    let at-zeros = c .before in
+    let at-len = at-zeros .before in
+    let at-messages = at-len .before in
+    let at-capacity = at-messages .before in
+    let at-range = at-capacity .before in
+    rw (lt-ltb _ _ (at-range .if1 .taken)) (simp and-assoc
+    (rw (
+      at-most (at-messages .mailbox2 .result) (at-capacity .mailbox .result),
+      in-range _ _ (at-range .if1 .taken) (at-zeros .zeros-behind .ensures),
+      c .waiters-sound .ensures,
+      at-len .len .ensures,
+      at-messages .mailbox2 .ensures,
+      at-capacity .mailbox .ensures,
+    ))))
     (λ c. rw (le-ltb _ _ (c .if1 .left))))

@@ -1,19 +1,21 @@
+-- `mailboxes_sound` meets its contract: each turn adds one mailbox to those that are sound
 use Prim.Native.Nat.{_-_, _≤_}
 use mathlib.Core.Path.{_≡_, sym}
 use Rattle.basics.specs.Find.{allBelow}
 use Rattle.basics.specs.Rule.{holds}
 use Rattle.basics.proofs.Finds.{all-none, all-step, all-end}
 use Rattle.rules.specs.Sound.{mailboxRule}
+use Rattle.rules.specs.Tables.{mailboxCount}
 use Rattle.sound.proofs.StandingLoops.{in-range}
 use borrow.Author.Needs.{needs}
 use Rattle.sound.proofs.objects.mailboxes_sound.Statement.{statement}
 use Rattle.sound.proofs.objects.mailboxes_sound.Tie as tie
 
 abbrev Inv-loop : tie.InvT-loop
-Inv-loop tasks mailboxes lines ok₀ m₀ ok m = (m ≤ 8) × (ok ≡ allBelow m (λ k. holds (mailboxRule tasks mailboxes lines k)))
+Inv-loop tasks mailboxes lines ok₀ m₀ ok m = (m ≤ mailboxCount) × (ok ≡ allBelow m (λ k. holds (mailboxRule tasks mailboxes lines k)))
 
 abbrev μ-loop : tie.MeasureT-loop
-μ-loop tasks mailboxes lines ok₀ m₀ ok m = 8 - m
+μ-loop tasks mailboxes lines ok₀ m₀ ok m = mailboxCount - m
 
 pub mailboxes-sound-spec : {M : Type 1} → statement M
 mailboxes-sound-spec =
@@ -26,4 +28,4 @@ mailboxes-sound-spec =
     (λ c. search needs)
     (λ c. search needs)
     (λ c. (search needs, all-step _ _ (c .before .before .loop .inv .1) (in-range _ _ (c .before .loop-test .taken) (c .mailbox-sound .ensures))))
-    (λ c. all-end _ (c .before .loop .m) 8 (c .before .loop .inv .0) (c .loop-test .left) (c .before .loop .inv .1)))
+    (λ c. all-end _ (c .before .loop .m) mailboxCount (c .before .loop .inv .0) (c .loop-test .left) (c .before .loop .inv .1)))

@@ -1,3 +1,4 @@
+-- `semaphore_sound` meets its contract: what is read is what the rule reads
 use mathlib.Core.Bool.{and-assoc, Bool·not-not}
 use Rattle.rules.specs.Sound.{semaphoreRule}
 use Rattle.sound.proofs.StandingLoops.{at-most}
@@ -15,4 +16,16 @@ semaphore-sound-spec =
     (λ c κs. search needs)
     (λ c κs. search needs)
     (λ c κs. search needs)
-    (λ c. simp (and-assoc, Bool·not-not) (rw (at-most (c .before .before .semaphore3 .result) (c .most .result), c .most .ensures, c .before .len .ensures, c .before .before .semaphore3 .ensures, c .before .before .before .semaphore2 .ensures, c .before .before .before .before .semaphore .ensures))))
+    (λ c.
+    let at-len = c .before in
+    let at-count = at-len .before in
+    let at-kind = at-count .before in
+    let at-used = at-kind .before in
+    simp (and-assoc, Bool·not-not) (rw (
+      at-most (at-count .semaphore3 .result) (c .most .result),
+      c .most .ensures,
+      at-len .len .ensures,
+      at-count .semaphore3 .ensures,
+      at-kind .semaphore2 .ensures,
+      at-used .semaphore .ensures,
+    ))))

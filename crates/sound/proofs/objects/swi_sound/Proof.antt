@@ -1,3 +1,4 @@
+-- `swi_sound` meets its contract: what is read is what the rule reads
 use mathlib.Core.Bool.{and-assoc}
 use Rattle.rules.specs.Sound.{swiRule}
 use borrow.Author.Needs.{needs}
@@ -16,4 +17,19 @@ swi-sound-spec =
     (λ c κs. search needs)
     (λ c κs. search needs)
     (λ c κs. search needs)
-    (λ c. simp and-assoc (rw (c .times .ensures .0, c .before .swi6 .ensures, c .before .before .swi5 .ensures, c .before .before .before .swi4 .ensures, c .before .before .before .before .swi3 .ensures, c .before .before .before .before .before .swi2 .ensures, c .before .before .before .before .before .before .swi .ensures))))
+    (λ c.
+    let at-taken = c .before in
+    let at-posted = at-taken .before in
+    let at-trigger = at-posted .before in
+    let at-initial = at-trigger .before in
+    let at-priority = at-initial .before in
+    let at-used = at-priority .before in
+    simp and-assoc (rw (
+      c .times .ensures .0,
+      at-taken .swi6 .ensures,
+      at-posted .swi5 .ensures,
+      at-trigger .swi4 .ensures,
+      at-initial .swi3 .ensures,
+      at-priority .swi2 .ensures,
+      at-used .swi .ensures,
+    ))))

@@ -1,3 +1,4 @@
+-- `waiters_sound` meets its contract: each turn looks at one more of those in the line
 use Prim.Native.Nat.{_-_}
 use mathlib.Core.Path.{_≡_, sym, _∙_}
 use lib.ListN.{length, take}
@@ -12,7 +13,9 @@ use Rattle.sound.proofs.objects.waiters_sound.Statement.{statement}
 use Rattle.sound.proofs.objects.waiters_sound.Tie as tie
 
 abbrev Inv-loop : tie.InvT-loop
-Inv-loop tasks lines j messages capacity n ok₀ k₀ ok k = (n ≡ length (line lines j)) × (ok ≡ allOf (λ x. holds ((task tasks x .mode is reading gives messages is 0) and (task tasks x .mode is writing gives messages is capacity))) (take k (line lines j)))
+Inv-loop tasks lines j messages capacity n ok₀ k₀ ok k =
+    (n ≡ length (line lines j)) × (ok ≡ allOf (λ x. holds
+    ((task tasks x .mode is reading gives messages is 0) and (task tasks x .mode is writing gives messages is capacity))) (take k (line lines j)))
 
 abbrev μ-loop : tie.MeasureT-loop
 μ-loop tasks lines j messages capacity n ok₀ k₀ ok k = n - k
@@ -31,5 +34,14 @@ waiters-sound-spec =
     (λ c κs. search needs)
     (λ c. search needs)
     (λ c. search needs)
-    (λ c. (c .before .before .before .before .before .loop .inv .0, members-more _ _ _ (c .before .before .before .before .before .loop .inv .0) (c .before .before .before .before .before .loop .inv .1) (c .before .before .before .before .loop-test .taken) (c .waiter-sound .ensures ∙ rw (c .before .task .ensures, c .before .before .wide .ensures .0, c .before .before .before .member .ensures))))
+    (λ c.
+    let at-task = c .before in
+    let at-wide = at-task .before in
+    let at-member = at-wide .before in
+    let at-test = at-member .before in
+    let at-loop = at-test .before .loop in (
+      at-loop .inv .0,
+      members-more _ _ _ (at-loop .inv .0) (at-loop .inv .1) (at-test .loop-test .taken)
+          (c .waiter-sound .ensures ∙ rw (at-task .task .ensures, at-wide .wide .ensures .0, at-member .member .ensures)),
+    ))
     (λ c. members-all _ _ (c .before .loop .k) (c .before .loop .inv .0) (c .before .loop .inv .1) (c .loop-test .left)))

@@ -11,4 +11,6 @@ clock-sound-spec =
     (tie.spec
     (λ c. search needs)
     (λ c κs. search needs)
-    (λ c. simp and-assoc (rw (c .before .before .before .before .before .before .before .before .swi .ensures))))
+    (λ c.
+    let at-swi = c .before .before .before .before .before .before .before .before in
+    simp and-assoc (rw (at-swi .swi .ensures))))

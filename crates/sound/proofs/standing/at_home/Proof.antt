@@ -1,3 +1,4 @@
+-- `at_home` meets its contract: each turn looks at one more of those in the line
 use Prim.Native.Nat.{_-_}
 use mathlib.Core.Path.{_≡_, sym}
 use lib.Dec.{eqb}
@@ -30,5 +31,13 @@ at-home-spec =
     (λ c κs. search needs)
     (λ c. search needs)
     (λ c. search needs)
-    (λ c. (c .before .before .before .before .loop .inv .0, members-more _ _ _ (c .before .before .before .before .loop .inv .0) (c .before .before .before .before .loop .inv .1) (c .before .before .before .loop-test .taken) (rw (c .home-in .ensures, c .before .wide .ensures .0, c .before .before .member .ensures))))
+    (λ c.
+    let at-wide = c .before in
+    let at-member = at-wide .before in
+    let at-test = at-member .before in
+    let at-loop = at-test .before .loop in (
+      at-loop .inv .0,
+      members-more _ _ _ (at-loop .inv .0) (at-loop .inv .1) (at-test .loop-test .taken)
+          (rw (c .home-in .ensures, at-wide .wide .ensures .0, at-member .member .ensures)),
+    ))
     (λ c. members-all _ _ (c .before .loop .k) (c .before .loop .inv .0) (c .before .loop .inv .1) (c .loop-test .left)))

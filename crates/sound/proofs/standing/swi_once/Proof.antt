@@ -1,19 +1,22 @@
+-- `swi_once` meets its contract: each turn adds one Swi to those that stand once
 use Prim.Native.Nat.{_-_, _≤_}
 use mathlib.Core.Path.{_≡_, sym, _∙_}
 use Rattle.basics.specs.Lists.{count}
 use Rattle.basics.specs.Find.{allBelow}
 use Rattle.basics.specs.Rule.{holds, _is_, _under_, _gives_}
 use Rattle.basics.proofs.Finds.{all-none, all-step, all-end}
-use Rattle.rules.specs.Lines.{line, swiHome}
+use Rattle.rules.specs.Lines.{line, swiHome, lineCount}
+use Rattle.rules.specs.Tables.{swiCount}
 use borrow.Author.Needs.{needs}
 use Rattle.sound.proofs.standing.swi_once.Statement.{statement}
 use Rattle.sound.proofs.standing.swi_once.Tie as tie
 
 abbrev Inv-loop : tie.InvT-loop
-Inv-loop swis lines ok₀ i₀ ok i = (i ≤ 16) × (ok ≡ allBelow i (λ k. holds (swiHome swis k under 81 gives count k (line lines (swiHome swis k)) is 1)))
+Inv-loop swis lines ok₀ i₀ ok i =
+    (i ≤ swiCount) × (ok ≡ allBelow i (λ k. holds (swiHome swis k under lineCount gives count k (line lines (swiHome swis k)) is 1)))
 
 abbrev μ-loop : tie.MeasureT-loop
-μ-loop swis lines ok₀ i₀ ok i = 16 - i
+μ-loop swis lines ok₀ i₀ ok i = swiCount - i
 
 pub swi-once-spec : {M : Type 1} → statement M
 swi-once-spec =
@@ -26,5 +29,8 @@ swi-once-spec =
     (λ c κs. search needs)
     (λ c. search needs)
     (λ c. search needs)
-    (λ c. (search needs, all-step _ _ (c .before .before .before .loop .inv .1) (c .stands-once .ensures ∙ rw (c .before .swi-home .ensures))))
-    (λ c. all-end _ (c .before .loop .i) 16 (c .before .loop .inv .0) (c .loop-test .left) (c .before .loop .inv .1)))
+    (λ c.
+    let at-home = c .before in
+    let at-loop = at-home .before .before .loop in
+    (search needs, all-step _ _ (at-loop .inv .1) (c .stands-once .ensures ∙ rw (at-home .swi-home .ensures))))
+    (λ c. all-end _ (c .before .loop .i) swiCount (c .before .loop .inv .0) (c .loop-test .left) (c .before .loop .inv .1)))

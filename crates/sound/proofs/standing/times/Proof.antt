@@ -1,6 +1,7 @@
+-- `times` meets its contract: each turn counts one more of those in the line
 use Prim.Native.Nat.{_-_, _≤_}
 use native.Mathlib.Omega.{arith}
-use Rattle.rules.specs.Lines.{line}
+use Rattle.rules.specs.Lines.{line, lineMost}
 use Rattle.rules_laws.proofs.Lines.{line-le}
 use Rattle.sound.proofs.StandingLoops.{Counted, counted-none, counted-more, counted-all}
 use borrow.Author.Needs.{needs}
@@ -8,7 +9,7 @@ use Rattle.sound.proofs.standing.times.Statement.{statement}
 use Rattle.sound.proofs.standing.times.Tie as tie
 
 abbrev Inv-loop : tie.InvT-loop
-Inv-loop lines j x n m₀ k₀ m k = (n ≤ 32) × Counted x (line lines j) n m k
+Inv-loop lines j x n m₀ k₀ m k = (n ≤ lineMost) × Counted x (line lines j) n m k
 
 abbrev μ-loop : tie.MeasureT-loop
 μ-loop lines j x n m₀ k₀ m k = n - k
@@ -27,5 +28,13 @@ times-spec =
     (λ c. search needs)
     (λ c. search needs)
     (λ c. search needs)
-    (λ c. (c .before .before .before .before .loop .inv .0, counted-more _ _ (c .before .before .before .before .loop .k) (c .before .before .before .before .loop .inv .1) (c .before .before .before .loop-test .taken) (rw (c .before .wide .ensures .0, c .before .before .member .ensures) at (c .bit .ensures))))
+    (λ c.
+    let at-wide = c .before in
+    let at-member = at-wide .before in
+    let at-test = at-member .before in
+    let at-loop = at-test .before .loop in (
+      at-loop .inv .0,
+      counted-more _ _ (at-loop .k) (at-loop .inv .1) (at-test .loop-test .taken)
+          (rw (at-wide .wide .ensures .0, at-member .member .ensures) at (c .bit .ensures)),
+    ))
     (λ c. (counted-all _ _ (c .before .loop .k) (c .before .loop .inv .1) (c .loop-test .left), search needs)))

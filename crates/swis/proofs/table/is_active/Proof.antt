@@ -1,5 +1,6 @@
+-- `is_active` meets its contract: of those passed none is i, so one who is i is found, or nobody in the line is.
 use Rattle.swis.proofs.Steps.{active-here, active-not, active-none}
-use Rattle.rules.specs.Lines.{line}
+use Rattle.rules.specs.Lines.{line, activeLine}
 use Rattle.basics.specs.Lists.{count}
 use lib.ListN.{take}
 use mathlib.Core.Path.{_≡_, refl}
@@ -9,10 +10,44 @@ use Rattle.swis.proofs.table.is_active.Statement.{statement}
 use Rattle.swis.proofs.table.is_active.Tie as tie
 
 abbrev Inv-loop : tie.InvT-loop
-Inv-loop lines i swi n k₀ k = (k ≤ n) × (count i (take k (line lines 48)) ≡ 0)
+Inv-loop lines i swi n k₀ k = (k ≤ n) × (count i (take k (line lines activeLine)) ≡ 0)
 
 abbrev μ-loop : tie.MeasureT-loop
 μ-loop lines i swi n k₀ k = n - k
+
+returns : tie.Need-returns Inv-loop μ-loop
+unfolding count
+returns c =
+    let at-wide = c .before in
+    let at-member = at-wide .before in
+    let at-loop-test = at-member .before in
+    let at-loop = at-loop-test .before in
+    let at-len = at-loop .before in
+    let a = at-len .before .args in
+    active-here (a .lines .now) (a .i) (at-loop .loop .k) (at-len .len .ensures) (at-loop-test .loop-test .taken) (at-member .member .ensures)
+    (at-wide .wide .ensures .0) (c .if1 .taken)
+
+loop-again : tie.Need-loop-again Inv-loop μ-loop
+unfolding count
+loop-again c =
+    let at-wide = c .before in
+    let at-member = at-wide .before in
+    let at-loop-test = at-member .before in
+    let at-loop = at-loop-test .before in
+    let at-len = at-loop .before in
+    let a = at-len .before .args in (
+      search needs,
+      active-not (a .lines .now) (a .i) (at-loop .loop .k) (at-len .len .ensures) (at-loop-test .loop-test .taken) (at-member .member .ensures)
+          (at-wide .wide .ensures .0) (c .if1 .left) (at-loop .loop .inv .1),
+    )
+
+returns-2 : tie.Need-returns-2 Inv-loop μ-loop
+unfolding count
+returns-2 c =
+    let at-loop = c .before in
+    let at-len = at-loop .before in
+    let a = at-len .before .args in
+    active-none (a .lines .now) (a .i) (at-loop .loop .k) (at-len .len .ensures) (c .loop-test .left) (at-loop .loop .inv .1)
 
 pub is-active-spec : {M : Type 1} → statement M
 unfolding count
@@ -25,8 +60,8 @@ is-active-spec =
     (λ c. (search needs, refl))
     (λ c κs. search needs)
     (λ c κs. search needs)
-    (λ c. let b = c .before .before .before .before .before .before in active-here (b .args .lines .now) (b .args .i) (c .before .before .before .before .loop .k) (c .before .before .before .before .before .len .ensures) (c .before .before .before .loop-test .taken) (c .before .before .member .ensures) (c .before .wide .ensures .0) (c .if1 .taken))
+    returns
     (λ c. search needs)
     (λ c. search needs)
-    (λ c. let b = c .before .before .before .before .before .before in (search needs, active-not (b .args .lines .now) (b .args .i) (c .before .before .before .before .loop .k) (c .before .before .before .before .before .len .ensures) (c .before .before .before .loop-test .taken) (c .before .before .member .ensures) (c .before .wide .ensures .0) (c .if1 .left) (c .before .before .before .before .loop .inv .1)))
-    (λ c. let b = c .before .before .before in active-none (b .args .lines .now) (b .args .i) (c .before .loop .k) (c .before .before .len .ensures) (c .loop-test .left) (c .before .loop .inv .1)))
+    loop-again
+    returns-2)

@@ -1,3 +1,5 @@
+-- `is_named` meets its contract: no clock passed is by Swi i, so one that is by it is found, or none is.
+use Rattle.rules.specs.Tables.{clockCount}
 use Rattle.swis.proofs.Steps.{notBy, named-here, named-not}
 use Rattle.basics.proofs.Finds.{all-none, all-end}
 use Rattle.rules.specs.Swis.{isNamed}
@@ -10,10 +12,34 @@ use Rattle.swis.proofs.table.is_named.Statement.{statement}
 use Rattle.swis.proofs.table.is_named.Tie as tie
 
 abbrev Inv-loop : tie.InvT-loop
-Inv-loop clocks i n₀ n = (n ≤ 16) × (allBelow n (notBy clocks i) ≡ true)
+Inv-loop clocks i n₀ n = (n ≤ clockCount) × (allBelow n (notBy clocks i) ≡ true)
 
 abbrev μ-loop : tie.MeasureT-loop
-μ-loop clocks i n₀ n = 16 - n
+μ-loop clocks i n₀ n = clockCount - n
+
+returns : tie.Need-returns Inv-loop μ-loop
+unfolding isNamed
+returns c =
+    let at-clock = c .before .before .before in
+    let at-loop-test = at-clock .before in
+    let at-loop = at-loop-test .before in
+    let a = at-loop .before .args in
+    named-here (a .clocks .now) (a .i) (at-loop .loop .n) (at-clock .clock .ensures) (at-loop-test .loop-test .taken) (c .if1 .taken)
+
+loop-again : tie.Need-loop-again Inv-loop μ-loop
+unfolding isNamed
+loop-again c =
+    let at-clock = c .before .before .before in
+    let at-loop = at-clock .before .before in
+    let a = at-loop .before .args in
+    (search needs, named-not (a .clocks .now) (a .i) (at-loop .loop .n) (at-clock .clock .ensures) (c .if1 .left) (at-loop .loop .inv .1))
+
+returns-2 : tie.Need-returns-2 Inv-loop μ-loop
+unfolding isNamed
+returns-2 c =
+    let at-loop = c .before in
+    let a = at-loop .before .args in
+    ap not (all-end (notBy (a .clocks .now) (a .i)) (at-loop .loop .n) clockCount (at-loop .loop .inv .0) (c .loop-test .left) (sym (at-loop .loop .inv .1)))
 
 pub is-named-spec : {M : Type 1} → statement M
 unfolding isNamed
@@ -24,8 +50,8 @@ is-named-spec =
     μ-loop
     (λ c. (search needs, all-none _))
     (λ c κs. search needs)
-    (λ c. let b = c .before .before .before .before .before .before in named-here (b .args .clocks .now) (b .args .i) (c .before .before .before .before .before .loop .n) (c .before .before .before .clock .ensures) (c .before .before .before .before .loop-test .taken) (c .if1 .taken))
+    returns
     (λ c. search needs)
     (λ c. search needs)
-    (λ c. let b = c .before .before .before .before .before .before in (search needs, named-not (b .args .clocks .now) (b .args .i) (c .before .before .before .before .before .loop .n) (c .before .before .before .clock .ensures) (c .if1 .left) (c .before .before .before .before .before .loop .inv .1)))
-    (λ c. let b = c .before .before in ap not (all-end (notBy (b .args .clocks .now) (b .args .i)) (c .before .loop .n) 16 (c .before .loop .inv .0) (c .loop-test .left) (sym (c .before .loop .inv .1)))))
+    loop-again
+    returns-2)

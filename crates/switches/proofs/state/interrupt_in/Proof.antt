@@ -1,10 +1,23 @@
-use Rattle.rules.specs.Answer.{codeOf}
+-- `interrupt_in` meets its contract: a refusal changes nothing; else the depth goes up, unless it is the most already.
 use Rattle.rules_laws.proofs.Calls.{refusal, effected}
 use Rattle.switches.proofs.Steps.{in-is, in-full}
-use Rattle.rules.specs.Switches.{inCases, inEffect}
 use borrow.Author.Needs.{needs}
 use Rattle.switches.proofs.state.interrupt_in.Statement.{statement}
 use Rattle.switches.proofs.state.interrupt_in.Tie as tie
+
+returns-2 : tie.Need-returns-2
+returns-2 c =
+    let at-depth = c .before in
+    let at-test = at-depth .before .before in
+    let at-in-code = at-test .before in
+    effected _ _ _ (at-in-code .in-code .ensures) (at-test .if1 .left) (in-is _ (at-depth .if2 .taken) (c .accepted .ensures))
+
+returns-3 : tie.Need-returns-3
+returns-3 c =
+    let at-depth = c .before in
+    let at-test = at-depth .before .before in
+    let at-in-code = at-test .before in
+    effected _ _ _ (at-in-code .in-code .ensures) (at-test .if1 .left) (in-full _ (at-depth .if2 .left) (c .accepted2 .ensures))
 
 pub interrupt-in-spec : {M : Type 1} → statement M
 interrupt-in-spec =
@@ -12,11 +25,11 @@ interrupt-in-spec =
     (tie.spec
     (λ c κs. search needs)
     (λ c κs. search needs)
-    (λ c. let b = c .before .before .before .before in let st = b .args .state .now in refusal st (inEffect st) (codeOf (inCases st (b .args .a) (b .args .b) (b .args .c) (b .args .d))) (c .before .before .in-code .ensures) (c .before .if1 .taken) (c .refused .ensures))
+    (λ c. refusal _ _ _ (c .before .before .in-code .ensures) (c .before .if1 .taken) (c .refused .ensures))
     (λ c. search needs)
     (λ c. search needs)
     (λ c. search needs)
     (λ c κs. search needs)
-    (λ c. let b = c .before .before .before .before .before .before in let st = b .args .state .now in effected st (inEffect st) (codeOf (inCases st (b .args .a) (b .args .b) (b .args .c) (b .args .d))) (c .before .before .before .before .in-code .ensures) (c .before .before .before .if1 .left) (in-is st (c .before .if2 .taken) (c .accepted .ensures)))
+    returns-2
     (λ c κs. search needs)
-    (λ c. let b = c .before .before .before .before .before .before in let st = b .args .state .now in effected st (inEffect st) (codeOf (inCases st (b .args .a) (b .args .b) (b .args .c) (b .args .d))) (c .before .before .before .before .in-code .ensures) (c .before .before .before .if1 .left) (in-full st (c .before .if2 .left) (c .accepted2 .ensures))))
+    returns-3)

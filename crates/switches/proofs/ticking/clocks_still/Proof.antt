@@ -1,3 +1,4 @@
+-- `clocks_still` meets its contract: the ticks left of the clocks passed, put together, are 0 where each is.
 use borrow.Author.Needs.{needs}
 use Rattle.switches.proofs.Still.{still-none, still-more, still-end}
 use Prim.Native.Nat.{ℕ, _-_, _≤_}
@@ -5,7 +6,7 @@ use mathlib.Core.Path.{_≡_}
 use mathlib.Core.List.{List}
 use native.Mathlib.Omega.{arith}
 use lib.Dec.{eqb}
-use Rattle.rules.specs.Tables.{clock}
+use Rattle.rules.specs.Tables.{clockCount, clock}
 use Rattle.switches.specs.Still.{still}
 use Rattle.switches.proofs.ticking.clocks_still.Statement.{statement}
 use Rattle.switches.proofs.ticking.clocks_still.Tie as tie
@@ -14,10 +15,26 @@ abbrev ticks : List ℕ → ℕ → ℕ
 ticks cs n = clock cs n .left
 
 abbrev Inv-loop : tie.InvT-loop
-Inv-loop clocks left₀ n₀ left n = (n ≤ 16) × (eqb left 0 ≡ still n (ticks clocks))
+Inv-loop clocks left₀ n₀ left n = (n ≤ clockCount) × (eqb left 0 ≡ still n (ticks clocks))
 
 abbrev μ-loop : tie.MeasureT-loop
-μ-loop clocks left₀ n₀ left n = 16 - n
+μ-loop clocks left₀ n₀ left n = clockCount - n
+
+loop-again : tie.Need-loop-again Inv-loop μ-loop
+unfolding clock
+loop-again c =
+    let at-loop = c .before .before in
+    let a = at-loop .before .args in
+    let l = at-loop .loop in
+    (omega arith, still-more (ticks (a .clocks .now)) (l .n) (l .left) (l .inv .1) (c .clock-word .ensures))
+
+returns : tie.Need-returns Inv-loop μ-loop
+unfolding clock
+returns c =
+    let at-loop = c .before in
+    let a = at-loop .before .args in
+    let l = at-loop .loop in
+    still-end (ticks (a .clocks .now)) (l .n) clockCount (l .left) (l .inv .0) (omega arith) (l .inv .1)
 
 pub clocks-still-spec : {M : Type 1} → statement M
 unfolding clock
@@ -30,5 +47,5 @@ clocks-still-spec =
     (λ c κs. search needs)
     (λ c. search needs)
     (λ c. search needs)
-    (λ c. let b = c .before .before .before in let l = c .before .before .loop in (omega arith, still-more (ticks (b .args .clocks .now)) (l .n) (l .left) (l .inv .1) (c .clock-word .ensures)))
-    (λ c. let b = c .before .before in let l = c .before .loop in still-end (ticks (b .args .clocks .now)) (l .n) 16 (l .left) (l .inv .0) (omega arith) (l .inv .1)))
+    loop-again
+    returns)

@@ -1,3 +1,4 @@
+-- `clocks_tick` meets its contract: with no ticks left anywhere nothing changes; else each clock's tick is one step more in rising number.
 use borrow.Author.Needs.{needs}
 use Rattle.switches.proofs.Still.{still-stays, clock-still}
 use Rattle.switches.proofs.Ticks.{one-more}
@@ -6,16 +7,43 @@ use mathlib.Core.Path.{_≡_, refl, sym}
 use native.Mathlib.Omega.{arith}
 use Rattle.basics.specs.Find.{rising}
 use Rattle.basics.proofs.Finds.{rising-none, rising-end}
-use Rattle.rules.specs.Tables.{clock}
+use Rattle.rules.specs.Tables.{clockCount, clock}
 use Rattle.rules.specs.Tick.{clockTables, clockTick}
 use Rattle.switches.proofs.ticking.clocks_tick.Statement.{statement}
 use Rattle.switches.proofs.ticking.clocks_tick.Tie as tie
 
 abbrev Inv-loop : tie.InvT-loop
-Inv-loop clocks₀ swis₀ lines₀ n₀ clocks swis lines n = (n ≤ 16) × (clockTables clocks swis lines ≡ rising n clockTick (clockTables clocks₀ swis₀ lines₀))
+Inv-loop clocks₀ swis₀ lines₀ n₀ clocks swis lines n =
+    (n ≤ clockCount) × (clockTables clocks swis lines ≡ rising n clockTick (clockTables clocks₀ swis₀ lines₀))
 
 abbrev μ-loop : tie.MeasureT-loop
-μ-loop clocks₀ swis₀ lines₀ n₀ clocks swis lines n = 16 - n
+μ-loop clocks₀ swis₀ lines₀ n₀ clocks swis lines n = clockCount - n
+
+returns : tie.Need-returns Inv-loop μ-loop
+returns c =
+    let at-clocks-still = c .before in
+    let a = at-clocks-still .before .before .args in
+    still-stays (λ n. clock (a .clocks .now) n .left) clockTick (clockTables (a .clocks .now) (a .swis .now) (a .lines .now)) clockCount
+    (λ n z. clock-still (a .clocks .now) (a .swis .now) (a .lines .now) n refl z) (at-clocks-still .clocks-still .ensures) (c .if1 .taken)
+
+loop-holds : tie.Need-loop-holds Inv-loop μ-loop
+loop-holds c =
+    let a = c .before .before .before .args in
+    (omega arith, sym (rising-none clockTick (clockTables (a .clocks .now) (a .swis .now) (a .lines .now))))
+
+loop-again : tie.Need-loop-again Inv-loop μ-loop
+loop-again c =
+    let at-loop = c .before .before .before .before .before in
+    let a = at-loop .before .before .before .before .args in
+    let l = at-loop .loop in
+    (omega arith, one-more clockTick (clockTables (a .clocks .now) (a .swis .now) (a .lines .now)) (l .n) (l .inv .1) (c .clock-tick .ensures))
+
+returns-2 : tie.Need-returns-2 Inv-loop μ-loop
+returns-2 c =
+    let at-loop = c .before in
+    let a = at-loop .before .before .before .before .args in
+    let l = at-loop .loop in
+    rising-end clockTick (clockTables (a .clocks .now) (a .swis .now) (a .lines .now)) (l .n) clockCount (l .inv .0) (omega arith) (l .inv .1)
 
 pub clocks-tick-spec : {M : Type 1} → statement M
 clocks-tick-spec =
@@ -24,10 +52,10 @@ clocks-tick-spec =
     Inv-loop
     μ-loop
     (λ c κs. search needs)
-    (λ c. let b = c .before .before .before in still-stays (λ n. clock (b .args .clocks .now) n .left) clockTick (clockTables (b .args .clocks .now) (b .args .swis .now) (b .args .lines .now)) 16 (λ n z. clock-still (b .args .clocks .now) (b .args .swis .now) (b .args .lines .now) n refl z) (c .before .clocks-still .ensures) (c .if1 .taken))
-    (λ c. let b = c .before .before .before in (omega arith, sym (rising-none clockTick (clockTables (b .args .clocks .now) (b .args .swis .now) (b .args .lines .now)))))
+    returns
+    loop-holds
     (λ c κs. search needs)
     (λ c. search needs)
     (λ c. search needs)
-    (λ c. let b = c .before .before .before .before .before .before .before .before .before in let l = c .before .before .before .before .before .loop in (omega arith, one-more clockTick (clockTables (b .args .clocks .now) (b .args .swis .now) (b .args .lines .now)) (l .n) (l .inv .1) (c .clock-tick .ensures)))
-    (λ c. let b = c .before .before .before .before .before in let l = c .before .loop in rising-end clockTick (clockTables (b .args .clocks .now) (b .args .swis .now) (b .args .lines .now)) (l .n) 16 (l .inv .0) (omega arith) (l .inv .1)))
+    loop-again
+    returns-2)

@@ -1,3 +1,4 @@
+-- `eight_still` meets its contract: the ticks left of the tasks passed, put together, are 0 where each is.
 use borrow.Author.Needs.{needs}
 use Rattle.switches.proofs.Still.{still-none, still-more, still-end}
 use Prim.Native.Nat.{ℕ, _+_, _*_, _-_, _≤_}
@@ -19,6 +20,22 @@ Inv-loop tasks g at left₀ k₀ left k = (k ≤ 8) × (eqb left 0 ≡ still k (
 abbrev μ-loop : tie.MeasureT-loop
 μ-loop tasks g at left₀ k₀ left k = 8 - k
 
+loop-again : tie.Need-loop-again Inv-loop μ-loop
+unfolding task
+loop-again c =
+    let at-loop = c .before .before in
+    let a = at-loop .before .args in
+    let l = at-loop .loop in
+    (omega arith, still-more (ticks (a .tasks .now) (a .g)) (l .k) (l .left) (l .inv .1) (c .task-word .ensures))
+
+returns : tie.Need-returns Inv-loop μ-loop
+unfolding task
+returns c =
+    let at-loop = c .before in
+    let a = at-loop .before .args in
+    let l = at-loop .loop in
+    still-end (ticks (a .tasks .now) (a .g)) (l .k) 8 (l .left) (l .inv .0) (omega arith) (l .inv .1)
+
 pub eight-still-spec : {M : Type 1} → statement M
 unfolding task
 eight-still-spec =
@@ -32,5 +49,5 @@ eight-still-spec =
     (λ c κs. search needs)
     (λ c. search needs)
     (λ c. search needs)
-    (λ c. let b = c .before .before .before in let l = c .before .before .loop in (omega arith, still-more (ticks (b .args .tasks .now) (b .args .g)) (l .k) (l .left) (l .inv .1) (c .task-word .ensures)))
-    (λ c. let b = c .before .before in let l = c .before .loop in still-end (ticks (b .args .tasks .now) (b .args .g)) (l .k) 8 (l .left) (l .inv .0) (omega arith) (l .inv .1)))
+    loop-again
+    returns)

@@ -1,3 +1,4 @@
+-- `eight_tick` meets its contract: with no ticks left among the eight nothing changes; else each task's tick is one step more.
 use borrow.Author.Needs.{needs}
 use Rattle.switches.proofs.Still.{still-stays}
 use Rattle.switches.proofs.Ticks.{one-more, task-still}
@@ -21,20 +22,49 @@ Inv-loop tasks₀ lines₀ g at k₀ tasks lines k = (k ≤ 8) × (taskQueues ta
 abbrev μ-loop : tie.MeasureT-loop
 μ-loop tasks₀ lines₀ g at k₀ tasks lines k = 8 - k
 
-pub eight-tick-spec : {M : Type 1} → statement M
+returns : tie.Need-returns Inv-loop μ-loop
 unfolding task
+returns c =
+    let at-eight-still = c .before in
+    let a = at-eight-still .before .before .args in
+    still-stays (λ k. task (a .tasks .now) (a .g * 8 + k) .left) (from (a .g)) (taskQueues (a .tasks .now) (a .lines .now)) 8
+    (λ k z. task-still (a .tasks .now) (a .lines .now) (a .g * 8 + k) refl z) (at-eight-still .eight-still .ensures) (c .if1 .taken)
+
+loop-holds : tie.Need-loop-holds Inv-loop μ-loop
+unfolding task
+loop-holds c =
+    let a = c .before .before .before .args in
+    (omega arith, sym (rising-none (from (a .g)) (taskQueues (a .tasks .now) (a .lines .now))))
+
+loop-again : tie.Need-loop-again Inv-loop μ-loop
+unfolding task
+loop-again c =
+    let at-loop = c .before .before .before .before in
+    let a = at-loop .before .before .before .before .args in
+    let l = at-loop .loop in
+    (omega arith, one-more (from (a .g)) (taskQueues (a .tasks .now) (a .lines .now)) (l .k) (l .inv .1) (c .task-tick .ensures))
+
+returns-2 : tie.Need-returns-2 Inv-loop μ-loop
+unfolding task
+returns-2 c =
+    let at-loop = c .before in
+    let a = at-loop .before .before .before .before .args in
+    let l = at-loop .loop in
+    rising-end (from (a .g)) (taskQueues (a .tasks .now) (a .lines .now)) (l .k) 8 (l .inv .0) (omega arith) (l .inv .1)
+
+pub eight-tick-spec : {M : Type 1} → statement M
 eight-tick-spec =
     tie.close
     (tie.spec
     Inv-loop
     μ-loop
     (λ c κs. search needs)
-    (λ c. let b = c .before .before .before in still-stays (λ k. task (b .args .tasks .now) (b .args .g * 8 + k) .left) (from (b .args .g)) (taskQueues (b .args .tasks .now) (b .args .lines .now)) 8 (λ k z. task-still (b .args .tasks .now) (b .args .lines .now) (b .args .g * 8 + k) refl z) (c .before .eight-still .ensures) (c .if1 .taken))
+    returns
     (λ c. search needs)
-    (λ c. let b = c .before .before .before in (omega arith, sym (rising-none (from (b .args .g)) (taskQueues (b .args .tasks .now) (b .args .lines .now)))))
+    loop-holds
     (λ c. search needs)
     (λ c κs. search needs)
     (λ c. search needs)
     (λ c. search needs)
-    (λ c. let b = c .before .before .before .before .before .before .before .before in let l = c .before .before .before .before .loop in (omega arith, one-more (from (b .args .g)) (taskQueues (b .args .tasks .now) (b .args .lines .now)) (l .k) (l .inv .1) (c .task-tick .ensures)))
-    (λ c. let b = c .before .before .before .before .before in let l = c .before .loop in rising-end (from (b .args .g)) (taskQueues (b .args .tasks .now) (b .args .lines .now)) (l .k) 8 (l .inv .0) (omega arith) (l .inv .1)))
+    loop-again
+    returns-2)

@@ -1,3 +1,5 @@
+-- `tasks_tick` meets its contract: each turn is eight steps more in rising number, four turns all the tasks.
+use Rattle.rules.specs.Tables.{taskCount}
 use borrow.Author.Needs.{needs}
 use Rattle.switches.proofs.Still.{eight-more}
 use Prim.Native.Nat.{_*_, _-_, _≤_}
@@ -16,6 +18,20 @@ Inv-loop tasks₀ lines₀ g₀ tasks lines g = (g ≤ 4) × (taskQueues tasks l
 abbrev μ-loop : tie.MeasureT-loop
 μ-loop tasks₀ lines₀ g₀ tasks lines g = 4 - g
 
+loop-again : tie.Need-loop-again Inv-loop μ-loop
+loop-again c =
+    let at-loop = c .before .before .before .before in
+    let a = at-loop .before .args in
+    let l = at-loop .loop in
+    (omega arith, eight-more taskTick (taskQueues (a .tasks .now) (a .lines .now)) (l .g) (l .inv .1) (c .eight-tick .ensures))
+
+returns : tie.Need-returns Inv-loop μ-loop
+returns c =
+    let at-loop = c .before in
+    let a = at-loop .before .args in
+    let l = at-loop .loop in
+    rising-end taskTick (taskQueues (a .tasks .now) (a .lines .now)) (l .g * 8) taskCount (omega arith) (omega arith) (l .inv .1)
+
 pub tasks-tick-spec : {M : Type 1} → statement M
 tasks-tick-spec =
     tie.close
@@ -26,5 +42,5 @@ tasks-tick-spec =
     (λ c κs. search needs)
     (λ c. search needs)
     (λ c. search needs)
-    (λ c. let b = c .before .before .before .before .before in let l = c .before .before .before .before .loop in (omega arith, eight-more taskTick (taskQueues (b .args .tasks .now) (b .args .lines .now)) (l .g) (l .inv .1) (c .eight-tick .ensures)))
-    (λ c. let b = c .before .before in let l = c .before .loop in rising-end taskTick (taskQueues (b .args .tasks .now) (b .args .lines .now)) (l .g * 8) 32 (omega arith) (omega arith) (l .inv .1)))
+    loop-again
+    returns)

@@ -4,6 +4,14 @@ use borrow.Author.Needs.{needs}
 use Rattle.switches.proofs.ticking.tick.Statement.{statement}
 use Rattle.switches.proofs.ticking.tick.Tie as tie
 
+returns : tie.Need-returns
+returns c =
+    let at-clocks-tick = c .before .before .before in
+    let at-wrapping-add-u32 = at-clocks-tick .before .before .before .before in
+    let a = at-wrapping-add-u32 .before .before .args in
+    tick-is (a .tasks .now) (a .lines .now) (a .swis .now) (a .clocks .now) (a .state .now) (at-wrapping-add-u32 .wrapping-add-u32 .ensures) refl
+    (at-clocks-tick .clocks-tick .ensures) (c .tasks-tick .ensures)
+
 pub tick-spec : {M : Type 1} → statement M
 tick-spec =
     tie.close
@@ -13,4 +21,4 @@ tick-spec =
     (λ c. search needs)
     (λ c κs. search needs)
     (λ c κs. search needs)
-    (λ c. let b = c .before .before .before .before .before .before .before .before .before in tick-is (b .args .tasks .now) (b .args .lines .now) (b .args .swis .now) (b .args .clocks .now) (b .args .state .now) (c .before .before .before .before .before .before .before .wrapping-add-u32 .ensures) refl (c .before .before .before .clocks-tick .ensures) (c .tasks-tick .ensures)))
+    returns)

@@ -1,11 +1,16 @@
 use Rattle.rules_laws.proofs.Calls.{refusal, effected}
 use Rattle.switches.proofs.Numbers.{tick-done}
-use Rattle.rules.specs.Answer.{codeOf, accepted, done}
-use Rattle.rules.specs.Switches.{interruptCases}
-use Rattle.rules.specs.Tick.{tickTables, ticked}
 use borrow.Author.Needs.{needs}
 use Rattle.switches.proofs.ticking.tick_call.Statement.{statement}
 use Rattle.switches.proofs.ticking.tick_call.Tie as tie
+
+returns-2 : tie.Need-returns-2
+returns-2 c =
+    let at-tick = c .before in
+    -- past the five tables that are lent on
+    let at-test = at-tick .before .before .before .before .before .before in
+    let at-interrupt-code = at-test .before in
+    effected _ _ _ (at-interrupt-code .interrupt-code .ensures) (at-test .if1 .left) (tick-done _ (c .accepted .ensures) (at-tick .tick .ensures))
 
 pub tick-call-spec : {M : Type 1} → statement M
 tick-call-spec =
@@ -13,7 +18,7 @@ tick-call-spec =
     (tie.spec
     (λ c κs. search needs)
     (λ c κs. search needs)
-    (λ c. let b = c .before .before .before in refusal (tickTables (b .args .tasks .now) (b .args .lines .now) (b .args .swis .now) (b .args .clocks .now) (b .args .state .now)) (accepted done 0 (ticked (tickTables (b .args .tasks .now) (b .args .lines .now) (b .args .swis .now) (b .args .clocks .now) (b .args .state .now)))) (codeOf (interruptCases (b .args .x) (b .args .a) (b .args .b) (b .args .c) (b .args .d))) (c .before .before .interrupt-code .ensures) (c .before .if1 .taken) (c .refused .ensures))
+    (λ c. refusal _ _ _ (c .before .before .interrupt-code .ensures) (c .before .if1 .taken) (c .refused .ensures))
     (λ c κs. search needs)
     (λ c κs. search needs)
-    (λ c. let b = c .before .before .before .before .before .before .before .before .before in effected (tickTables (b .args .tasks .now) (b .args .lines .now) (b .args .swis .now) (b .args .clocks .now) (b .args .state .now)) (accepted done 0 (ticked (tickTables (b .args .tasks .now) (b .args .lines .now) (b .args .swis .now) (b .args .clocks .now) (b .args .state .now)))) (codeOf (interruptCases (b .args .x) (b .args .a) (b .args .b) (b .args .c) (b .args .d))) (c .before .before .before .before .before .before .before .before .interrupt-code .ensures) (c .before .before .before .before .before .before .before .if1 .left) (tick-done (tickTables (b .args .tasks .now) (b .args .lines .now) (b .args .swis .now) (b .args .clocks .now) (b .args .state .now)) (c .accepted .ensures) (c .before .tick .ensures))))
+    returns-2)

@@ -3,6 +3,16 @@ use borrow.Author.Needs.{needs}
 use Rattle.tasks.proofs.calls.create_effect.Statement.{statement}
 use Rattle.tasks.proofs.calls.create_effect.Tie as tie
 
+returns : tie.Need-returns
+returns c =
+    let at-move-back = c .before in
+    let at-placed-at = at-move-back .before in
+    let at-no-task = at-placed-at .before in
+    let at-free-task = at-no-task .before .before .before in
+    let args = at-free-task .before .before .args in
+    created (args .tasks .now) (args .lines .now) (args .a) (at-free-task .free-task .ensures .0) (at-no-task .no-task .ensures)
+    (at-placed-at .placed-at .ensures) (at-move-back .move-back .ensures) (c .accepted .ensures)
+
 pub create-effect-spec : {M : Type 1} → statement M
 create-effect-spec =
     tie.close
@@ -13,4 +23,4 @@ create-effect-spec =
     (λ c κs. search needs)
     (λ c κs. search needs)
     (λ c κs. search needs)
-    (λ c. let b = c .before .before .before .before .before .before .before .before in created (b .args .tasks .now) (b .args .lines .now) (b .args .a) (c .before .before .before .before .before .before .free-task .ensures .0) (c .before .before .before .no-task .ensures) (c .before .before .placed-at .ensures) (c .before .move-back .ensures) (c .accepted .ensures)))
+    returns)

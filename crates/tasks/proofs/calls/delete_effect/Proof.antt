@@ -3,6 +3,13 @@ use borrow.Author.Needs.{needs}
 use Rattle.tasks.proofs.calls.delete_effect.Statement.{statement}
 use Rattle.tasks.proofs.calls.delete_effect.Tie as tie
 
+returns : tie.Need-returns
+returns c =
+    let at-set-task = c .before in
+    let at-no-task = at-set-task .before in
+    let args = at-no-task .before .before .args in
+    λ ls. deleted (args .tasks .now) ls (args .a) (at-no-task .no-task .ensures) (at-set-task .set-task .ensures) (c .accepted .ensures)
+
 pub delete-effect-spec : {M : Type 1} → statement M
 delete-effect-spec =
     tie.close
@@ -10,4 +17,4 @@ delete-effect-spec =
     (λ c κs. search needs)
     (λ c κs. search needs)
     (λ c κs. search needs)
-    (λ c. let b = c .before .before .before .before in λ ls. deleted (b .args .tasks .now) ls (b .args .a) (c .before .before .no-task .ensures) (c .before .set-task .ensures) (c .accepted .ensures)))
+    returns)

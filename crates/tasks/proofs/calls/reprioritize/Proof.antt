@@ -1,7 +1,36 @@
+-- `reprioritize` meets its contract: the same priority changes nothing; else a blocked task keeps its place and another joins its queue.
 use Rattle.tasks.proofs.Steps.{same-priority, keeps-place, joins-queue}
 use borrow.Author.Needs.{needs}
 use Rattle.tasks.proofs.calls.reprioritize.Statement.{statement}
 use Rattle.tasks.proofs.calls.reprioritize.Tie as tie
+
+returns : tie.Need-returns
+returns c =
+    let at-with-priority = c .before in
+    let at-place = at-with-priority .before .before in
+    let at-blocked = at-place .before in
+    let at-other = at-blocked .before in
+    let at-task = at-other .before .before in
+    let args = at-task .before .before .args in
+    keeps-place (args .tasks .now) (args .lines .now) (args .a) (args .p) (at-task .task .ensures) (at-other .if1 .taken)
+    (at-blocked .blocked .ensures) (at-place .if2 .taken) (at-with-priority .with-priority .ensures) (c .set-task .ensures)
+
+returns-2 : tie.Need-returns-2
+returns-2 c =
+    let at-placed-at = c .before in
+    let at-place = at-placed-at .before .before .before in
+    let at-blocked = at-place .before in
+    let at-other = at-blocked .before in
+    let at-task = at-other .before .before in
+    let args = at-task .before .before .args in
+    joins-queue (args .tasks .now) (args .lines .now) (args .a) (args .p) (at-task .task .ensures) (at-other .if1 .taken)
+    (at-blocked .blocked .ensures) (at-place .if2 .left) (at-placed-at .placed-at .ensures) (c .move-back .ensures)
+
+returns-3 : tie.Need-returns-3
+returns-3 c =
+    let at-task = c .before .before in
+    let args = at-task .before .before .args in
+    same-priority (args .tasks .now) (args .lines .now) (args .a) (args .p) (at-task .task .ensures) (c .if1 .left)
 
 pub reprioritize-spec : {M : Type 1} → statement M
 reprioritize-spec =
@@ -13,6 +42,6 @@ reprioritize-spec =
     (λ c κs. search needs)
     (λ c κs. search needs)
     (λ c κs. search needs)
-    (λ c. let b = c .before .before .before .before .before .before .before .before .before in keeps-place (b .args .tasks .now) (b .args .lines .now) (b .args .a) (b .args .p) (c .before .before .before .before .before .before .before .task .ensures) (c .before .before .before .before .before .if1 .taken) (c .before .before .before .before .blocked .ensures) (c .before .before .before .if2 .taken) (c .before .with-priority .ensures) (c .set-task .ensures))
-    (λ c. let b = c .before .before .before .before .before .before .before .before .before .before in joins-queue (b .args .tasks .now) (b .args .lines .now) (b .args .a) (b .args .p) (c .before .before .before .before .before .before .before .before .task .ensures) (c .before .before .before .before .before .before .if1 .taken) (c .before .before .before .before .before .blocked .ensures) (c .before .before .before .before .if2 .left) (c .before .placed-at .ensures) (c .move-back .ensures))
-    (λ c. let b = c .before .before .before .before in same-priority (b .args .tasks .now) (b .args .lines .now) (b .args .a) (b .args .p) (c .before .before .task .ensures) (c .if1 .left)))
+    returns
+    returns-2
+    returns-3)

@@ -3,6 +3,12 @@ use borrow.Author.Needs.{needs}
 use Rattle.tasks.proofs.calls.set_priority.Statement.{statement}
 use Rattle.tasks.proofs.calls.set_priority.Tie as tie
 
+returns-2 : tie.Need-returns-2
+returns-2 c =
+    let at-test = c .before .before .before in
+    let at-set-priority-code = at-test .before in
+    effected _ _ _ (at-set-priority-code .set-priority-code .ensures) (at-test .if1 .left) (c .set-priority-effect .ensures)
+
 pub set-priority-spec : {M : Type 1} → statement M
 set-priority-spec =
     tie.close
@@ -11,4 +17,4 @@ set-priority-spec =
     (λ c κs. search needs)
     (λ c. refusal _ _ _ (c .before .before .set-priority-code .ensures) (c .before .if1 .taken) (c .refused .ensures))
     (λ c κs. search needs)
-    (λ c. effected _ _ _ (c .before .before .before .before .set-priority-code .ensures) (c .before .before .before .if1 .left) (c .set-priority-effect .ensures)))
+    returns-2)

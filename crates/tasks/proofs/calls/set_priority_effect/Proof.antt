@@ -3,6 +3,14 @@ use borrow.Author.Needs.{needs}
 use Rattle.tasks.proofs.calls.set_priority_effect.Statement.{statement}
 use Rattle.tasks.proofs.calls.set_priority_effect.Tie as tie
 
+returns : tie.Need-returns
+returns c =
+    let at-reprioritize = c .before in
+    let at-task-word = at-reprioritize .before .before .before in
+    let args = at-task-word .before .before .args in
+    priority-set (args .tasks .now) (args .lines .now) (args .a) (args .b) (at-task-word .task-word .ensures) (at-reprioritize .reprioritize .ensures)
+    (c .accepted .ensures)
+
 pub set-priority-effect-spec : {M : Type 1} → statement M
 set-priority-effect-spec =
     tie.close
@@ -10,4 +18,4 @@ set-priority-effect-spec =
     (λ c κs. search needs)
     (λ c κs. search needs)
     (λ c κs. search needs)
-    (λ c. let b = c .before .before .before .before .before .before in priority-set (b .args .tasks .now) (b .args .lines .now) (b .args .a) (b .args .b) (c .before .before .before .before .task-word .ensures) (c .before .reprioritize .ensures) (c .accepted .ensures)))
+    returns)

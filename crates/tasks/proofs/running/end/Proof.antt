@@ -3,6 +3,12 @@ use borrow.Author.Needs.{needs}
 use Rattle.tasks.proofs.running.end.Statement.{statement}
 use Rattle.tasks.proofs.running.end.Tie as tie
 
+returns-2 : tie.Need-returns-2
+returns-2 c =
+    let at-test = c .before .before .before in
+    let at-end-code = at-test .before in
+    effected _ _ _ (at-end-code .end-code .ensures) (at-test .if1 .left) (c .end-effect .ensures)
+
 pub end-spec : {M : Type 1} → statement M
 end-spec =
     tie.close
@@ -11,4 +17,4 @@ end-spec =
     (λ c κs. search needs)
     (λ c. refusal _ _ _ (c .before .before .end-code .ensures) (c .before .if1 .taken) (c .refused .ensures))
     (λ c κs. search needs)
-    (λ c. effected _ _ _ (c .before .before .before .before .end-code .ensures) (c .before .before .before .if1 .left) (c .end-effect .ensures)))
+    returns-2)

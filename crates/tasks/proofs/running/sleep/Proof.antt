@@ -3,6 +3,12 @@ use borrow.Author.Needs.{needs}
 use Rattle.tasks.proofs.running.sleep.Statement.{statement}
 use Rattle.tasks.proofs.running.sleep.Tie as tie
 
+returns-2 : tie.Need-returns-2
+returns-2 c =
+    let at-test = c .before .before .before in
+    let at-sleep-code = at-test .before in
+    effected _ _ _ (at-sleep-code .sleep-code .ensures) (at-test .if1 .left) (c .sleep-effect .ensures)
+
 pub sleep-spec : {M : Type 1} → statement M
 sleep-spec =
     tie.close
@@ -11,4 +17,4 @@ sleep-spec =
     (λ c κs. search needs)
     (λ c. refusal _ _ _ (c .before .before .sleep-code .ensures) (c .before .if1 .taken) (c .refused .ensures))
     (λ c κs. search needs)
-    (λ c. effected _ _ _ (c .before .before .before .before .sleep-code .ensures) (c .before .before .before .if1 .left) (c .sleep-effect .ensures)))
+    returns-2)

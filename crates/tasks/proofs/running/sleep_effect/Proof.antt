@@ -1,3 +1,5 @@
+-- `sleep_effect` meets its contract: no ticks are done at once; else the current task waits, in no line.
+use Rattle.rules.specs.Tables.{sleeping}
 use borrow.Author.Tests.{eq-eqb, ne-eqb}
 use Rattle.tasks.proofs.RunningSteps.{current-moved}
 use Rattle.rules.specs.declared.Task.{Task}
@@ -7,6 +9,17 @@ use Rattle.rules.specs.Tasks.{sleepEffect}
 use borrow.Author.Needs.{needs}
 use Rattle.tasks.proofs.running.sleep_effect.Statement.{statement}
 use Rattle.tasks.proofs.running.sleep_effect.Tie as tie
+
+returns-2 : tie.Need-returns-2
+unfolding sleepEffect
+returns-2 c =
+    let at-wait = c .before in
+    let at-current = at-wait .before in
+    let at-sleeps = at-current .before .before .before in
+    let a = at-sleeps .before .args in
+    rw (ne-eqb _ 0 (at-sleeps .if1 .left))
+    (current-moved (a .tasks .now) (a .lines .now) (a .state .now) (λ (k : Task). waiting k sleeping 0 (a .n) 0 0) 2 (at-current .current .ensures) refl refl
+    (at-wait .wait .ensures) (c .accepted2 .ensures))
 
 pub sleep-effect-spec : {M : Type 1} → statement M
 unfolding sleepEffect
@@ -18,4 +31,4 @@ sleep-effect-spec =
     (λ c κs. search needs)
     (λ c κs. search needs)
     (λ c κs. search needs)
-    (λ c. let b = c .before .before .before .before .before .before in rw (ne-eqb _ 0 (c .before .before .before .before .before .if1 .left)) (current-moved (b .args .tasks .now) (b .args .lines .now) (b .args .state .now) (λ (k : Task). waiting k 2 0 (b .args .n) 0 0) 2 (c .before .before .current .ensures) refl refl (c .before .wait .ensures) (c .accepted2 .ensures))))
+    returns-2)

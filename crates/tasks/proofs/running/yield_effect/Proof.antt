@@ -6,8 +6,17 @@ use borrow.Author.Needs.{needs}
 use Rattle.tasks.proofs.running.yield_effect.Statement.{statement}
 use Rattle.tasks.proofs.running.yield_effect.Tie as tie
 
-pub yield-effect-spec : {M : Type 1} → statement M
+returns : tie.Need-returns
 unfolding yieldEffect
+returns c =
+    let at-move-back = c .before in
+    let at-task = at-move-back .before .before .before in
+    let at-current = at-task .before .before in
+    let a = at-current .before .args in
+    current-moved (a .tasks .now) (a .lines .now) (a .state .now) (λ (k : Task). k) 0 (at-current .current .ensures) (at-task .task .ensures) refl
+    (at-move-back .move-back .ensures) (c .accepted .ensures)
+
+pub yield-effect-spec : {M : Type 1} → statement M
 yield-effect-spec =
     tie.close
     (tie.spec
@@ -16,4 +25,4 @@ yield-effect-spec =
     (λ c κs. search needs)
     (λ c κs. search needs)
     (λ c κs. search needs)
-    (λ c. let b = c .before .before .before .before .before .before .before in current-moved (b .args .tasks .now) (b .args .lines .now) (b .args .state .now) (λ (k : Task). k) 0 (c .before .before .before .before .before .before .current .ensures) (c .before .before .before .before .task .ensures) refl (c .before .move-back .ensures) (c .accepted .ensures)))
+    returns)

@@ -3,6 +3,12 @@ use borrow.Author.Needs.{needs}
 use Rattle.tasks.proofs.running.yield_task.Statement.{statement}
 use Rattle.tasks.proofs.running.yield_task.Tie as tie
 
+returns-2 : tie.Need-returns-2
+returns-2 c =
+    let at-test = c .before .before .before in
+    let at-yield-code = at-test .before in
+    effected _ _ _ (at-yield-code .yield-code .ensures) (at-test .if1 .left) (c .yield-effect .ensures)
+
 pub yield-task-spec : {M : Type 1} → statement M
 yield-task-spec =
     tie.close
@@ -11,4 +17,4 @@ yield-task-spec =
     (λ c κs. search needs)
     (λ c. refusal _ _ _ (c .before .before .yield-code .ensures) (c .before .if1 .taken) (c .refused .ensures))
     (λ c κs. search needs)
-    (λ c. effected _ _ _ (c .before .before .before .before .yield-code .ensures) (c .before .before .before .if1 .left) (c .yield-effect .ensures)))
+    returns-2)
