@@ -1,9 +1,10 @@
-// The same with the two entries that test the tables before each call. Each argument behind the first has a line: `by-value` makes the calls with `call`,
-// another, and none, with `call_in_place`.
-use call_lists::call_at;
+// The same with the two entries that test the tables before each call: with `call_in_place`, or with `call` if a second argument is there.
 use pace_sums::Calls;
+use text::Text;
+ghost use Rattle.io.specs.Counts.{Counts};
+ghost use Rattle.tables.specs.Lent.{new};
 
-// The first n calls in place on tables that are kept, from fresh ones.
+// The calls in place on tables that are kept, from fresh ones.
 fn in_place(levels: u32, calls: &Calls, n: usize, from: u32) -> u32 {
     let fresh = entries::fresh(levels).tables;
     let mut tasks = fresh.tasks;
@@ -45,14 +46,23 @@ fn in_place(levels: u32, calls: &Calls, n: usize, from: u32) -> u32 {
     sum
 }
 
-// The first n calls on tables by value.
+// The calls on tables by value.
 fn by_value(levels: u32, calls: &Calls, n: usize, from: u32) -> u32 {
     let mut tables = entries::fresh(levels).tables;
     let mut sum = from;
     let mut k = 0;
-    while k < n {
-        let q = call_at(calls, k);
-        let after = entries::call(tables, q.number, q.a, q.b, q.c, q.d);
+    while k < 3276 {
+        if n <= k {
+            return sum;
+        }
+        let after = entries::call(
+            tables,
+            calls[k * 5],
+            calls[k * 5 + 1],
+            calls[k * 5 + 2],
+            calls[k * 5 + 3],
+            calls[k * 5 + 4],
+        );
         let answer = after.answer;
         let thread = after.thread;
         sum = pace_sums::add(sum, answer, thread);
@@ -62,31 +72,48 @@ fn by_value(levels: u32, calls: &Calls, n: usize, from: u32) -> u32 {
     sum
 }
 
-// All rounds in a way, and their line.
-fn make_rounds(is_by_value: bool, calls: &Calls, given: pace_sums::Given) {
-    let mut sum = 0;
-    let mut left = pace_sums::rounds(1);
-    while 0 < left {
-        if is_by_value {
-            sum = by_value(given.levels, calls, given.calls, sum);
-        } else {
-            sum = in_place(given.levels, calls, given.calls, sum);
-        }
-        left -= 1;
-    }
-    pace_sums::print_sum(sum);
+// How often the log is gone through, by the program's first argument.
+fn rounds() -> u32 {
+    let mut name = io::buffer();
+    let length = os::arg(1, &mut name);
+    pace_sums::rounds_for(&name[..length])
+}
+
+// Puts the line of the sum into a buffer, and writes it from there.
+fn write_sum(out: &mut Text, sum: u32) {
+    let len = pace_sums::put_sum(out, sum);
+    io::write_all(libc::STDOUT_FILENO, text::front(out, len));
+}
+
+fn print_sum(sum: u32) {
+    let mut out = [0u8; 16384];
+    write_sum(&mut out, sum);
+}
+
+// Reads standard input, once: a file gives all that fits.
+fn read_log(log: &mut [u8]) -> usize
+    ensures { λ r. ⌜ Counts r (new log) ⌝ }
+{
+    let got = libc::read(libc::STDIN_FILENO, log);
+    io::count(got, log)
 }
 
 fn main() {
+    let mut log = [0u8; 65520];
+    let n = read_log(&mut log) / 20;
     let mut calls = [0u32; 16380];
-    let given = pace_sums::read_calls(&mut calls);
-    let arguments = os::arg_count();
-    if arguments < 3 {
-        make_rounds(false, &calls, given);
+    pace_sums::as_calls(&log, &mut calls, n);
+    let levels = pace_sums::levels_of(&log);
+    let kept = os::arg_count() < 3;
+    let mut sum = 0;
+    let mut left = rounds();
+    while 0 < left {
+        if kept {
+            sum = in_place(levels, &calls, n, sum);
+        } else {
+            sum = by_value(levels, &calls, n, sum);
+        }
+        left -= 1;
     }
-    let mut i = 2;
-    while i < arguments {
-        make_rounds(pace_sums::letter(i) == b'b', &calls, given);
-        i += 1;
-    }
+    print_sum(sum);
 }

@@ -7,8 +7,6 @@
 //
 // The stored run makes 100 searches, with each queue filled in turn. One that finds queue p adds p + 1: six times all sixteen make
 // 6 * 136, and the last four 1 + 2 + 3 + 4, together 826.
-use pace_sums::letter;
-use pace_sums::print_sum;
 use rules::Lines;
 use rules::State;
 use rules::numbers::FEW_QUEUES;
@@ -18,6 +16,7 @@ use rules::numbers::LINE_WIDTH;
 use rules::numbers::POSTED_LINES;
 use rules::numbers::READY_LINES;
 use rules::numbers::STATE_WIDTH;
+use text::Text;
 ghost use Prim.Native.Nat.{_≤_};
 
 // How many queues of each kind there are.
@@ -27,6 +26,24 @@ const QUEUES: usize = FEW_QUEUES;
 struct Filled {
     first: usize,
     step: usize,
+}
+
+// The first letter of argument k; 0 where there is none.
+fn letter(k: usize) -> u8 {
+    let mut name = io::buffer();
+    let length = os::arg(k, &mut name);
+    let word = &name[..length];
+    if word.len() == 0 {
+        return 0;
+    }
+    word[0]
+}
+
+// How often, by the program's second argument.
+fn rounds() -> u32 {
+    let mut name = io::buffer();
+    let length = os::arg(2, &mut name);
+    pace_sums::rounds_for(&name[..length])
 }
 
 // Which queues are filled, by the first letter of the program's third argument.
@@ -97,11 +114,22 @@ fn searches(lines: &mut Lines, state: &State, search: u8, filled: Filled, n: u32
     sum
 }
 
+// Puts the line of the sum into a buffer, and writes it from there.
+fn write_sum(out: &mut Text, sum: u32) {
+    let len = pace_sums::put_sum(out, sum);
+    io::write_all(libc::STDOUT_FILENO, text::front(out, len));
+}
+
+fn print_sum(sum: u32) {
+    let mut out = [0u8; 16384];
+    write_sum(&mut out, sum);
+}
+
 fn main() {
     let mut lines = [0u8; LINE_BYTES];
     let search = letter(1);
     let mut state = [0u32; STATE_WIDTH];
     state[LEVELS] = levels_for(search);
     let filled = queues_for(letter(3));
-    print_sum(searches(&mut lines, &state, search, filled, pace_sums::rounds(2)));
+    print_sum(searches(&mut lines, &state, search, filled, rounds()));
 }

@@ -1,4 +1,4 @@
-// What the programs that time the call core have in common: their arguments, the calls of a log as words, and a sum over all answers.
+// What the programs that time the call core have in common: the calls of a log as words, and a sum over all answers.
 use rules::Answer;
 use rules::Thread;
 use text::Text;
@@ -6,7 +6,6 @@ ghost use mathlib.Core.Path.{_≡_};
 ghost use mathlib.Core.List.{_++_};
 ghost use Prim.Native.Nat.{min};
 ghost use lib.Seq.{sets};
-ghost use Rattle.io.specs.Counts.{Counts};
 ghost use Rattle.rules.specs.Log.{versionOf, levelsFor};
 ghost use Rattle.rules.specs.Text.{wordText, lineFeed};
 ghost use Rattle.text.specs.Put.{Put};
@@ -86,64 +85,8 @@ pub fn rounds_for(argument: &[u8]) -> u32
 }
 
 // The line of the sum.
-fn put_sum(out: &mut Text, sum: u32) -> usize
+pub fn put_sum(out: &mut Text, sum: u32) -> usize
     ensures { λ r. ⌜ Put (old out) 0 (wordText sumWord sum ++ lineFeed) (new out) r ⌝ }
 {
     text::put_word(out, 0, b"sum", sum as u64)
-}
-
-// Puts that line into a buffer, and writes it from there.
-fn write_sum(out: &mut Text, sum: u32) {
-    let len = put_sum(out, sum);
-    io::write_all(libc::STDOUT_FILENO, text::front(out, len));
-}
-
-pub fn print_sum(sum: u32) {
-    let mut out = [0u8; 16384];
-    write_sum(&mut out, sum);
-}
-
-// The first letter of a program's argument k; 0 where there is none.
-pub fn letter(k: usize) -> u8 {
-    let mut name = io::buffer();
-    let length = os::arg(k, &mut name);
-    let word = &name[..length];
-    if word.len() == 0 {
-        return 0;
-    }
-    word[0]
-}
-
-// Reads standard input, once: a file gives all that fits.
-fn read_log(log: &mut [u8]) -> usize
-    ensures { λ r. ⌜ Counts r (new log) ⌝ }
-{
-    let got = libc::read(libc::STDIN_FILENO, log);
-    io::count(got, log)
-}
-
-// What a log on standard input gives: how many levels its version means, how many calls it has, and how many words these are.
-pub struct Given {
-    pub levels: u32,
-    pub calls: usize,
-    pub words: usize,
-}
-
-// Reads the log's calls.
-pub fn read_calls(calls: &mut Calls) -> Given {
-    let mut log = [0u8; 65520];
-    let n = read_log(&mut log) / 20;
-    as_calls(&log, calls, n);
-    Given {
-        levels: levels_of(&log),
-        calls: n,
-        words: n * 5,
-    }
-}
-
-// How often, by a program's argument k.
-pub fn rounds(k: usize) -> u32 {
-    let mut name = io::buffer();
-    let length = os::arg(k, &mut name);
-    rounds_for(&name[..length])
 }

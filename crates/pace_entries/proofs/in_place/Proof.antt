@@ -1,4 +1,3 @@
--- `in_place` is safe and ends: each call stands within the words, and the calls that are left get fewer.
 use Prim.Native.Nat.{_-_, _≤_}
 use borrow.Author.Needs.{needs}
 use Rattle.pace_entries.proofs.in_place.Statement.{statement}

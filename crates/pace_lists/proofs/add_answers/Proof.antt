@@ -5,10 +5,10 @@ use Rattle.pace_lists.proofs.add_answers.Statement.{statement}
 use Rattle.pace_lists.proofs.add_answers.Tie as tie
 
 abbrev Inv-loop : tie.InvT-loop
-Inv-loop from room words thread n sum₀ i₀ sum i = i ≤ n
+Inv-loop from answers thread n sum₀ i₀ sum i = i ≤ n
 
 abbrev μ-loop : tie.MeasureT-loop
-μ-loop from room words thread n sum₀ i₀ sum i = n - i
+μ-loop from answers thread n sum₀ i₀ sum i = n - i
 
 pub add-answers-spec : {M : Type 1} → statement M
 add-answers-spec =
