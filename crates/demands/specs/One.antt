@@ -22,8 +22,8 @@ use Rattle.rules.specs.declared.Call.{Call}
 abbrev pub threadOf : Tables → Thread
 threadOf t = if (sound t) (running (t .lines) (t .state)) (Task 0)
 
--- `refusal t q k` is the case of code k in 01's table, `valueOf q k` the value that a refusal with code k has (demand_1_refusals/specs); `None ks (refusal t q)`
--- says that no case of these codes holds
+-- `refusal t q k` is the case of code k in 01's table, `valueOf q k` the value that a refusal with code k has (demand_1_refusals/specs);
+-- `None ks (refusal t q)` says that no case of these codes holds
 pub record Answered (t : Tables) (q : Call) (s : Step) : Type 0 where
   -- the first case that holds gives its code; 0 where none does
   pub code : s .answer .code ≡ codeOf (refusal t q)

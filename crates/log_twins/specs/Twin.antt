@@ -39,8 +39,8 @@ CallsAlike =
 abbrev pub Bytes : List ℕ → Type 0
 Bytes s = (i : ℕ) → getD s i 0 < 256
 
--- log w is the version 1 twin of log s: the first version in s, if it has one, is 2; w has version 1 exactly where s has version 2 (the third of each 20 bytes),
--- and a byte that is no version is the same in both
+-- log w is the version 1 twin of log s: the first version in s, if it has one, is 2; w has version 1 exactly where s has version 2 (the third of
+-- each 20 bytes), and a byte that is no version is the same in both
 pub record Twins (s w : List ℕ) : Type 0 where
   pub long : length w ≡ length s
   pub begins : 2 < length s → getD s 2 0 ≡ 2
