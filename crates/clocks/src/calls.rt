@@ -8,6 +8,7 @@ use rows::clock;
 use rows::set_clock;
 use rows::swi;
 use rules::Answer;
+use rules::Call;
 use rules::Clock;
 use rules::Clocks;
 use rules::Swis;
@@ -16,7 +17,7 @@ use rules::numbers::DONE;
 use rules::numbers::T;
 use rules::numbers::USED;
 ghost use mathlib.Core.Path.{_≡_};
-ghost use Rattle.rules.specs.Answer.{withAnswer, answered, codeOf};
+ghost use Rattle.rules.specs.Answer.{withAnswer, answered, codeOf, _by_};
 ghost use Rattle.rules.specs.Clocks.{createCases, createEffect, deleteCases, deleteEffect, startStopCases, startEffect, stopEffect, createCall, deleteCall};
 ghost use Rattle.rules.specs.Clocks.{startCall, stopCall};
 ghost use Rattle.tables.specs.Lent.{old, new};
@@ -57,14 +58,14 @@ pub fn create_effect(clocks: &mut Clocks, a: u32, b: u32, c: u32) -> Answer
     accepted(DONE, n as u32)
 }
 
-pub fn create(clocks: &mut Clocks, swis: &Swis, x: u32, a: u32, b: u32, c: u32, d: u32) -> Answer
-    ensures { λ r. ⌜ withAnswer r (new clocks) ≡ answered (old clocks) (createCall (old clocks) (old swis) x a b c d) ⌝ }
+pub fn create(clocks: &mut Clocks, swis: &Swis, x: u32, q: Call) -> Answer
+    ensures { λ r. ⌜ withAnswer r (new clocks) ≡ answered (old clocks) (createCall (old clocks) (old swis) x by q) ⌝ }
 {
-    let code = create_code(clocks, swis, x, a, b, d);
+    let code = create_code(clocks, swis, x, q.a, q.b, q.d);
     if code != 0 {
         return refused(code);
     }
-    create_effect(clocks, a, b, c)
+    create_effect(clocks, q.a, q.b, q.c)
 }
 
 // ---- 51 delete
@@ -99,14 +100,14 @@ pub fn delete_effect(clocks: &mut Clocks, a: u32) -> Answer
     accepted(DONE, 0)
 }
 
-pub fn delete(clocks: &mut Clocks, x: u32, a: u32, b: u32, c: u32, d: u32) -> Answer
-    ensures { λ r. ⌜ withAnswer r (new clocks) ≡ answered (old clocks) (deleteCall (old clocks) x a b c d) ⌝ }
+pub fn delete(clocks: &mut Clocks, x: u32, q: Call) -> Answer
+    ensures { λ r. ⌜ withAnswer r (new clocks) ≡ answered (old clocks) (deleteCall (old clocks) x by q) ⌝ }
 {
-    let code = delete_code(clocks, x, a, b, c, d);
+    let code = delete_code(clocks, x, q.a, q.b, q.c, q.d);
     if code != 0 {
         return refused(code);
     }
-    delete_effect(clocks, a)
+    delete_effect(clocks, q.a)
 }
 
 // ---- 52 start, 53 stop
@@ -134,14 +135,14 @@ pub fn start_effect(clocks: &mut Clocks, a: u32) -> Answer
     accepted(DONE, 0)
 }
 
-pub fn start(clocks: &mut Clocks, a: u32, b: u32, c: u32, d: u32) -> Answer
-    ensures { λ r. ⌜ withAnswer r (new clocks) ≡ answered (old clocks) (startCall (old clocks) a b c d) ⌝ }
+pub fn start(clocks: &mut Clocks, q: Call) -> Answer
+    ensures { λ r. ⌜ withAnswer r (new clocks) ≡ answered (old clocks) (startCall (old clocks) by q) ⌝ }
 {
-    let code = start_stop_code(clocks, a, b, c, d);
+    let code = start_stop_code(clocks, q.a, q.b, q.c, q.d);
     if code != 0 {
         return refused(code);
     }
-    start_effect(clocks, a)
+    start_effect(clocks, q.a)
 }
 
 // A stopped clock has no ticks left.
@@ -154,12 +155,12 @@ pub fn stop_effect(clocks: &mut Clocks, a: u32) -> Answer
     accepted(DONE, 0)
 }
 
-pub fn stop(clocks: &mut Clocks, a: u32, b: u32, c: u32, d: u32) -> Answer
-    ensures { λ r. ⌜ withAnswer r (new clocks) ≡ answered (old clocks) (stopCall (old clocks) a b c d) ⌝ }
+pub fn stop(clocks: &mut Clocks, q: Call) -> Answer
+    ensures { λ r. ⌜ withAnswer r (new clocks) ≡ answered (old clocks) (stopCall (old clocks) by q) ⌝ }
 {
-    let code = start_stop_code(clocks, a, b, c, d);
+    let code = start_stop_code(clocks, q.a, q.b, q.c, q.d);
     if code != 0 {
         return refused(code);
     }
-    stop_effect(clocks, a)
+    stop_effect(clocks, q.a)
 }

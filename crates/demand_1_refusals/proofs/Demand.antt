@@ -31,8 +31,10 @@ module _ (t : Tables) (q : Call) (e : sound t ≡ true) where
   known-code : 0 < count (q .number) known → codeOf (casesOf t q) ≡ codeOf (refusal t q)
   unfolding refusal refusalBy
   known-code h =
-      let (r10, r1, r2, r4, r5, r6, r7, r8, r9) = one-of (λ n. Agrees t (asked n (q .a) (q .b) (q .c) (q .d))) known (agrees t (q .a) (q .b) (q .c) (q .d)) (q .number) h in
-      let (r3, r11) = one-of (λ n. ObjectAgrees t (asked n (q .a) (q .b) (q .c) (q .d))) known (object-agrees t (q .a) (q .b) (q .c) (q .d)) (q .number) h in
+      let with : ℕ → Call = λ n. asked n (q .a) (q .b) (q .c) (q .d) in
+      let here = one-of (λ n. Agrees t (with n)) known (agrees t (q .a) (q .b) (q .c) (q .d)) (q .number) h in
+      let (r10, r1, r2, r4, r5, r6, r7, r8, r9) = here in
+      let (r3, r11) = one-of (λ n. ObjectAgrees t (with n)) known (object-agrees t (q .a) (q .b) (q .c) (q .d)) (q .number) h in
       first-same order (casesOf t q) (refusal t q) ((r10 ∙ sym (ap not e)) & r1 & r2 & r3 & r11 & r4 & r5 & r6 & r7 & r8 & r9 & tt)
 
   unknown-code : count (q .number) known ≡ 0 → codeOf (casesOf t q) ≡ codeOf (refusal t q)
@@ -91,7 +93,11 @@ left-named : (t : Tables) (q : Call) → made t q .answer .code ≢ 0
 unfolding call named
 left-named t q =
     by-bool (sound t)
-    (λ e. rw e (λ n. step-refused t q (λ z. n (step-code t q ∙ z)) ∙ ap (λ (k : ℕ). stepOf t (named (q .number) (answer k 0 0)) (running (t .lines) (t .state))) (sym (step-code t q))))
+    (λ e.
+    rw e
+    (λ n.
+    step-refused t q (λ z. n (step-code t q ∙ z))
+    ∙ ap (λ (k : ℕ). stepOf t (named (q .number) (answer k 0 0)) (running (t .lines) (t .state))) (sym (step-code t q))))
     (λ e. rw e (λ n. refl))
 
 -- a refusal's value is 0, but for codes 3 and 11

@@ -12,7 +12,8 @@ use Rattle.basics.specs.Lists.{count}
 use Rattle.basics.proofs.Laws.{same?}
 use Rattle.rules.specs.Answer.{Cases, CallRule, asked}
 use Rattle.rules.specs.Rows.{field}
-use Rattle.rules.specs.Tables.{task, clock, taskWidth, taskCount, swiWidth, swiCount, semaphoreWidth, semaphoreCount, eventWidth, eventCount, mailboxWidth, mailboxCount, clockWidth, clockCount, USED, CAPACITY}
+use Rattle.rules.specs.Tables.{task, clock, taskWidth, taskCount, swiWidth, swiCount, semaphoreWidth, semaphoreCount, eventWidth, eventCount}
+use Rattle.rules.specs.Tables.{mailboxWidth, mailboxCount, clockWidth, clockCount, USED, CAPACITY}
 use Rattle.rules.specs.Step.{callOf}
 use Rattle.rules.specs.Dispatch.{context}
 use Rattle.rules.specs.Waits as Waits
@@ -26,8 +27,9 @@ use Rattle.rules.specs.Heap as Heap
 use Rattle.rules.specs.Switches as Switches
 use Rattle.rules.specs.Tick as Tick
 use Rattle.rules.specs.declared.Tables.{Tables}
-use Rattle.demand_1_refusals.specs.Refusals.{among, known, unknownNumber, threadOrder, wrongContext, limitOf, objectTable, takesObject, sizeOf, usedIn, outsideTable, insideUnused, badValue, unusedNotZero}
-use Rattle.demand_1_refusals.specs.Refusals.{badArgument, firstIs, beginsWait, stateForbids, noFreeNumber, atItsEnd, noHeapRoom, switchedOff}
+use Rattle.demand_1_refusals.specs.Refusals.{among, known, unknownNumber, threadOrder, wrongContext, limitOf, objectTable, takesObject, sizeOf}
+use Rattle.demand_1_refusals.specs.Refusals.{usedIn, outsideTable, insideUnused, badValue, unusedNotZero, badArgument, firstIs, beginsWait}
+use Rattle.demand_1_refusals.specs.Refusals.{stateForbids, noFreeNumber, atItsEnd, noHeapRoom, switchedOff}
 use Rattle.rules.specs.declared.Call.{Call}
 
 -- what holds of each of a list's numbers holds of those that stand in it
@@ -75,7 +77,15 @@ rows = (refl, refl, refl, refl, refl, refl, refl, refl, refl)
 
 -- in the order of `known`, a line for each range
 pub agrees : (t : Tables) (a b c d : ℕ) → All (λ n. Agrees t (asked n a b c d)) known
-unfolding callOf among count unknownNumber wrongContext limitOf badValue unusedNotZero badArgument firstIs beginsWait stateForbids noFreeNumber atItsEnd noHeapRoom switchedOff Waits.outside Tasks.taskCall Tasks.createCases Tasks.deleteCases Tasks.setPriorityCases Tasks.yieldCases Tasks.endCases Tasks.sleepCases Tasks.lastResultCases Swis.swiCall Swis.createCases Swis.deleteCases Swis.postCases Swis.maskCases Swis.endCases Swis.takenCases Semaphores.semaphoreCall Semaphores.createCases Semaphores.deleteCases Semaphores.resetCases Semaphores.pendWaits Semaphores.pendCases Semaphores.postCases Events.eventCall Events.createCases Events.deleteCases Events.pendWaits Events.pendCases Events.postCases Mailboxes.mailboxCall Mailboxes.waitsFirst Mailboxes.createCases Mailboxes.deleteCases Mailboxes.postWaits Mailboxes.pendWaits Mailboxes.postCases Mailboxes.pendCases Clocks.clockCall Clocks.createCases Clocks.deleteCases Clocks.startStopCases Heap.heapCall Heap.takeCases Heap.giveCases Tick.switchCall Switches.offCases Switches.restoreCases Switches.inCases Switches.interruptCases
+unfolding callOf among count unknownNumber wrongContext limitOf badValue unusedNotZero badArgument firstIs beginsWait stateForbids noFreeNumber atItsEnd
+    noHeapRoom switchedOff Waits.outside
+    Tasks.taskCall Tasks.createCases Tasks.deleteCases Tasks.setPriorityCases Tasks.yieldCases Tasks.endCases Tasks.sleepCases Tasks.lastResultCases
+    Swis.swiCall Swis.createCases Swis.deleteCases Swis.postCases Swis.maskCases Swis.endCases Swis.takenCases
+    Semaphores.semaphoreCall Semaphores.createCases Semaphores.deleteCases Semaphores.resetCases Semaphores.pendWaits Semaphores.pendCases
+    Semaphores.postCases Events.eventCall Events.createCases Events.deleteCases Events.pendWaits Events.pendCases Events.postCases
+    Mailboxes.mailboxCall Mailboxes.waitsFirst Mailboxes.createCases Mailboxes.deleteCases Mailboxes.postWaits Mailboxes.pendWaits
+    Mailboxes.postCases Mailboxes.pendCases Clocks.clockCall Clocks.createCases Clocks.deleteCases Clocks.startStopCases
+    Heap.heapCall Heap.takeCases Heap.giveCases Tick.switchCall Switches.offCases Switches.restoreCases Switches.inCases Switches.interruptCases
 agrees t a b c d =
     rows & rows & rows & rows & rows & rows & rows
     & rows & rows & rows & rows & rows & rows & rows & rows & rows
@@ -112,7 +122,14 @@ none = (refl, refl)
 
 -- in the order of `known`, a line for each range
 pub object-agrees : (t : Tables) (a b c d : ℕ) → All (λ n. ObjectAgrees t (asked n a b c d)) known
-unfolding callOf task clock among count objectTable takesObject sizeOf usedIn outsideTable insideUnused Tasks.taskCall Tasks.createCases Tasks.deleteCases Tasks.setPriorityCases Tasks.yieldCases Tasks.endCases Tasks.sleepCases Tasks.lastResultCases Swis.swiCall Swis.createCases Swis.deleteCases Swis.postCases Swis.maskCases Swis.endCases Swis.takenCases Semaphores.semaphoreCall Semaphores.createCases Semaphores.deleteCases Semaphores.resetCases Semaphores.pendCases Semaphores.postCases Events.eventCall Events.createCases Events.deleteCases Events.pendCases Events.postCases Mailboxes.mailboxCall Mailboxes.createCases Mailboxes.deleteCases Mailboxes.postCases Mailboxes.pendCases Clocks.clockCall Clocks.createCases Clocks.deleteCases Clocks.startStopCases Heap.heapCall Heap.takeCases Heap.giveCases Tick.switchCall Switches.offCases Switches.restoreCases Switches.inCases Switches.interruptCases
+unfolding callOf task clock among count objectTable takesObject sizeOf usedIn outsideTable insideUnused
+    Tasks.taskCall Tasks.createCases Tasks.deleteCases Tasks.setPriorityCases Tasks.yieldCases Tasks.endCases Tasks.sleepCases Tasks.lastResultCases
+    Swis.swiCall Swis.createCases Swis.deleteCases Swis.postCases Swis.maskCases Swis.endCases Swis.takenCases
+    Semaphores.semaphoreCall Semaphores.createCases Semaphores.deleteCases Semaphores.resetCases Semaphores.pendCases Semaphores.postCases
+    Events.eventCall Events.createCases Events.deleteCases Events.pendCases Events.postCases
+    Mailboxes.mailboxCall Mailboxes.createCases Mailboxes.deleteCases Mailboxes.postCases Mailboxes.pendCases
+    Clocks.clockCall Clocks.createCases Clocks.deleteCases Clocks.startStopCases Heap.heapCall Heap.takeCases Heap.giveCases Tick.switchCall
+    Switches.offCases Switches.restoreCases Switches.inCases Switches.interruptCases
 object-agrees t a b c d =
     let onTask = on taskWidth taskCount (t .tasks) a 0 in
     let onSwi = on swiWidth swiCount (t .swis) a USED in

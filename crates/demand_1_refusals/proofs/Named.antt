@@ -4,14 +4,16 @@ use Prim.Native.Nat.{ℕ}
 use mathlib.Core.Path.{_≡_, refl, ap}
 use mathlib.Core.Logic.{_≢_, ⊎-elim}
 use mathlib.Core.Bool.{Bool, true, false, not, _&&_, false≢true, and-eq-true-iff}
+use mathlib.Core.List.{List}
 use borrow.Author.Tests.{ltb-true, ne-eqb}
 use lib.Dec.{eqb, ltb}
 use Rattle.basics.specs.Lists.{count}
 use Rattle.basics.proofs.Laws.{same?}
 use Rattle.rules.specs.Answer.{answer, tableOf, named}
 use Rattle.rules.specs.declared.Tables.{Tables}
-use Rattle.demand_1_refusals.specs.Refusals.{among, onTask, onSwi, onSemaphore, onEvent, onMailbox, onClock, objectTable, takesObject, sizeOf, usedIn, outsideTable, insideUnused, valueOf, refusal, refusalBy}
-use Rattle.demand_1_refusals.proofs.Known.{one-of, _&_}
+use Rattle.demand_1_refusals.specs.Refusals.{among, onTask, onSwi, onSemaphore, onEvent, onMailbox, onClock, objectTable, takesObject, sizeOf}
+use Rattle.demand_1_refusals.specs.Refusals.{usedIn, outsideTable, insideUnused, valueOf, refusal, refusalBy}
+use Rattle.demand_1_refusals.proofs.Known.{All, one-of, _&_}
 use Rattle.demand_1_refusals.proofs.First.{by-bool}
 use Rattle.rules.specs.declared.Call.{Call}
 
@@ -26,26 +28,30 @@ apart t q = never-both (takesObject q) (ltb (q .a) (sizeOf (objectTable q))) (eq
     never-both false inside u = refl
 
 -- ---- the table that the rows of the table of refusals name is that of the call's kind, and the Swis' for call 50
+in-table : (q : Call) (table : ℕ) (numbers : List ℕ) → All (λ (n : ℕ). tableOf n ≡ table) numbers → among numbers q ≡ true → tableOf (q .number) ≡ table
+unfolding among
+in-table q table numbers all h = one-of (λ (n : ℕ). tableOf n ≡ table) numbers all (q .number) (ltb-true 0 (count (q .number) numbers) h)
+
 table-is : (q : Call) → takesObject q ≡ true → tableOf (q .number) ≡ objectTable q
 unfolding takesObject objectTable among tableOf
 table-is q is =
     by-bool (among onTask q)
-    (λ h. rw h (one-of (λ (n : ℕ). tableOf n ≡ 1) onTask (refl & refl & refl & tt) (q .number) (ltb-true 0 (count (q .number) onTask) h)))
+    (λ h. rw h (in-table q 1 onTask (refl & refl & refl & tt) h))
     (λ e1.
     by-bool (among onSwi q)
-    (λ h. rw (e1, h) (one-of (λ (n : ℕ). tableOf n ≡ 2) onSwi (refl & refl & refl & refl & refl & refl & refl & tt) (q .number) (ltb-true 0 (count (q .number) onSwi) h)))
+    (λ h. rw (e1, h) (in-table q 2 onSwi (refl & refl & refl & refl & refl & refl & refl & tt) h))
     (λ e2.
     by-bool (among onSemaphore q)
-    (λ h. rw (e1, e2, h) (one-of (λ (n : ℕ). tableOf n ≡ 3) onSemaphore (refl & refl & refl & refl & tt) (q .number) (ltb-true 0 (count (q .number) onSemaphore) h)))
+    (λ h. rw (e1, e2, h) (in-table q 3 onSemaphore (refl & refl & refl & refl & tt) h))
     (λ e3.
     by-bool (among onEvent q)
-    (λ h. rw (e1, e2, e3, h) (one-of (λ (n : ℕ). tableOf n ≡ 4) onEvent (refl & refl & refl & tt) (q .number) (ltb-true 0 (count (q .number) onEvent) h)))
+    (λ h. rw (e1, e2, e3, h) (in-table q 4 onEvent (refl & refl & refl & tt) h))
     (λ e4.
     by-bool (among onMailbox q)
-    (λ h. rw (e1, e2, e3, e4, h) (one-of (λ (n : ℕ). tableOf n ≡ 5) onMailbox (refl & refl & refl & tt) (q .number) (ltb-true 0 (count (q .number) onMailbox) h)))
+    (λ h. rw (e1, e2, e3, e4, h) (in-table q 5 onMailbox (refl & refl & refl & tt) h))
     (λ e5.
     by-bool (among onClock q)
-    (λ h. rw (e1, e2, e3, e4, e5, h) (one-of (λ (n : ℕ). tableOf n ≡ 6) onClock (refl & refl & refl & tt) (q .number) (ltb-true 0 (count (q .number) onClock) h)))
+    (λ h. rw (e1, e2, e3, e4, e5, h) (in-table q 6 onClock (refl & refl & refl & tt) h))
     (λ e6. absurd (false≢true (rw (e1, e2, e3, e4, e5, e6) at is))))))))
 
 -- where the case of code 3 or 11 holds, the call takes an object's number

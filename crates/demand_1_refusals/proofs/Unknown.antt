@@ -39,7 +39,8 @@ module _ (n : ℕ) (out : count n known ≡ 0) where
 
   no-swi : (p : SwiQueues) (cs st : List ℕ) (x a b c d : ℕ) → swiCall p cs st x n a b c d .cases ≡ onlyOne
   unfolding count swiCall
-  no-swi p cs st x a b c d = rw (isnt 0x10 refl, isnt 0x11 refl, isnt 0x12 refl, isnt 0x13 refl, isnt 0x14 refl, isnt 0x15 refl, isnt 0x16 refl, isnt 0x17 refl, isnt 0x18 refl)
+  no-swi p cs st x a b c d =
+      rw (isnt 0x10 refl, isnt 0x11 refl, isnt 0x12 refl, isnt 0x13 refl, isnt 0x14 refl, isnt 0x15 refl, isnt 0x16 refl, isnt 0x17 refl, isnt 0x18 refl)
 
   no-semaphore : (q : WaitTables) (st : List ℕ) (x a b c d : ℕ) → semaphoreCall q st x n a b c d .cases ≡ onlyOne
   unfolding count semaphoreCall

@@ -1,13 +1,15 @@
 -- An accepted call: none of its cases holds.
-use Prim.Native.Nat.{ℕ, suc}
+use Prim.Native.Nat.{ℕ, zero, suc}
 use mathlib.Core.Path.{_≡_, refl}
 use mathlib.Core.Logic.{_≢_}
-use mathlib.Core.Bool.{Bool, true, false, not, _&&_, true≢false, cond as if}
-use mathlib.Core.List.{List, _∷_}
+use mathlib.Core.Bool.{Bool, true, false, not, _&&_, true≢false, and-eq-true-iff, cond as if}
+use mathlib.Core.List.{List, [], _∷_, map}
 use native.Mathlib.Omega.{arith}
-use borrow.Author.Tests.{eqb-false}
-use lib.Dec.{eqb}
-use Rattle.rules.specs.Answer.{Cases, unknown, firstGiven, codeOf}
+use borrow.Author.Tests.{eqb-false, ltb-true}
+use lib.Dec.{eqb, ltb}
+use lib.ListN.{getD}
+use Rattle.basics.specs.Lists.{allOf}
+use Rattle.rules.specs.Answer.{Cases, unknown, order, firstGiven, codeOf}
 
 pub record Accepted (c : Cases) : Type 0 where
   pub at1 : c 1 ≡ false
@@ -21,29 +23,24 @@ pub record Accepted (c : Cases) : Type 0 where
   pub at8 : c 8 ≡ false
   pub at9 : c 9 ≡ false
 
--- where no code is given the first case does not hold, and none is given further on
-first-fails : (k : ℕ) (ks : List ℕ) (c : Cases) → firstGiven (suc k ∷ ks) c ≡ 0 → (c (suc k) ≡ false) × (firstGiven ks c ≡ 0)
-unfolding firstGiven
-first-fails k ks c z = go (c (suc k)) z
+-- where no code of these is given, none of their cases holds: none is code 0
+none-given : (ks : List ℕ) (c : Cases) → allOf (ltb 0) ks ≡ true → firstGiven ks c ≡ 0 → (i : ℕ) → getD (map c ks) i false ≡ false
+unfolding firstGiven allOf
+none-given [] c some z i = refl
+none-given (k ∷ ks) c some z i = go (c k) (none-given ks c (and-eq-true-iff (ltb 0 k) _ .0 some .1)) z i
   where
-    go : (b : Bool) → if b (suc k) (firstGiven ks c) ≡ 0 → (b ≡ false) × (firstGiven ks c ≡ 0)
-    go true z = absurd (omega arith)
-    go false z = (refl, z)
+    go : (b : Bool) → (firstGiven ks c ≡ 0 → (i : ℕ) → getD (map c ks) i false ≡ false)
+        → if b k (firstGiven ks c) ≡ 0 → (i : ℕ) → getD (b ∷ map c ks) i false ≡ false
+    go true later z i = absurd (omega (arith, ltb-true 0 k (and-eq-true-iff (ltb 0 k) _ .0 some .0)))
+    go false later z zero = refl
+    go false later z (suc i) = later z i
 
+-- by the places of the codes in their order
 pub accepted-is : (c : Cases) → codeOf c ≡ 0 → Accepted c
+unfolding allOf
 accepted-is c z =
-    let (n10, z10) = first-fails 9 _ c z in
-    let (n1, z1) = first-fails 0 _ c z10 in
-    let (n2, z2) = first-fails 1 _ c z1 in
-    let (n3, z3) = first-fails 2 _ c z2 in
-    let (n11, z11) = first-fails 10 _ c z3 in
-    let (n4, z4) = first-fails 3 _ c z11 in
-    let (n5, z5) = first-fails 4 _ c z4 in
-    let (n6, z6) = first-fails 5 _ c z5 in
-    let (n7, z7) = first-fails 6 _ c z6 in
-    let (n8, z8) = first-fails 7 _ c z7 in
-    let (n9, z9) = first-fails 8 _ c z8 in
-    record { at1 = n1; at2 = n2; at3 = n3; at11 = n11; at4 = n4; at5 = n5; at6 = n6; at7 = n7; at8 = n8; at9 = n9 }
+    let no = none-given order c refl z in
+    record { at1 = no 1; at2 = no 2; at3 = no 3; at11 = no 4; at4 = no 5; at5 = no 6; at6 = no 7; at7 = no 8; at8 = no 9; at9 = no 10 }
 
 -- an object number that is neither outside its table nor of an object not in use
 object-used : (u b : Bool) → (u && not b) ≡ false → (u && b) ≡ false → u ≡ false

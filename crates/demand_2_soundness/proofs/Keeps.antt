@@ -8,7 +8,8 @@ use Rattle.rules.specs.Answer.{Effect, CallRule, codeOf, answered, refused, ask
 use Rattle.rules.specs.Tables.{Typed}
 use Rattle.rules.specs.Dispatch.{context, dispatched}
 use Rattle.rules.specs.Sound.{Sound}
-use Rattle.rules.specs.Step.{withQueued, withPosts, withSemaphores, withEvents, withMailboxes, withClocks, withHeap, withTicked, withDispatched, over, inRange, callOf, finished, step}
+use Rattle.rules.specs.Step.{withQueued, withPosts, withSemaphores, withEvents, withMailboxes, withClocks, withHeap, withTicked, withDispatched, over}
+use Rattle.rules.specs.Step.{inRange, callOf, finished, step}
 use Rattle.rules.specs.declared.Tables.{Tables}
 use Rattle.rules_laws.proofs.Calls.{chosen}
 use Rattle.rules_laws.proofs.Effects.{effect-code}

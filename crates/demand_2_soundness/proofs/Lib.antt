@@ -1,4 +1,6 @@
+-- What a call keeps, from what a row says to each kind of call; last, that every call keeps sound tables sound.
 pub mod Groups
+pub mod OneRow
 pub mod Codes
 pub mod Stored
 pub mod Members

@@ -12,10 +12,10 @@ use borrow.Author.Tests.{lt-ltb, eq-eqb, ne-eqb}
 use Rattle.basics.specs.Lists.{bit, count, without, putAt}
 use Rattle.basics.specs.Rule.{Means}
 use Rattle.basics.proofs.Laws.{same?, count-putAt, count-without, count-without-other, length-without, without-absent, room}
-use Rattle.rules.specs.Tables.{Typed, taskCount, atSemaphore, atEvent, reading, writing, task, withTask, semaphore, event, mailbox, USED, COUNT, BITS, CAPACITY, MESSAGES, levels}
-use Rattle.rules.specs.Tables.{taskWidth}
-use Rattle.rules.specs.Lines.{lineCount, lineMost, semaphoreLine, eventLine, mailboxLine, postedLine, activeLine, line, homeOf, taskHome, outOf, entered, TaskQueues, taskQueues, moved}
-use Rattle.rules.specs.Lines.{lineWidth}
+use Rattle.rules.specs.Tables.{Typed, taskCount, atSemaphore, atEvent, reading, writing, task, withTask, semaphore, event, mailbox, USED, COUNT, BITS}
+use Rattle.rules.specs.Tables.{CAPACITY, MESSAGES, levels, taskWidth}
+use Rattle.rules.specs.Lines.{lineCount, lineMost, semaphoreLine, eventLine, mailboxLine, postedLine, activeLine, line, homeOf, taskHome, outOf, entered}
+use Rattle.rules.specs.Lines.{TaskQueues, taskQueues, moved, lineWidth}
 use Rattle.rules.specs.Events.{matched}
 use Rattle.rules.specs.Sound.{taskRule, tasksRule, linesRule, semaphoresRule, eventsRule, mailboxesRule}
 use Rattle.rules.specs.Step.{withQueued}
@@ -24,10 +24,12 @@ use Rattle.rules.specs.declared.Task.{Task}
 use Rattle.rules_laws.proofs.Lines.{left-same, left-other, length-left, entered-same, entered-other, length-entered}
 use Rattle.demand_2_soundness.proofs.Groups.{OfTasks, SwisStay, Standing, Almost}
 use Rattle.demand_2_soundness.proofs.Members.{bit-le, bit-same, bit-other, bit-eq, putAt-none, without-one}
-use Rattle.demand_2_soundness.proofs.TaskRows.{length-withTask, task-same, task-other, tasks-withTask, home-out, row-stands, semaphore-row, event-row, mailbox-row}
+use Rattle.demand_2_soundness.proofs.TaskRows.{length-withTask, task-same, task-other, tasks-withTask, home-out, row-stands, semaphore-row}
+use Rattle.demand_2_soundness.proofs.TaskRows.{event-row, mailbox-row}
 use Rattle.demand_2_soundness.proofs.Aside.{stands-aside, moved-aside}
 use Rattle.demand_2_soundness.proofs.Stored.{left-lines, entered-lines}
-use Rattle.demand_2_soundness.proofs.ObjectRules.{semaphore-fewer, semaphore-more, event-one, event-fewer, event-more, mailbox-waits, mailbox-kept, swi-kept, active-kept}
+use Rattle.demand_2_soundness.proofs.ObjectRules.{semaphore-fewer, semaphore-more, event-one, event-fewer, event-more, mailbox-waits, mailbox-kept}
+use Rattle.demand_2_soundness.proofs.ObjectRules.{swi-kept, active-kept}
 use Rattle.demand_2_soundness.proofs.Standing.{of-tasks}
 
 -- the object at which the row k waits lets task i in: "A semaphore with waiters has count 0"; "the one waiter of an event", not satisfied by
@@ -268,7 +270,8 @@ module _ (t : Tables) (a : Almost t) (place : List ℕ → ℕ) (i : ℕ) (k : T
         }
 
 -- ---- a task's row changes, and its line does not: of a task in a line the mode and what it holds stay
-module _ (t : Tables) (a : Almost t) (i : ℕ) (k : Task) (lt : i < taskCount) (row : Means (taskRule (levels (t .state)) i k)) (home : homeOf k ≡ taskHome (t .tasks) i)
+module _ (t : Tables) (a : Almost t) (i : ℕ) (k : Task) (lt : i < taskCount) (row : Means (taskRule (levels (t .state)) i k))
+    (home : homeOf k ≡ taskHome (t .tasks) i)
     (holds : homeOf k < lineCount
     → (k .mode ≡ task (t .tasks) i .mode) × (k .held ≡ task (t .tasks) i .held) × (k .mask ≡ task (t .tasks) i .mask)) where
   abbrev us : List ℕ

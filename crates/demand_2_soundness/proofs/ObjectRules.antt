@@ -9,7 +9,8 @@ use lib.ListN.{length}
 use Rattle.basics.specs.Lists.{count}
 use Rattle.basics.specs.Rule.{Rule, Means, _is_, _and_, _gives_}
 use Rattle.basics.proofs.Laws.{count-first}
-use Rattle.rules.specs.Tables.{reading, writing, task, semaphore, event, mailbox, swi, USED, COUNT, BITS, CAPACITY, MESSAGES, PRIORITY, INITIAL, TRIGGER, POSTED, TAKEN}
+use Rattle.rules.specs.Tables.{reading, writing, task, semaphore, event, mailbox, swi, USED, COUNT, BITS, CAPACITY, MESSAGES, PRIORITY, INITIAL, TRIGGER}
+use Rattle.rules.specs.Tables.{POSTED, TAKEN}
 use Rattle.rules.specs.Lines.{semaphoreLine, eventLine, mailboxLine, activeLine, line, frontOf}
 use Rattle.rules.specs.Events.{matched}
 use Rattle.rules.specs.Sound.{semaphoreRule, eventRule, mailboxRule, swiRule, activeRule}

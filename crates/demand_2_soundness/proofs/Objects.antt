@@ -2,7 +2,7 @@
 -- tables after a change of one object.
 use Prim.Native.Nat.{ℕ, _<_}
 use mathlib.Core.Path.{_≡_, refl, _∙_}
-use mathlib.Core.Logic.{_≢_, inl, inr, ⊎-elim}
+use mathlib.Core.Logic.{_≢_, inl, inr}
 use mathlib.Core.Bool.{Bool, true, false, _&&_, true≢false, false≢true, and-true}
 use mathlib.Core.List.{List}
 use native.Mathlib.Omega.{arith}
@@ -11,8 +11,7 @@ use lib.Dec.{eqb}
 use lib.ListN.{length, getD}
 use Rattle.basics.specs.Lists.{without}
 use Rattle.basics.specs.Find.{firstBelow}
-use Rattle.basics.specs.Rule.{Rule, each, Means}
-use Rattle.basics.proofs.Laws.{same?}
+use Rattle.basics.specs.Rule.{Means}
 use Rattle.basics.proofs.Finds.{IsFirst, first-below-is}
 use Rattle.rules.specs.Answer.{T}
 use Rattle.rules.specs.Tables.{Typed, tables, taskCount, ready, terminated, task, current, levels}
@@ -61,11 +60,6 @@ free-is n f e =
     let r : IsFirst 0 n f (firstBelow n f) = first-below-is n f in
     let l : firstBelow n f < n = omega (arith, r .high, eqb-false (firstBelow n f) n e) in
     (l, r .has l)
-
--- a table's rule after a change of one row
-pub each-but : (n i : ℕ) (f g : ℕ → Rule) → ((k : ℕ) → k < n → k ≢ i → Means (f k) → Means (g k)) → Means (g i)
-    → Means (each n f) → Means (each n g)
-each-but n i f g others row all k h = ⊎-elim (λ (e : k ≡ i). rw e row) (λ (m : k ≢ i). others k h m (all k h)) (same? k i)
 
 -- ---- who waits in line j
 module _ (t : Tables) (a : Almost t) (j : ℕ) (ours : OfTasks j) (k : ℕ) (h : k < length (line (t .lines) j)) where

@@ -1,6 +1,6 @@
 -- Calls 30 to 33 keep what dispatch starts from.
 -- In this order: an event's rule by its words; one event changes; calls 30 create, 31 delete, 32 pend, 33 post; and all of them.
-use Prim.Native.Nat.{ℕ, _*_, _<_, _≤_}
+use Prim.Native.Nat.{ℕ, _<_}
 use mathlib.Core.Path.{_≡_, refl, ap}
 use mathlib.Core.Logic.{_≢_, _⊎_, inl, inr, ⊎-elim}
 use mathlib.Core.Bool.{false, _&&_}
@@ -9,7 +9,7 @@ use native.Mathlib.Omega.{arith}
 use borrow.Author.Tests.{eq-eqb, eqb-true, eqb-false, ltb-true, ltb-false, lt-ltb}
 use lib.Dec.{eqb}
 use lib.Bits.{bitOr}
-use lib.ListN.{length, getD}
+use lib.ListN.{length}
 use Rattle.basics.specs.Rule.{Rule, _is_, _isnt_, _under_, _and_, _gives_, Means}
 use Rattle.basics.proofs.Laws.{same?, no-length, length-without, count-first}
 use Rattle.rules.specs.Answer.{Effect, called, asked, Words}
@@ -20,17 +20,19 @@ use Rattle.rules.specs.Sound.{Sound, eventRule}
 use Rattle.rules.specs.Step.{withEvents, withQueued}
 use Rattle.rules.specs.Waits.{WaitTables, waitTables, idle, waiting, woken}
 use Rattle.rules.specs.Swis.{cleared}
-use Rattle.rules.specs.Events.{freeEvent, matched, pendWaits, waiterMatch, postedBits, eventCall, createCases, createEffect, deleteCases, deleteEffect, pendCases, pendEffect, postCases, postEffect}
+use Rattle.rules.specs.Events.{freeEvent, matched, pendWaits, waiterMatch, postedBits, eventCall, createCases, createEffect, deleteCases, deleteEffect}
+use Rattle.rules.specs.Events.{pendCases, pendEffect, postCases, postEffect}
 use Rattle.rules.specs.declared.Tables.{Tables}
-use Rattle.rules_laws.proofs.Rows.{length-withRow, row-same, row-other, length-withField, field-same, field-other, field-row, row-used}
+use Rattle.rules_laws.proofs.Rows.{row-used}
 use Rattle.rules_laws.proofs.Calls.{chosen}
 use Rattle.demand_2_soundness.proofs.Groups.{Settling, Keeps}
+use Rattle.demand_2_soundness.proofs.OneRow.{OfKind, ofKind, row-changes, word-changes}
 use Rattle.demand_2_soundness.proofs.Codes.{accepted-is, used-object}
 use Rattle.demand_2_soundness.proofs.Standing.{sound-almost}
 use Rattle.demand_2_soundness.proofs.Moves.{Welcome}
 use Rattle.demand_2_soundness.proofs.Waiting.{neither, current-row, current-used, at-event-row}
 use Rattle.demand_2_soundness.proofs.Chosen.{chosen-keeps, unknown-keeps, sound-settles}
-use Rattle.demand_2_soundness.proofs.Objects.{other-fails, match-waits, first-leaves, first-wakes, begins, free-is, each-but, objects-change}
+use Rattle.demand_2_soundness.proofs.Objects.{other-fails, match-waits, first-leaves, first-wakes, begins, free-is, objects-change}
 
 -- ---- the rule of one event, by its words, the number of its waiters and what the first of them matches
 abbrev eventBy : ℕ → ℕ → ℕ → ℕ → Rule
@@ -67,42 +69,26 @@ abbrev waiterOf : Tables → ℕ → ℕ
 waiterOf t a = frontOf (t .lines) (eventLine a)
 
 -- ---- one event changes
+abbrev eventsOf : (t : Tables) → Settling t → OfKind
+eventsOf t s =
+    ofKind eventWidth eventCount (t .events) (λ es. eventRule (t .tasks) es (t .lines)) (λ es. withEvents t (waitTables (t .tasks) (t .lines) es))
+    (s .almost .typed .events) (s .almost .events)
+    (λ es k h same m. row-rule (t .tasks) es (t .lines) k (same USED) (same BITS) (row-means (t .tasks) (t .events) (t .lines) k m))
+    (λ es whole all. objects-change t s (t .semaphores) es (t .mailboxes) refl whole refl (s .almost .semaphores) all (s .almost .mailboxes))
+
 module _ (t : Tables) (s : Settling t) (i : ℕ) (lt : i < eventCount) where
-  changes : (es : List ℕ) → length es ≡ length (t .events)
-      → ((k f : ℕ) → k ≢ i → event es k f ≡ event (t .events) k f)
-      → Means (eventRule (t .tasks) es (t .lines) i)
-      → Settling (withEvents t (waitTables (t .tasks) (t .lines) es))
-  changes es whole others row =
-      objects-change t s (t .semaphores) es (t .mailboxes) refl whole refl (s .almost .semaphores)
-      (each-but eventCount i (eventRule (t .tasks) (t .events) (t .lines)) (eventRule (t .tasks) es (t .lines))
-      (λ k h n m. row-rule (t .tasks) es (t .lines) k (others k USED n) (others k BITS n) (row-means (t .tasks) (t .events) (t .lines) k m))
-      row (s .almost .events))
-      (s .almost .mailboxes)
-
-  all : eventCount * eventWidth ≤ length (t .events)
-  all = omega (arith, s .almost .typed .events)
-
-  row-changes : (u b : ℕ) → Means (eventBy u b (waitersOf t i) (matchedAt (t .tasks) (t .lines) i b))
+  anew : (u b : ℕ) → Means (eventBy u b (waitersOf t i) (matchedAt (t .tasks) (t .lines) i b))
       → Settling (withEvents t (waitTables (t .tasks) (t .lines) (eventRow (t .events) i (u ∷ b ∷ []))))
-  row-changes u b h =
-      let ws : List ℕ = u ∷ b ∷ [] in
-      changes (eventRow (t .events) i ws) (length-withRow eventWidth eventCount (t .events) i ws)
-      (row-other eventWidth eventCount (t .events) i ws refl)
-      (row-rule (t .tasks) (eventRow (t .events) i ws) (t .lines) i (word 0 (omega arith)) (word 1 (omega arith)) h)
-    where
-      word : (f : ℕ) → f < eventWidth → event (eventRow (t .events) i (u ∷ b ∷ [])) i f ≡ getD (u ∷ b ∷ []) f 0
-      word = row-same eventWidth eventCount (t .events) i (u ∷ b ∷ []) all refl lt
+  anew u b h =
+      row-changes (eventsOf t s) i lt (u ∷ b ∷ []) (omega arith)
+      (λ word. row-rule (t .tasks) _ (t .lines) i (word USED (omega arith)) (word BITS (omega arith)) h)
 
   bits-change : (b : ℕ)
       → Means (eventBy (inUse t i) b (waitersOf t i) (matchedAt (t .tasks) (t .lines) i b))
       → Settling (withEvents t (waitTables (t .tasks) (t .lines) (withEvent (t .events) i BITS b)))
   bits-change b h =
-      let es : List ℕ = t .events in
-      changes (withEvent es i BITS b) (length-withField eventWidth eventCount es i BITS b)
-      (field-row eventWidth eventCount es i BITS b)
-      (row-rule (t .tasks) (withEvent es i BITS b) (t .lines) i
-      (field-other eventWidth eventCount es i BITS b USED (λ e. omega arith))
-      (field-same eventWidth eventCount es i BITS b all lt (omega arith)) h)
+      word-changes (eventsOf t s) i lt BITS b (omega arith)
+      (λ bits others. row-rule (t .tasks) _ (t .lines) i (others USED (λ e. omega arith)) bits h)
 
 -- ---- the calls
 abbrev here : Tables → WaitTables
@@ -125,7 +111,7 @@ module _ (t : Tables) (typed : Typed t) (s : Sound t) where
       let (lt, free) = free-is eventCount (λ i. eqb (inUse t i) 0) (ok .at6) in
       let i : ℕ = freeEvent (t .events) in
       let (bits, none) = row-of i lt .1 .0 (eqb-true (inUse t i) 0 free) in
-      row-changes t (sound-settles t typed s) i lt 1 0 (omega arith, (λ e. absurd (omega arith), (omega arith, λ w. absurd (w none))))
+      anew t (sound-settles t typed s) i lt 1 0 (omega arith, (λ e. absurd (omega arith), (omega arith, λ w. absurd (w none))))
 
   delete : (x a b c d : ℕ) → Keeps (withEvents t) (called (deleteCases (t .lines) (t .events) x a b c d) (deleteEffect (here t) a))
   unfolding deleteCases deleteEffect
@@ -133,7 +119,7 @@ module _ (t : Tables) (typed : Typed t) (s : Sound t) where
       let ok = accepted-is (deleteCases (t .lines) (t .events) x a b c d) z in
       let lt : a < eventCount = row-used eventWidth eventCount (t .events) a USED (used-object _ _ (ok .at3) (ok .at11)) in
       let none : waitersOf t a ≡ 0 = omega (arith, ltb-false 0 (waitersOf t a) (ok .at5)) in
-      row-changes t (sound-settles t typed s) a lt 0 0 (omega arith, (λ e. (refl, none), (omega arith, λ w. absurd (w none))))
+      anew t (sound-settles t typed s) a lt 0 0 (omega arith, (λ e. (refl, none), (omega arith, λ w. absurd (w none))))
 
   -- "the one waiter of an event", not satisfied by its posted bits
   welcome : (a limit x y : ℕ) → inUse t a ≢ 0 → waitersOf t a ≡ 0 → matched (bitsOf t a) x y ≡ 0

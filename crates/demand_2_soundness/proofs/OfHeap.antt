@@ -20,7 +20,8 @@ use Rattle.rules.specs.Answer.{called, asked, Words}
 use Rattle.rules.specs.Dispatch.{context}
 use Rattle.rules.specs.Sound.{Sound, heapRule}
 use Rattle.rules.specs.Step.{withHeap}
-use Rattle.rules.specs.Heap.{unit, withUnits, unitsOf, isRun, lowestRun, blockSize, isBlock, firstOf, laterIn, takeCases, takeEffect, giveCases, giveEffect, heapCall}
+use Rattle.rules.specs.Heap.{unit, withUnits, unitsOf, isRun, lowestRun, blockSize, isBlock, firstOf, laterIn, takeCases, takeEffect, giveCases}
+use Rattle.rules.specs.Heap.{giveEffect, heapCall}
 use Rattle.rules.specs.declared.Tables.{Tables}
 use Rattle.rules_laws.proofs.Listed.{zero-at}
 use Rattle.rules_laws.proofs.Calls.{chosen}

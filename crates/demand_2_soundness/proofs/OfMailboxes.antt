@@ -8,31 +8,34 @@ use mathlib.Core.List.{List, [], _∷_, _++_}
 use native.Mathlib.Omega.{arith}
 use borrow.Author.Tests.{eq-eqb, eqb-true, eqb-false, ltb-true, ltb-false, leb-true, leb-false, lt-ltb, not-false}
 use lib.Dec.{eqb, leb}
-use lib.ListN.{length, drop, getD, length-append, length-drop}
+use lib.ListN.{length, drop, length-append, length-drop}
 use Rattle.basics.specs.Lists.{zeros}
 use Rattle.basics.specs.Rule.{Means}
 use Rattle.rules.specs.Answer.{Effect, called, unused, asked, Words}
-use Rattle.rules.specs.Tables.{Typed, wordEnd, task, current, reading, writing, mailboxCount, mailboxMost, mailbox, mailboxRow, messages, withMessages, CAPACITY, MESSAGES}
-use Rattle.rules.specs.Tables.{mailboxWidth}
+use Rattle.rules.specs.Tables.{Typed, wordEnd, task, current, reading, writing, mailboxCount, mailboxMost, mailbox, mailboxRow, messages, withMessages}
+use Rattle.rules.specs.Tables.{CAPACITY, MESSAGES, mailboxWidth}
 use Rattle.rules.specs.Lines.{TaskQueues, taskQueues, line, mailboxLine, anyone, frontOf, postedLine}
 use Rattle.rules.specs.Dispatch.{context}
 use Rattle.rules.specs.Sound.{Sound, mailboxRule}
 use Rattle.rules.specs.Step.{withMailboxes, withQueued}
 use Rattle.rules.specs.Waits.{WaitTables, waitTables, waiting, woken}
-use Rattle.rules.specs.Mailboxes.{freeMailbox, waitsFirst, isFull, postWaits, pendWaits, oldestTaken, mailboxCall, createCases, createEffect, deleteCases, deleteEffect, pendCases, pendEffect, postCases, postEffect}
+use Rattle.rules.specs.Mailboxes.{freeMailbox, waitsFirst, isFull, postWaits, pendWaits, oldestTaken, mailboxCall, createCases, createEffect, deleteCases}
+use Rattle.rules.specs.Mailboxes.{deleteEffect, pendCases, pendEffect, postCases, postEffect}
 use Rattle.rules.specs.declared.Tables.{Tables}
-use Rattle.rules_laws.proofs.Rows.{by-range, length-withRow, row-same, row-other, row-used}
+use Rattle.rules_laws.proofs.Rows.{by-range, row-used}
 use Rattle.rules_laws.proofs.Listed.{zero-at}
 use Rattle.rules_laws.proofs.Calls.{chosen}
 use Rattle.demand_2_soundness.proofs.Groups.{Settling, Keeps}
+use Rattle.demand_2_soundness.proofs.OneRow.{OfKind, ofKind, object-changes, row-changes}
 use Rattle.demand_2_soundness.proofs.Codes.{accepted-is, used-object}
 use Rattle.demand_2_soundness.proofs.TaskRows.{task-stands, mailbox-row}
 use Rattle.demand_2_soundness.proofs.Standing.{sound-almost}
 use Rattle.demand_2_soundness.proofs.Moves.{Welcome}
 use Rattle.demand_2_soundness.proofs.Waiting.{neither, current-row, current-used, reading-row, writing-row}
 use Rattle.demand_2_soundness.proofs.Chosen.{chosen-keeps, unknown-keeps, sound-settles}
-use Rattle.demand_2_soundness.proofs.Objects.{first-waits, member-home, first-wakes, begins, free-is, each-but, objects-change}
-use Rattle.demand_2_soundness.proofs.MailboxRows.{waitersRule, Row, row-parts, row-rule, row-same-words, length-stored, stored-other, stored-row, held-is}
+use Rattle.demand_2_soundness.proofs.Objects.{first-waits, member-home, first-wakes, begins, free-is, objects-change}
+use Rattle.demand_2_soundness.proofs.MailboxRows.{waitersRule, Row, row-parts, row-rule, row-same-words, length-stored, stored-other, stored-row}
+use Rattle.demand_2_soundness.proofs.MailboxRows.{held-is}
 
 -- ---- mailbox a: its capacity, its number of messages, those who wait, and the first of them
 abbrev capacity : Tables → ℕ → ℕ
@@ -48,36 +51,30 @@ abbrev front : Tables → ℕ → ℕ
 front t a = frontOf (t .lines) (mailboxLine a)
 
 -- ---- one mailbox changes
-module _ (t : Tables) (s : Settling t) (i : ℕ) (lt : i < mailboxCount) where
-  changes : (ms : List ℕ) → length ms ≡ length (t .mailboxes)
-      → ((k f : ℕ) → k ≢ i → mailbox ms k f ≡ mailbox (t .mailboxes) k f)
-      → Row (t .tasks) (t .lines) ms i
-      → Settling (withMailboxes t (waitTables (t .tasks) (t .lines) ms))
-  changes ms whole others row =
-      objects-change t s (t .semaphores) (t .events) ms refl refl whole (s .almost .semaphores) (s .almost .events)
-      (each-but mailboxCount i (mailboxRule (t .tasks) (t .mailboxes) (t .lines)) (mailboxRule (t .tasks) ms (t .lines))
-      (λ k h n m.
-      row-rule ms k h (t .tasks) (t .lines)
-      (row-same-words (t .tasks) (t .lines) (t .mailboxes) ms k (λ f. others k f n) (row-parts (t .mailboxes) k h (t .tasks) (t .lines) m)))
-      (row-rule ms i lt (t .tasks) (t .lines) row) (s .almost .mailboxes))
+abbrev mailboxesOf : (t : Tables) → Settling t → OfKind
+mailboxesOf t s =
+    ofKind mailboxWidth mailboxCount (t .mailboxes) (λ ms. mailboxRule (t .tasks) ms (t .lines)) (λ ms. withMailboxes t (waitTables (t .tasks) (t .lines) ms))
+    (s .almost .typed .mailboxes) (s .almost .mailboxes)
+    (λ ms k h same m.
+    row-rule ms k h (t .tasks) (t .lines)
+    (row-same-words (t .tasks) (t .lines) (t .mailboxes) ms k same (row-parts (t .mailboxes) k h (t .tasks) (t .lines) m)))
+    (λ ms whole all. objects-change t s (t .semaphores) (t .events) ms refl refl whole (s .almost .semaphores) (s .almost .events) all)
 
+module _ (t : Tables) (s : Settling t) (i : ℕ) (lt : i < mailboxCount) where
   -- made anew where nobody waits, with no messages
-  row-changes : (c : ℕ) → c < suc mailboxMost → length (waiters t i) ≡ 0
+  anew : (c : ℕ) → c < suc mailboxMost → length (waiters t i) ≡ 0
       → Settling (withMailboxes t (waitTables (t .tasks) (t .lines) (mailboxRow (t .mailboxes) i (c ∷ zeros (mailboxWidth - 1)))))
-  row-changes c small none =
-      let ms : List ℕ = mailboxRow (t .mailboxes) i (c ∷ zeros (mailboxWidth - 1)) in
-      changes ms (length-withRow mailboxWidth mailboxCount (t .mailboxes) i (c ∷ zeros (mailboxWidth - 1)))
-      (row-other mailboxWidth mailboxCount (t .mailboxes) i (c ∷ zeros (mailboxWidth - 1)) refl)
+  anew c small none =
+      row-changes (mailboxesOf t s) i lt (c ∷ zeros (mailboxWidth - 1)) (omega arith)
+      (λ word.
+      row-rule _ i lt (t .tasks) (t .lines)
       (record {
-        range = rw (word 0 (omega arith)) small;
-        held = omega (arith, word 1 (omega arith));
+        range = rw (word CAPACITY (omega arith)) small;
+        held = omega (arith, word MESSAGES (omega arith));
         behind = λ k low high. word (suc (suc k)) (omega arith) ∙ zero-at (mailboxWidth - 1) (suc k);
         free = λ e. none;
         waiters = λ k h. absurd (omega arith);
-      })
-    where
-      word : (f : ℕ) → f < mailboxWidth → mailbox (mailboxRow (t .mailboxes) i (c ∷ zeros (mailboxWidth - 1))) i f ≡ getD (c ∷ zeros (mailboxWidth - 1)) f 0
-      word = row-same mailboxWidth mailboxCount (t .mailboxes) i (c ∷ zeros (mailboxWidth - 1)) (omega (arith, s .almost .typed .mailboxes)) refl lt
+      }))
 
   -- its messages become xs
   messages-change : (xs : List ℕ) → length xs ≤ capacity t i
@@ -86,9 +83,10 @@ module _ (t : Tables) (s : Settling t) (i : ℕ) (lt : i < mailboxCount) where
   messages-change xs room waits =
       let r : Row (t .tasks) (t .lines) (t .mailboxes) i = row-parts (t .mailboxes) i lt (t .tasks) (t .lines) (s .almost .mailboxes i lt) in
       let short : length xs ≤ mailboxMost = omega (arith, r .range) in
-      changes (withMessages (t .mailboxes) i xs) (length-stored (t .mailboxes) i lt xs short)
+      object-changes (mailboxesOf t s) i lt (withMessages (t .mailboxes) i xs) (length-stored (t .mailboxes) i lt xs short)
       (stored-other (t .mailboxes) i lt xs short)
-      (stored-row (t .mailboxes) i lt xs short (s .almost .typed .mailboxes) (t .tasks) (t .lines) r room waits)
+      (row-rule _ i lt (t .tasks) (t .lines)
+      (stored-row (t .mailboxes) i lt xs short (s .almost .typed .mailboxes) (t .tasks) (t .lines) r room waits))
 
 -- ---- the calls
 abbrev here : Tables → WaitTables
@@ -110,7 +108,7 @@ module _ (t : Tables) (typed : Typed t) (s : Sound t) where
       let (bad, rest) = neither (eqb a 0 || not (leb a mailboxMost)) (unused 0 b c d) (ok .at4) in
       let (low, high) = neither (eqb a 0) (not (leb a mailboxMost)) bad in
       let i : ℕ = freeMailbox (t .mailboxes) in
-      row-changes t (sound-settles t typed s) i lt a (omega (arith, leb-true a mailboxMost (not-false (leb a mailboxMost) high)))
+      anew t (sound-settles t typed s) i lt a (omega (arith, leb-true a mailboxMost (not-false (leb a mailboxMost) high)))
       (row-of i lt .free (eqb-true (capacity t i) 0 free))
 
   delete : (x a b c d : ℕ) → Keeps (withMailboxes t) (called (deleteCases (t .lines) (t .mailboxes) x a b c d) (deleteEffect (here t) a))
@@ -119,7 +117,7 @@ module _ (t : Tables) (typed : Typed t) (s : Sound t) where
       let ok = accepted-is (deleteCases (t .lines) (t .mailboxes) x a b c d) z in
       let lt : a < mailboxCount = row-used mailboxWidth mailboxCount (t .mailboxes) a CAPACITY (used-object _ _ (ok .at3) (ok .at11)) in
       let (nobody, rest) = neither (anyone (t .lines) (mailboxLine a)) (not (eqb (number t a) 0)) (ok .at5) in
-      row-changes t (sound-settles t typed s) a lt 0 (omega arith) (omega (arith, ltb-false 0 (length (waiters t a)) nobody))
+      anew t (sound-settles t typed s) a lt 0 (omega arith) (omega (arith, ltb-false 0 (length (waiters t a)) nobody))
 
   -- ---- who waits at a mailbox: the first, and so a reader at an empty one or a writer at a full one
   first-in : (a mode : ℕ) → 0 < length (waiters t a) → task (t .tasks) (front t a) .mode ≡ mode

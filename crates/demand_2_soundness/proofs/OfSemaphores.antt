@@ -1,6 +1,6 @@
 -- Calls 20 to 24 keep what dispatch starts from.
 -- In this order: a semaphore's rule by its words; one semaphore changes; calls 20 to 24, one after the other; and all of them.
-use Prim.Native.Nat.{ℕ, suc, _+_, _-_, _*_, _<_, _≤_}
+use Prim.Native.Nat.{ℕ, suc, _+_, _-_, _<_, _≤_}
 use mathlib.Core.Path.{_≡_, refl}
 use mathlib.Core.Logic.{_≢_}
 use mathlib.Core.Bool.{not, _||_}
@@ -8,26 +8,28 @@ use mathlib.Core.List.{List, [], _∷_}
 use native.Mathlib.Omega.{arith}
 use borrow.Author.Tests.{eq-eqb, eqb-true, eqb-false, ltb-true, ltb-false, leb-true, not-false}
 use lib.Dec.{eqb, ltb, leb}
-use lib.ListN.{length, getD}
+use lib.ListN.{length}
 use Rattle.basics.specs.Rule.{Rule, _is_, _isnt_, _under_, _and_, _gives_, Means}
 use Rattle.rules.specs.Answer.{Effect, called, unused, asked, Words}
-use Rattle.rules.specs.Tables.{Typed, wordEnd, task, current, atSemaphore, semaphoreCount, semaphoreWidth, semaphore, withSemaphore, semaphoreRow, USED, KIND, COUNT}
+use Rattle.rules.specs.Tables.{Typed, wordEnd, task, current, atSemaphore, semaphoreCount, semaphoreWidth, semaphore, withSemaphore, semaphoreRow, USED}
+use Rattle.rules.specs.Tables.{KIND, COUNT}
 use Rattle.rules.specs.Lines.{line, semaphoreLine}
 use Rattle.rules.specs.Dispatch.{context}
 use Rattle.rules.specs.Sound.{Sound, semaphoreRule}
 use Rattle.rules.specs.Step.{withSemaphores}
 use Rattle.rules.specs.Waits.{WaitTables, waitTables, waiting}
-use Rattle.rules.specs.Semaphores.{freeSemaphore, most, pendWaits, countUp, semaphoreCall, createCases, createEffect, deleteCases, deleteEffect, resetCases, resetEffect, pendCases, pendEffect, postCases, postEffect}
-use Rattle.rules.specs.Semaphores.{kindCount}
+use Rattle.rules.specs.Semaphores.{freeSemaphore, most, pendWaits, countUp, semaphoreCall, createCases, createEffect, deleteCases, deleteEffect}
+use Rattle.rules.specs.Semaphores.{resetCases, resetEffect, pendCases, pendEffect, postCases, postEffect, kindCount}
 use Rattle.rules.specs.declared.Tables.{Tables}
-use Rattle.rules_laws.proofs.Rows.{length-withRow, row-same, row-other, length-withField, field-same, field-other, field-row, row-used}
+use Rattle.rules_laws.proofs.Rows.{row-used}
 use Rattle.rules_laws.proofs.Calls.{chosen}
 use Rattle.demand_2_soundness.proofs.Groups.{Settling, Keeps}
+use Rattle.demand_2_soundness.proofs.OneRow.{OfKind, ofKind, row-changes, word-changes}
 use Rattle.demand_2_soundness.proofs.Codes.{accepted-is, used-object}
 use Rattle.demand_2_soundness.proofs.Moves.{Welcome}
 use Rattle.demand_2_soundness.proofs.Waiting.{neither, current-row, current-used, at-semaphore-row}
 use Rattle.demand_2_soundness.proofs.Chosen.{chosen-keeps, unknown-keeps, sound-settles}
-use Rattle.demand_2_soundness.proofs.Objects.{first-wakes, begins, free-is, each-but, objects-change}
+use Rattle.demand_2_soundness.proofs.Objects.{first-wakes, begins, free-is, objects-change}
 
 -- ---- the rule of one semaphore, by its words and the number of its waiters
 abbrev semaphoreBy : ℕ → ℕ → ℕ → ℕ → Rule
@@ -62,44 +64,26 @@ abbrev waitersOf : Tables → ℕ → ℕ
 waitersOf t a = length (line (t .lines) (semaphoreLine a))
 
 -- ---- one semaphore changes
+abbrev semaphoresOf : (t : Tables) → Settling t → OfKind
+semaphoresOf t s =
+    ofKind semaphoreWidth semaphoreCount (t .semaphores) (λ ss. semaphoreRule ss (t .lines)) (λ ss. withSemaphores t (waitTables (t .tasks) (t .lines) ss))
+    (s .almost .typed .semaphores) (s .almost .semaphores)
+    (λ ss k h same m. row-rule ss (t .lines) k (same USED) (same KIND) (same COUNT) (row-means (t .semaphores) (t .lines) k m))
+    (λ ss whole all. objects-change t s ss (t .events) (t .mailboxes) whole refl refl all (s .almost .events) (s .almost .mailboxes))
+
 module _ (t : Tables) (s : Settling t) (i : ℕ) (lt : i < semaphoreCount) where
-  changes : (ss : List ℕ) → length ss ≡ length (t .semaphores)
-      → ((k f : ℕ) → k ≢ i → semaphore ss k f ≡ semaphore (t .semaphores) k f)
-      → Means (semaphoreRule ss (t .lines) i)
-      → Settling (withSemaphores t (waitTables (t .tasks) (t .lines) ss))
-  changes ss whole others row =
-      objects-change t s ss (t .events) (t .mailboxes) whole refl refl
-      (each-but semaphoreCount i (semaphoreRule (t .semaphores) (t .lines)) (semaphoreRule ss (t .lines))
-      (λ k h n m. row-rule ss (t .lines) k (others k USED n) (others k KIND n) (others k COUNT n) (row-means (t .semaphores) (t .lines) k m))
-      row (s .almost .semaphores))
-      (s .almost .events)
-      (s .almost .mailboxes)
-
-  all : semaphoreCount * semaphoreWidth ≤ length (t .semaphores)
-  all = omega (arith, s .almost .typed .semaphores)
-
-  row-changes : (u k n : ℕ) → Means (semaphoreBy u k n (waitersOf t i))
+  anew : (u k n : ℕ) → Means (semaphoreBy u k n (waitersOf t i))
       → Settling (withSemaphores t (waitTables (t .tasks) (t .lines) (semaphoreRow (t .semaphores) i (u ∷ k ∷ n ∷ []))))
-  row-changes u k n h =
-      let ws : List ℕ = u ∷ k ∷ n ∷ [] in
-      changes (semaphoreRow (t .semaphores) i ws) (length-withRow semaphoreWidth semaphoreCount (t .semaphores) i ws)
-      (row-other semaphoreWidth semaphoreCount (t .semaphores) i ws refl)
-      (row-rule (semaphoreRow (t .semaphores) i ws) (t .lines) i (word 0 (omega arith)) (word 1 (omega arith)) (word 2 (omega arith)) h)
-    where
-      word : (f : ℕ) → f < semaphoreWidth → semaphore (semaphoreRow (t .semaphores) i (u ∷ k ∷ n ∷ [])) i f ≡ getD (u ∷ k ∷ n ∷ []) f 0
-      word = row-same semaphoreWidth semaphoreCount (t .semaphores) i (u ∷ k ∷ n ∷ []) all refl lt
+  anew u k n h =
+      row-changes (semaphoresOf t s) i lt (u ∷ k ∷ n ∷ []) (omega arith)
+      (λ word. row-rule _ (t .lines) i (word USED (omega arith)) (word KIND (omega arith)) (word COUNT (omega arith)) h)
 
   count-changes : (n : ℕ)
       → Means (semaphoreBy (inUse t i) (kindOf t i) n (waitersOf t i))
       → Settling (withSemaphores t (waitTables (t .tasks) (t .lines) (withSemaphore (t .semaphores) i COUNT n)))
   count-changes n h =
-      let ss : List ℕ = t .semaphores in
-      changes (withSemaphore ss i COUNT n) (length-withField semaphoreWidth semaphoreCount ss i COUNT n)
-      (field-row semaphoreWidth semaphoreCount ss i COUNT n)
-      (row-rule (withSemaphore ss i COUNT n) (t .lines) i
-      (field-other semaphoreWidth semaphoreCount ss i COUNT n USED (λ e. omega arith))
-      (field-other semaphoreWidth semaphoreCount ss i COUNT n KIND (λ e. omega arith))
-      (field-same semaphoreWidth semaphoreCount ss i COUNT n all lt (omega arith)) h)
+      word-changes (semaphoresOf t s) i lt COUNT n (omega arith)
+      (λ count others. row-rule _ (t .lines) i (others USED (λ e. omega arith)) (others KIND (λ e. omega arith)) count h)
 
 -- ---- the calls
 abbrev here : Tables → WaitTables
@@ -131,7 +115,7 @@ module _ (t : Tables) (typed : Typed t) (s : Sound t) where
       let n : b ≤ most a = leb-true b (most a) (not-false (leb b (most a)) number) in
       let i : ℕ = freeSemaphore (t .semaphores) in
       let (kind0, (count0, none)) = row-of i lt .1 .0 (eqb-true (inUse t i) 0 free) in
-      row-changes t (sound-settles t typed s) i lt 1 a b (omega arith, (λ e. absurd (omega arith), (k, (omega arith, λ w. absurd (w none)))))
+      anew t (sound-settles t typed s) i lt 1 a b (omega arith, (λ e. absurd (omega arith), (k, (omega arith, λ w. absurd (w none)))))
 
   delete : (x a b c d : ℕ) → Keeps (withSemaphores t) (called (deleteCases (t .lines) (t .semaphores) x a b c d) (deleteEffect (here t) a))
   unfolding deleteCases deleteEffect
@@ -139,7 +123,7 @@ module _ (t : Tables) (typed : Typed t) (s : Sound t) where
       let ok = accepted-is (deleteCases (t .lines) (t .semaphores) x a b c d) z in
       let lt : a < semaphoreCount = row-used semaphoreWidth semaphoreCount (t .semaphores) a USED (used-object _ _ (ok .at3) (ok .at11)) in
       let none : waitersOf t a ≡ 0 = omega (arith, ltb-false 0 (waitersOf t a) (ok .at5)) in
-      row-changes t (sound-settles t typed s) a lt 0 0 0
+      anew t (sound-settles t typed s) a lt 0 0 0
       (omega arith, (λ e. (refl, (refl, none)), (omega arith, (omega arith, λ w. refl))))
 
   reset : (x a b c d : ℕ) → Keeps (withSemaphores t) (called (resetCases (t .lines) (t .semaphores) x a b c d) (resetEffect (here t) a b))

@@ -14,14 +14,16 @@ use Rattle.basics.specs.Lists.{zeros, count, without}
 use Rattle.basics.specs.Rule.{Means}
 use Rattle.basics.proofs.Laws.{count-without-other}
 use Rattle.basics.proofs.Finds.{all-at}
-use Rattle.rules.specs.Tables.{Typed, swiCount, swiWidth, clockCount, swi, withSwi, swiRow, clock, state, USED, PRIORITY, INITIAL, TRIGGER, POSTED, TAKEN, DEPTH}
-use Rattle.rules.specs.Tables.{swiLevels}
+use Rattle.rules.specs.Tables.{Typed, swiCount, swiWidth, clockCount, swi, withSwi, swiRow, clock, state, USED, PRIORITY, INITIAL, TRIGGER, POSTED, TAKEN}
+use Rattle.rules.specs.Tables.{DEPTH, swiLevels}
 use Rattle.rules.specs.Lines.{anyone, line, outOf, postedLine, activeLine, swiHome}
 use Rattle.rules.specs.Answer.{T, S, I, CallRule, called, codeOf, asked, Words}
 use Rattle.rules.specs.Dispatch.{context}
 use Rattle.rules.specs.Sound.{Sound, swiRule, activeRule, clockRule}
 use Rattle.rules.specs.Step.{withPosts}
-use Rattle.rules.specs.Swis.{SwiQueues, swiQueues, top, isActive, isNamed, freeSwi, posted, triggered, oneUp, oneDown, cleared, createCases, createEffect, deleteCases, deleteEffect, postCases, maskCases, postEffect, changeEffect, zeroEffect, endCases, endEffect, takenCases, takenEffect, swiCall}
+use Rattle.rules.specs.Swis.{SwiQueues, swiQueues, top, isActive, isNamed, freeSwi, posted, triggered, oneUp, oneDown, cleared, createCases, createEffect}
+use Rattle.rules.specs.Swis.{deleteCases, deleteEffect, postCases, maskCases, postEffect, changeEffect, zeroEffect, endCases, endEffect, takenCases}
+use Rattle.rules.specs.Swis.{takenEffect, swiCall}
 use Rattle.rules.specs.declared.Tables.{Tables}
 use Rattle.rules_laws.proofs.Rows.{length-withRow, row-same, row-other}
 use Rattle.rules_laws.proofs.Lines.{length-left, left-same, left-other}
@@ -50,17 +52,18 @@ context-S ls st e = go (ltb 0 (state st DEPTH)) (anyone ls activeLine) refl e
     go false false d e = absurd (omega arith)
 
 -- ---- a whole row changes, of a Swi that is nowhere: not posted, before or after, not active, and named by no clock
-module _ (t : Tables) (a : Almost t) (i : ℕ) (r : List ℕ) (here : i < swiCount) (size : length r ≡ swiWidth)
+module _ (t : Tables) (a : Almost t) (i : ℕ) (r : List ℕ) (here : i < swiCount) (fits : length r ≤ swiWidth) (long : POSTED < length r)
     (un : swi (t .swis) i POSTED ≡ 0) (still-un : getD r POSTED 0 ≡ 0) (idle : count i (line (t .lines) activeLine) ≡ 0)
     (unnamed : (n : ℕ) → n < clockCount → clock (t .clocks) n .used ≡ 1 → clock (t .clocks) n .swi ≢ i)
-    (rule : Means (swiRule (swiRow (t .swis) i r) (t .lines) i)) where
+    (rule : ((f : ℕ) → f < length r → swi (swiRow (t .swis) i r) i f ≡ getD r f 0) → Means (swiRule (swiRow (t .swis) i r) (t .lines) i)) where
+  word : (f : ℕ) → f < length r → swi (swiRow (t .swis) i r) i f ≡ getD r f 0
+  word = row-same swiWidth swiCount (t .swis) i r (omega (arith, a .typed .swis)) fits here
+
   rows : (x f : ℕ) → x ≢ i → swi (swiRow (t .swis) i r) x f ≡ swi (t .swis) x f
-  rows x f n = row-other swiWidth swiCount (t .swis) i r size x f n
+  rows = row-other swiWidth swiCount (t .swis) i r fits
 
   home-stays : swiHome (swiRow (t .swis) i r) i ≡ swiHome (t .swis) i
-  home-stays =
-      let now = row-same swiWidth swiCount (t .swis) i r (omega (arith, a .typed .swis)) size here POSTED (omega arith) in
-      home-unposted (swiRow (t .swis) i r) i (now ∙ still-un) ∙ sym (home-unposted (t .swis) i un)
+  home-stays = home-unposted (swiRow (t .swis) i r) i (word POSTED long ∙ still-un) ∙ sym (home-unposted (t .swis) i un)
 
   active-other : (x : ℕ) → 0 < count x (line (t .lines) activeLine) → x ≢ i
   active-other x h e = omega (arith, ap (λ (y : ℕ). count y (line (t .lines) activeLine)) e)
@@ -79,7 +82,7 @@ module _ (t : Tables) (a : Almost t) (i : ℕ) (r : List ℕ) (here : i < swiCou
         actives = λ x n. refl;
         named = λ n h e. rows (clock (t .clocks) n .swi) USED (unnamed n h e) ∙ a .clocks n h .1 .1 e .0;
         stands = λ q h. rw home-stays (a .standing .swis i q h);
-        rule = rule;
+        rule = rule word;
         active =
             active-kept (t .swis) (swiRow (t .swis) i r) (t .lines) (t .lines) refl
             (λ x h. (rows x USED (active-other x h), rows x PRIORITY (active-other x h)))
@@ -178,16 +181,15 @@ module _ (t : Tables) (typed : Typed t) (s : Sound t) where
       let (here, e) = free-is swiCount (λ i. eqb (swi (t .swis) i USED) 0) (ok .at6) in
       let free : swi (t .swis) i USED ≡ 0 = eqb-true _ _ e in
       let low : a < swiLevels = ltb-true a swiLevels (not-false _ (neither (not (ltb a swiLevels)) _ (ok .at4) .0)) in
-      let at : (f : ℕ) → f < swiWidth → swi (swiRow (t .swis) i r) i f ≡ getD r f 0 =
-      row-same swiWidth swiCount (t .swis) i r (omega (arith, typed .swis)) refl here in
       let none : 0 < count i (line (t .lines) activeLine) → ⊥ =
       λ h. omega (arith, free, active-used (t .swis) (t .lines) (s .swis) (s .active) i h) in
       settles (swiQueues (swiRow (t .swis) i r) (t .lines))
-      (idle-row-keeps t a0 i r here refl (s .swis i here .1 .0 free .1 .1 .1) refl (omega arith)
+      (idle-row-keeps t a0 i r here (omega arith) (omega arith) (s .swis i here .1 .0 free .1 .1 .1) refl (omega arith)
       (λ n h e d. omega (arith, free, rw d at (s .clocks n h .1 .1 e .0)))
-      (rule-used (swiRow (t .swis) i r) (t .lines) i (at USED (omega arith)) (rw (at PRIORITY (omega arith)) low)
-      (omega (arith, at POSTED (omega arith)))
-      (λ z. at TAKEN (omega arith))))
+      (λ word.
+      rule-used (swiRow (t .swis) i r) (t .lines) i (word USED (omega arith)) (rw (word PRIORITY (omega arith)) low)
+      (omega (arith, word POSTED (omega arith)))
+      (λ z. word TAKEN (omega arith))))
 
   -- "11 delete: 5 if posted, active or named by a clock."
   not-named : (a n : ℕ) → n < clockCount → isNamed (t .clocks) a ≡ false → clock (t .clocks) n .used ≡ 1 → clock (t .clocks) n .swi ≢ a
@@ -207,15 +209,14 @@ module _ (t : Tables) (typed : Typed t) (s : Sound t) where
       let (quiet, unnamed) = neither (not (eqb (swi (t .swis) a POSTED) 0) || isActive (t .lines) a) _ (ok .at5) in
       let (un, idle) = neither (not (eqb (swi (t .swis) a POSTED) 0)) _ quiet in
       let none : count a (line (t .lines) activeLine) ≤ 0 = ltb-false 0 _ idle in
-      let at : (f : ℕ) → f < swiWidth → swi (swiRow (t .swis) a r) a f ≡ getD r f 0 =
-      row-same swiWidth swiCount (t .swis) a r (omega (arith, typed .swis)) refl here in
-      let u = at USED (omega arith) in
-      let p = at PRIORITY (omega arith) in
-      let o = at POSTED (omega arith) in
       settles (swiQueues (swiRow (t .swis) a r) (t .lines))
-      (idle-row-keeps t a0 a r here refl (eqb-true _ _ (not-false _ un)) refl (omega arith)
+      (idle-row-keeps t a0 a r here (omega arith) (omega arith) (eqb-true _ _ (not-false _ un)) refl (omega arith)
       (λ n h e. not-named a n h unnamed e)
-      (omega arith, (λ e. (p, (at INITIAL (omega arith), (at TRIGGER (omega arith), o))), (omega arith, (omega arith, λ e. at TAKEN (omega arith))))))
+      (λ word.
+      let u = word USED (omega arith) in
+      let p = word PRIORITY (omega arith) in
+      let o = word POSTED (omega arith) in
+      (omega arith, (λ e. (p, (word INITIAL (omega arith), (word TRIGGER (omega arith), o))), (omega arith, (omega arith, λ e. word TAKEN (omega arith)))))))
 
   -- "12 post" to "16": a Swi in use
   changed : (a : ℕ) → swi (t .swis) a USED ≢ 0 → (v : ℕ) → Almost (withPosts t (posted a (triggered a v (swiQueues (t .swis) (t .lines)))))

@@ -15,7 +15,8 @@ use Rattle.rules.specs.Tables.{StateRow, Typed, wordEnd, tables, state, withSta
 use Rattle.rules.specs.Dispatch.{context}
 use Rattle.rules.specs.Sound.{Sound}
 use Rattle.rules.specs.Step.{withTicked}
-use Rattle.rules.specs.Switches.{swisBit, tasksBit, has, on, off, turned, offEffect, restoreEffect, inEffect, interruptCases, outEffect, offCall, restoreCall, inCall, outCall}
+use Rattle.rules.specs.Switches.{swisBit, tasksBit, has, on, off, turned, offEffect, restoreEffect, inEffect, interruptCases, outEffect, offCall}
+use Rattle.rules.specs.Switches.{restoreCall, inCall, outCall}
 use Rattle.rules.specs.Tick.{TickTables, tickTables, clocksTicked, ticked, onState, switchCall}
 use Rattle.rules.specs.declared.Tables.{Tables}
 use Rattle.rules_laws.proofs.Calls.{chosen}
@@ -159,4 +160,5 @@ switches-keeps t typed s number a b c d w =
     (chosen-kept (withTicked t) (eqb number 0x75) (k (outCall (t .state) x a b c d) (out-settles t typed s))
     (chosen-kept (withTicked t) (eqb number 0x76) (tick-kept t typed s (interruptCases x a b c d))
     (chosen-kept (withTicked t) (eqb number 0x77) (k (offCall (t .state) x a b c d) (off-settles t typed s a))
-    (chosen-kept (withTicked t) (eqb number 0x78) (k (restoreCall (t .state) x a b c d) (restore-settles t typed s a b)) (unknown-kept (withTicked t) _))))) .keeps
+    (chosen-kept (withTicked t) (eqb number 0x78) (k (restoreCall (t .state) x a b c d) (restore-settles t typed s a b))
+    (unknown-kept (withTicked t) _))))) .keeps

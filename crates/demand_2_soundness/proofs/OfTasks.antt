@@ -11,14 +11,16 @@ use lib.Dec.{eqb, ltb, leb}
 use Rattle.basics.specs.Rule.{Means}
 use Rattle.basics.proofs.Laws.{same?, lt-or-le}
 use Rattle.rules.specs.Answer.{Effect, called, asked, Words}
-use Rattle.rules.specs.Tables.{Typed, taskCount, levels, minusOne, forever, wordEnd, notInUse, ready, sleeping, writing, terminated, inactive, task, withTask, noTask, state, current, CURRENT}
-use Rattle.rules.specs.Tables.{atSemaphore}
+use Rattle.rules.specs.Tables.{Typed, taskCount, levels, minusOne, forever, wordEnd, notInUse, ready, sleeping, writing, terminated, inactive, task}
+use Rattle.rules.specs.Tables.{withTask, noTask, state, current, CURRENT, atSemaphore}
 use Rattle.rules.specs.Lines.{lineCount, TaskQueues, homeBy, taskQueues, moved, atBack, nowhere}
 use Rattle.rules.specs.Waits.{waiting}
 use Rattle.rules.specs.Dispatch.{context}
 use Rattle.rules.specs.Sound.{Sound, noWait, taskRule}
 use Rattle.rules.specs.Step.{withQueued}
-use Rattle.rules.specs.Tasks.{isPriority, freeTask, blocked, placedAt, withPriority, ended, reprioritized, createCases, createEffect, deleteCases, deleteEffect, setPriorityCases, setPriorityEffect, yieldCases, yieldEffect, endCases, endEffect, sleepCases, sleepEffect, lastResultCases, lastResultEffect, taskCall}
+use Rattle.rules.specs.Tasks.{isPriority, freeTask, blocked, placedAt, withPriority, ended, reprioritized, createCases, createEffect, deleteCases}
+use Rattle.rules.specs.Tasks.{deleteEffect, setPriorityCases, setPriorityEffect, yieldCases, yieldEffect, endCases, endEffect, sleepCases, sleepEffect}
+use Rattle.rules.specs.Tasks.{lastResultCases, lastResultEffect, taskCall}
 use Rattle.rules.specs.declared.Tables.{Tables}
 use Rattle.rules.specs.declared.Task.{Task}
 use Rattle.rules_laws.proofs.Levels.{levels-under}
@@ -29,7 +31,9 @@ use Rattle.demand_2_soundness.proofs.Standing.{sound-almost}
 use Rattle.demand_2_soundness.proofs.Moves.{Welcome, moved-row, moved-rows, moved-keeps, row-keeps}
 use Rattle.demand_2_soundness.proofs.TaskRows.{task-other, in-use, home-none}
 use Rattle.demand_2_soundness.proofs.Objects.{other-fails, free-is}
-use Rattle.demand_2_soundness.proofs.Waiting.{neither, both, row-other, sound-ranges, current-is, current-under, still-ready, current-ready, current-row, current-used, not-idle, waits-settle, rest-row, still-waiting, welcome-none, welcome-ready, moved-ready, sleeping-row}
+use Rattle.demand_2_soundness.proofs.Waiting.{neither, both, row-other, sound-ranges, current-is, current-under, still-ready, current-ready}
+use Rattle.demand_2_soundness.proofs.Waiting.{current-row, current-used, not-idle, waits-settle, rest-row, still-waiting, welcome-none}
+use Rattle.demand_2_soundness.proofs.Waiting.{welcome-ready, moved-ready, sleeping-row}
 use Rattle.demand_2_soundness.proofs.Chosen.{chosen-keeps, unknown-keeps, sound-settles}
 
 -- a priority that the levels allow
@@ -73,7 +77,8 @@ no-row st i n =
     (λ e. absurd (omega arith)) (λ u. absurd (u .0 refl))
 
 -- a task in use that has ended
-ended-row : (st : List ℕ) (i : ℕ) (k : Task) → i ≢ 0 → Means (taskRule (levels st) i k) → (k .mode ≢ notInUse) × (k .mode ≢ inactive) → Means (taskRule (levels st) i (ended k))
+ended-row : (st : List ℕ) (i : ℕ) (k : Task) → i ≢ 0 → Means (taskRule (levels st) i k) → (k .mode ≢ notInUse) × (k .mode ≢ inactive)
+    → Means (taskRule (levels st) i (ended k))
 ended-row st i k n row used =
     let r = row-other _ i k n row in
     rest-row _ i (ended k) n (refl, (refl, (refl, refl))) (inr (omega arith, omega arith)) (r .outcome) (r .unmet) (λ e. absurd (omega arith))
@@ -109,7 +114,8 @@ module _ (t : Tables) (typed : Typed t) (s : Sound t) where
   not-current : (i : ℕ) → task (t .tasks) i .mode ≢ ready → state (t .state) CURRENT ≢ i
   not-current i n e = n (ap (λ (x : ℕ). task (t .tasks) x .mode) (sym e) ∙ still-ready t s)
 
-  create-keeps : (x a b c d : ℕ) → Keeps (withQueued t) (called (createCases (t .tasks) (t .state) x a b c d) (createEffect (taskQueues (t .tasks) (t .lines)) a))
+  create-keeps : (x a b c d : ℕ)
+      → Keeps (withQueued t) (called (createCases (t .tasks) (t .state) x a b c d) (createEffect (taskQueues (t .tasks) (t .lines)) a))
   unfolding createCases createEffect freeTask
   create-keeps x a b c d z =
       let ok = accepted-is (createCases (t .tasks) (t .state) x a b c d) z in
@@ -205,7 +211,10 @@ module _ (t : Tables) (typed : Typed t) (s : Sound t) where
       chosen (λ (q : TaskQueues). Settling (withQueued t q)) (blocked m) _ _
       (λ e.
       blocked-settles a b lt n e
-      (⊎-elim (λ (q : b ≡ minusOne). absurd (true≢false (sym e ∙ neither (eqb a (current (t .state))) (blocked m) (lowest q) .1))) (λ (r : (0 < b) × (b < levels (t .state))). r) level))
+      (⊎-elim
+      (λ (q : b ≡ minusOne). absurd (true≢false (sym e ∙ neither (eqb a (current (t .state))) (blocked m) (lowest q) .1)))
+      (λ (r : (0 < b) × (b < levels (t .state))). r)
+      level))
       (λ e.
       placed-settles a b lt n (ready-or-inactive m e used runs (row-other _ a _ n (s .tasks a lt) .range)) level
       (λ q l. eqb-false a (current (t .state)) (neither (eqb a (current (t .state))) (blocked m) (lowest l) .0) (sym (current-is t s ∙ q)))))
@@ -249,7 +258,8 @@ module _ (t : Tables) (typed : Typed t) (s : Sound t) where
       let n = not-idle t s (rw some at (ok .at5)) in
       let limit : a ≢ forever = eqb-false a forever (neither _ _ (ok .at4) .0) in
       waits-settle t typed s (eqb-true _ _ (not-false _ (ok .at2))) (rw some at (ok .at9)) (waiting k sleeping 0 a 0 0)
-      (sleeping-row _ i k n (current-row t s) (current-used t s) a (eqb-false a 0 e) (omega arith)) (welcome-none t i (waiting k sleeping 0 a 0 0) (inl (omega arith))) atBack)
+      (sleeping-row _ i k n (current-row t s) (current-used t s) a (eqb-false a 0 e) (omega arith))
+      (welcome-none t i (waiting k sleeping 0 a 0 0) (inl (omega arith))) atBack)
 
   last-result-keeps : (a b c d : ℕ) → Keeps (withQueued t) (called (lastResultCases (t .tasks) a b c d) (lastResultEffect (taskQueues (t .tasks) (t .lines)) a))
   unfolding lastResultEffect

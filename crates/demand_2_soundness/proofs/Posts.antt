@@ -23,7 +23,8 @@ use Rattle.demand_2_soundness.proofs.Stored.{entered-lines}
 use Rattle.demand_2_soundness.proofs.ObjectRules.{active-kept}
 use Rattle.demand_2_soundness.proofs.Aside.{not-of-swis}
 use Rattle.demand_2_soundness.proofs.Standing.{home-posted, home-unposted, home-kept}
-use Rattle.demand_2_soundness.proofs.SwiTables.{SwiChanged, swi-almost, swi-below, used-one, priority-below, posted-most, length-swi, swi-same, swi-row, swi-other, named-kept, rule-used}
+use Rattle.demand_2_soundness.proofs.SwiTables.{SwiChanged, swi-almost, swi-below, used-one, priority-below, posted-most, length-swi, swi-same}
+use Rattle.demand_2_soundness.proofs.SwiTables.{swi-row, swi-other, named-kept, rule-used}
 
 module _ (t : Tables) (a : Almost t) (i : ℕ) (used : swi (t .swis) i USED ≢ 0) where
   here : i < swiCount

@@ -61,7 +61,8 @@ taskMoves number o v = not (eqb number 0x01) && not (eqb number 0x06)
 
 module _ (q : TaskQueues) (sx : List ℕ) (rows : Means (tasksRule (levels sx) (q .tasks))) (st : List ℕ) (x number a b c d : ℕ) where
   pub tasks-quiet : Quiet (λ (y : TaskQueues). y .lines) (q .lines) (taskMoves number) (Tasks.taskCall q st x number a b c d)
-  unfolding Tasks.taskCall Tasks.createEffect Tasks.deleteEffect Tasks.setPriorityEffect Tasks.yieldEffect Tasks.endEffect Tasks.sleepEffect Tasks.lastResultEffect homeBy
+  unfolding Tasks.taskCall Tasks.createEffect Tasks.deleteEffect Tasks.setPriorityEffect Tasks.yieldEffect Tasks.endEffect
+      Tasks.sleepEffect Tasks.lastResultEffect homeBy
   tasks-quiet =
       numbered (eqb number 0x00) (λ e. does (λ _. goes (rw (eqb-true number 0x00 e)) (placed-aside q sx rows _ noTask a)))
       (numbered (eqb number 0x01) (λ _. same refl)
@@ -89,7 +90,8 @@ module _ (q : WaitTables) (sx : List ℕ) (rows : Means (tasksRule (levels sx) (
 abbrev pub waitsOrWakes : ℕ → ℕ → ℕ → ℕ → Bool
 waitsOrWakes post number o v = eqb o nowWaiting || (eqb number post && not (eqb v 0))
 
-module _ (q : WaitTables) (sx : List ℕ) (rows : Means (tasksRule (levels sx) (q .tasks))) (never : NeverWaits 0 (q .lines)) (st : List ℕ) (x number a b c d : ℕ) where
+module _ (q : WaitTables) (sx : List ℕ) (rows : Means (tasksRule (levels sx) (q .tasks))) (never : NeverWaits 0 (q .lines))
+    (st : List ℕ) (x number a b c d : ℕ) where
   abbrev LeavesBy : ℕ → Effect WaitTables → Type 0
   LeavesBy post e = Leaves (λ (y : WaitTables). y .lines) (q .lines) (waitsOrWakes post number) e
 
@@ -149,7 +151,8 @@ module _ (q : WaitTables) (sx : List ℕ) (rows : Means (tasksRule (levels sx) (
 abbrev pub mailboxMoves : ℕ → ℕ → ℕ → Bool
 mailboxMoves number o v = if (eqb number 0x42) (eqb o nowWaiting || not (eqb v 0)) (eqb number 0x43 && not (eqb o notMet))
 
-module _ (q : WaitTables) (sx : List ℕ) (rows : Means (tasksRule (levels sx) (q .tasks))) (never : NeverWaits 0 (q .lines)) (st : List ℕ) (x number a b c d : ℕ) where
+module _ (q : WaitTables) (sx : List ℕ) (rows : Means (tasksRule (levels sx) (q .tasks))) (never : NeverWaits 0 (q .lines))
+    (st : List ℕ) (x number a b c d : ℕ) where
   abbrev LeavesMailbox : Effect WaitTables → Type 0
   LeavesMailbox e = Leaves (λ (y : WaitTables). y .lines) (q .lines) (mailboxMoves number) e
 

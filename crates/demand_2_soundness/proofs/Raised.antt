@@ -13,7 +13,8 @@ use Rattle.basics.specs.Find.{highestBelow}
 use Rattle.basics.specs.Rule.{Means}
 use Rattle.basics.proofs.Laws.{same?, lt-or-le, count-first}
 use Rattle.basics.proofs.Finds.{IsHighest, high-is, high-one}
-use Rattle.rules.specs.Tables.{Typed, raised, taskCount, mostLevels, levels, task, state, raisedState, DEPTH, SWIS, TASKS, CURRENT, LEVELS, stateWidth}
+use Rattle.rules.specs.Tables.{Typed, raised, taskCount, notInUse, inactive, mostLevels, levels, task, state, raisedState, DEPTH, SWIS, TASKS, CURRENT}
+use Rattle.rules.specs.Tables.{LEVELS, stateWidth}
 use Rattle.rules.specs.Lines.{anyone, line, frontOf, readyLine, taskHome}
 use Rattle.rules.specs.Dispatch.{highestReady, front, swiDue, taskDue}
 use Rattle.rules.specs.Sound.{Sound, otherRule, tasksRule, taskRule, dispatchRule}
@@ -83,7 +84,9 @@ module _ (t : Tables) (typed : Typed t) (s : Sound t) where
   unfolding otherRule
   other k m =
       let (a0, (a1, (a2, (a3, (a4, (a5, (a6, (a7, (a8, (a9, (a10, (a11, a12)))))))))))) = m in
-      (a0, (a1, (a2, (a3, (a4, (a5, (a6, (a7, (a8, (a9, (a10, (a11, λ u. let (low, high) = a12 u in (low, omega (arith, raised-levels st (typed .state), levels-under st))))))))))))))
+      let level : (k .mode ≢ notInUse) × (k .mode ≢ inactive) → (0 < k .priority) × (k .priority < levels (raisedState st)) =
+      λ u. let (low, high) = a12 u in (low, omega (arith, raised-levels st (typed .state), levels-under st)) in
+      (a0, (a1, (a2, (a3, (a4, (a5, (a6, (a7, (a8, (a9, (a10, (a11, level))))))))))))
 
   row : (i : ℕ) → Means (taskRule (levels st) i (task (t .tasks) i)) → Means (taskRule (levels (raisedState st)) i (task (t .tasks) i))
   row i m = (m .0, λ n. other (task (t .tasks) i) (m .1 n))

@@ -181,7 +181,10 @@ module _ (t : Tables) (a : Almost t) where
             omega (arith, r .depth),
             (
               omega (arith, r .swis),
-              (omega (arith, r .tasks, same TASKS (λ e. omega arith)), (omega (arith, front-ready .0), (rw now (front-ready .1), rw (same LEVELS (λ e. omega arith)) (r .levels)))),
+              (
+                omega (arith, r .tasks, same TASKS (λ e. omega arith)),
+                (omega (arith, front-ready .0), (rw now (front-ready .1), rw (same LEVELS (λ e. omega arith)) (r .levels))),
+              ),
             ),
           );
           dispatch = (rw (d, w, quiet), λ e. rw (levels-same (t .state) CURRENT i (λ e. omega arith)) now);

@@ -26,7 +26,8 @@ use Rattle.demand_2_soundness.proofs.Stored.{left-lines, entered-lines}
 use Rattle.demand_2_soundness.proofs.Actives.{Rises, rises-more, every-more}
 use Rattle.demand_2_soundness.proofs.Aside.{not-of-swis}
 use Rattle.demand_2_soundness.proofs.Standing.{home-unposted}
-use Rattle.demand_2_soundness.proofs.SwiTables.{SwiChanged, swi-almost, swi-below, posted-in-use, posted-there, active-most, length-swi, swi-same, swi-row, swi-other, named-kept, rule-used}
+use Rattle.demand_2_soundness.proofs.SwiTables.{SwiChanged, swi-almost, swi-below, posted-in-use, posted-there, active-most, length-swi, swi-same}
+use Rattle.demand_2_soundness.proofs.SwiTables.{swi-row, swi-other, named-kept, rule-used}
 
 module _ (t : Tables) (a : Almost t) (i p : ℕ) (low : p < swiLevels) (home : swiHome (t .swis) i ≡ postedLine p) where
   is-posted : (swi (t .swis) i POSTED ≡ 1) × (swi (t .swis) i PRIORITY ≡ p)

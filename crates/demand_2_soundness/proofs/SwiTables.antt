@@ -21,7 +21,7 @@ use Rattle.demand_2_soundness.proofs.Members.{bit-le, bit-other, of-mem
 use Rattle.demand_2_soundness.proofs.Standing.{home-posted, home-unposted, home-kept, swi-out}
 use Rattle.demand_2_soundness.proofs.ObjectRules.{swi-kept}
 use Rattle.demand_2_soundness.proofs.Actives.{rises-most}
-use Rattle.demand_2_soundness.proofs.Objects.{each-but}
+use Rattle.demand_2_soundness.proofs.OneRow.{each-but}
 
 -- ---- the rule of a Swi in use
 pub rule-used : (ws ls : List ℕ) (x : ℕ) → swi ws x USED ≡ 1 → swi ws x PRIORITY < swiLevels → swi ws x POSTED < 2
@@ -56,7 +56,7 @@ module _ (t : Tables) (a : Almost t) (i : ℕ) (p : SwiQueues) (k : SwiChanged t
   swis =
       each-but swiCount i (swiRule (t .swis) (t .lines)) (swiRule (p .swis) (p .lines))
       (λ x h n. swi-kept (t .swis) (p .swis) (t .lines) (p .lines) x (λ f. k .rows x f n) (k .actives x n))
-      (k .rule)
+      (λ _. k .rule)
       (a .swis)
 
   pub swi-almost : Almost (withPosts t p)

@@ -1,6 +1,6 @@
 -- A task's row: what is read after it is stored, and in which line its rule lets it stand.
 use Prim.Native.Nat.{ℕ, _≤_, _<_, _*_}
-use mathlib.Core.Path.{_≡_, refl, ap}
+use mathlib.Core.Path.{_≡_, ap}
 use mathlib.Core.Logic.{_≢_, _⊎_, inl, inr, ⊎-elim}
 use mathlib.Core.List.{List}
 use native.Mathlib.Omega.{arith}
@@ -8,14 +8,16 @@ use lib.ListN.{length}
 use borrow.Author.Tests.{ne-eqb}
 use Rattle.basics.specs.Rule.{Means}
 use Rattle.basics.proofs.Laws.{same?}
-use Rattle.rules.specs.Tables.{taskCount, taskWidth, mostLevels, levels, ready, atSemaphore, atEvent, reading, writing, inactive, notInUse, task, taskWords, withTask, noTask}
-use Rattle.rules.specs.Tables.{semaphoreCount, eventCount, mailboxCount}
+use Rattle.rules.specs.Tables.{taskCount, taskWidth, mostLevels, levels, ready, atSemaphore, atEvent, reading, writing, inactive, notInUse, task}
+use Rattle.rules.specs.Tables.{taskWords, withTask, noTask, semaphoreCount, eventCount, mailboxCount, MODE, TASK-PRIORITY, OBJECT, TASK-LEFT, HELD, MASK}
+use Rattle.rules.specs.Tables.{OUTCOME, VALUE}
 use Rattle.rules.specs.Lines.{nowhere, semaphoreLine, mailboxLine, eventLine, readyLine, homeBy, homeOf, taskHome}
 use Rattle.rules.specs.Sound.{otherRule, taskRule, tasksRule}
 use Rattle.rules.specs.declared.Task.{Task}
 use Rattle.rules_laws.proofs.Levels.{levels-under}
 use Rattle.rules_laws.proofs.Rows.{by-range, field-out, row-same, row-other, length-withRow}
 use Rattle.demand_2_soundness.proofs.Groups.{OfTasks}
+use Rattle.demand_2_soundness.proofs.OneRow.{each-but}
 
 -- ---- read after write
 module _ (ts : List ℕ) (i : ℕ) where
@@ -26,21 +28,30 @@ module _ (ts : List ℕ) (i : ℕ) where
   pub task-same : (k : Task) → length ts ≡ taskCount * taskWidth → i < taskCount → task (withTask ts i k) i ≡ k
   unfolding task withTask
   task-same k all lt =
-      let f : (f : ℕ) → f < taskWidth → _ = row-same taskWidth taskCount ts i (taskWords k) (omega arith) refl lt in
-      rw (f 0 (omega arith), f 1 (omega arith), f 2 (omega arith), f 3 (omega arith), f 4 (omega arith), f 5 (omega arith), f 6 (omega arith), f 7 (omega arith))
+      let f : (f : ℕ) → f < length (taskWords k) → _ = row-same taskWidth taskCount ts i (taskWords k) (omega arith) (omega arith) lt in
+      rw (
+        f MODE (omega arith),
+        f TASK-PRIORITY (omega arith),
+        f OBJECT (omega arith),
+        f TASK-LEFT (omega arith),
+        f HELD (omega arith),
+        f MASK (omega arith),
+        f OUTCOME (omega arith),
+        f VALUE (omega arith),
+      )
 
   pub task-other : (k : Task) (x : ℕ) → x ≢ i → task (withTask ts i k) x ≡ task ts x
   unfolding task withTask
   task-other k x n =
-      let f : (g : ℕ) → _ = λ g. row-other taskWidth taskCount ts i (taskWords k) refl x g n in
-      rw (f 0, f 1, f 2, f 3, f 4, f 5, f 6, f 7)
+      let f : (g : ℕ) → _ = λ g. row-other taskWidth taskCount ts i (taskWords k) (omega arith) x g n in
+      rw (f MODE, f TASK-PRIORITY, f OBJECT, f TASK-LEFT, f HELD, f MASK, f OUTCOME, f VALUE)
 
   -- no such task
   pub task-out : taskCount ≤ i → task ts i ≡ noTask
   unfolding task
   task-out h =
       let f : (g : ℕ) → _ = λ g. field-out taskWidth taskCount ts i g h in
-      rw (f 0, f 1, f 2, f 3, f 4, f 5, f 6, f 7)
+      rw (f MODE, f TASK-PRIORITY, f OBJECT, f TASK-LEFT, f HELD, f MASK, f OUTCOME, f VALUE)
 
   -- a row with anything in it is one of the 32
   pub task-in : task ts i ≢ noTask → i < taskCount
@@ -53,8 +64,9 @@ module _ (ts : List ℕ) (i : ℕ) where
 pub tasks-withTask : (st : List ℕ) (ts : List ℕ) (i : ℕ) (k : Task) → length ts ≡ taskCount * taskWidth → i < taskCount
     → Means (tasksRule (levels st) ts) → Means (taskRule (levels st) i k)
     → Means (tasksRule (levels st) (withTask ts i k))
-tasks-withTask st ts i k all lt rule row x h =
-    ⊎-elim (λ (e : x ≡ i). rw (e, task-same ts i k all lt) row) (λ (n : x ≢ i). rw (task-other ts i k x n) (rule x h)) (same? x i)
+tasks-withTask st ts i k all lt rule row =
+    each-but taskCount i (λ x. taskRule (levels st) x (task ts x)) (λ x. taskRule (levels st) x (task (withTask ts i k) x))
+    (λ x h n m. rw (task-other ts i k x n) m) (λ _. rw (task-same ts i k all lt) row) rule
 
 -- ---- the line of a row
 pub home-none : (k : Task) → k .mode ≢ ready → k .mode ≢ atSemaphore → k .mode ≢ atEvent → k .mode ≢ reading → k .mode ≢ writing
@@ -80,7 +92,9 @@ other-stands : (st : List ℕ) (k : Task) → Means (otherRule (levels st) k) �
 unfolding otherRule homeBy
 other-stands st k (_, (_, (_, (_, (_, (_, (atS, (atE, (reads, (writes, (_, (_, range)))))))))))) =
     ⊎-elim
-    (λ (e : k .mode ≡ ready). isReady e (omega (arith, range (λ (z : k .mode ≡ notInUse). omega arith, λ (z : k .mode ≡ inactive). omega arith) .1, levels-under st)) (rw e))
+    (λ (e : k .mode ≡ ready).
+    let level = range (λ (z : k .mode ≡ notInUse). omega arith, λ (z : k .mode ≡ inactive). omega arith) in
+    isReady e (omega (arith, level .1, levels-under st)) (rw e))
     (λ (a : k .mode ≢ ready).
     ⊎-elim
     (λ (e : k .mode ≡ atSemaphore). isAtSemaphore e (atS e .0 .0) (rw e))

@@ -132,7 +132,8 @@ module _ (t : Tables) (x : ℕ) where
         woken-ready (withQueued t q) a i lt low high (endedWith (k .mode)) 0 small (λ _. refl) x r,
       ))
       (λ (o : k .left ≢ 1).
-      let row = still-waiting _ i k n (a .tasks i lt) low high (k .priority) (k .left - 1) (row-other _ i k n (a .tasks i lt) .level (used-at (k .mode) (omega arith) (omega arith))) (omega arith) (λ _ z. omega arith) in
+      let level = row-other _ i k n (a .tasks i lt) .level (used-at (k .mode) (omega arith) (omega arith)) in
+      let row = still-waiting _ i k n (a .tasks i lt) low high (k .priority) (k .left - 1) level (omega arith) (λ _ z. omega arith) in
       let apart : x ≢ i = λ z. let q : k .mode ≡ ready = rw z at r in omega arith in
       rw (ne-eqb (k .left) 0 m, ne-eqb (k .left) 1 o) (
         row-keeps (withQueued t q) a i (oneLess k) lt row refl (λ _. (refl, refl, refl)),

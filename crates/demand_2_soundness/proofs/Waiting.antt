@@ -14,8 +14,8 @@ use Rattle.basics.specs.Find.{highestBelow}
 use Rattle.basics.specs.Rule.{Means, _is_, _isnt_, _under_, _and_, _or_}
 use Rattle.basics.proofs.Laws.{same?}
 use Rattle.rules.specs.Answer.{T, S, I}
-use Rattle.rules.specs.Tables.{Typed, taskCount, semaphoreCount, eventCount, mailboxCount, levels, wordEnd, forever, minusOne, notInUse, ready, sleeping, atSemaphore, atEvent, reading, writing, terminated, inactive, task, state, current, DEPTH, SWIS, TASKS, CURRENT}
-use Rattle.rules.specs.Tables.{swiLevels}
+use Rattle.rules.specs.Tables.{Typed, taskCount, semaphoreCount, eventCount, mailboxCount, levels, wordEnd, forever, minusOne, notInUse, ready, sleeping}
+use Rattle.rules.specs.Tables.{atSemaphore, atEvent, reading, writing, terminated, inactive, task, state, current, DEPTH, SWIS, TASKS, CURRENT, swiLevels}
 use Rattle.rules.specs.Lines.{postedLine, activeLine, anyone, taskQueues, moved, atBack}
 use Rattle.rules.specs.Waits.{switchOff, idle, ticksFor, waiting, readied, woken}
 use Rattle.rules.specs.Swis.{top}
@@ -73,10 +73,15 @@ other-parts st k m =
       level = a12;
     }
 
+infixr 35 _&_
+_&_ : {A B : Type 0} → A → B → A × B
+a & b = (a, b)
+
 pub other-of : (st : List ℕ) (k : Task) → Other st k → Means (otherRule (levels st) k)
 unfolding otherRule
 other-of st k r =
-    (r .range, (r .outcome, (r .unmet, (r .whenFree, (r .whenReady, (r .whenSleeping, (r .whenAtSemaphore, (r .whenAtEvent, (r .whenReading, (r .whenWriting, (r .whenTerminated, (r .whenInactive, r .level))))))))))))
+    let last = r .whenAtEvent & r .whenReading & r .whenWriting & r .whenTerminated & r .whenInactive & r .level in
+    r .range & r .outcome & r .unmet & r .whenFree & r .whenReady & r .whenSleeping & r .whenAtSemaphore & last
 
 pub other-row : (st : List ℕ) (i : ℕ) (k : Task) → i ≢ 0 → Other st k → Means (taskRule (levels st) i k)
 other-row st i k n r = (λ z. absurd (n z), λ _. other-of _ k r)
@@ -226,7 +231,8 @@ module _ (st : List ℕ) (i : ℕ) (k : Task) (n : i ≢ 0) (row : Means (taskRu
 
     pub writing-row : object < mailboxCount → (x : ℕ) → Means (taskRule (levels st) i (waiting k writing object limit x 0))
     writing-row h x =
-        blocked-row writing object limit x 0 (omega arith) (omega arith) (λ q. absurd (omega arith)) (λ q. absurd (omega arith)) (λ q. absurd (omega arith)) (λ q. absurd (omega arith))
+        blocked-row writing object limit x 0 (omega arith) (omega arith) (λ q. absurd (omega arith)) (λ q. absurd (omega arith)) (λ q. absurd (omega arith))
+        (λ q. absurd (omega arith))
         (λ _. ((h, ticks-under limit word), refl))
 
 -- a mode from ready to terminated is one of a task in use, at its priority
@@ -319,7 +325,11 @@ waits-settle t typed s c off k row welcome place =
     record {
       almost = moved-keeps t a place i k (current-under t s) row welcome;
       ranges = sound-ranges t s;
-      current = inr (swi-due-same (t .swis) (t .lines) _ (t .state) same ∙ swi-not-due t s, task-due-same (t .swis) (t .lines) _ (t .state) same ∙ task-due (t .lines) (t .state) c off);
+      current =
+          inr (
+            swi-due-same (t .swis) (t .lines) _ (t .state) same ∙ swi-not-due t s,
+            task-due-same (t .swis) (t .lines) _ (t .state) same ∙ task-due (t .lines) (t .state) c off,
+          );
     }
 
 -- ---- a wait ends

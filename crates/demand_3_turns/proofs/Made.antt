@@ -58,7 +58,9 @@ module _ (t : Tables) (s : Sound t) (q : Call) where
   is-accepted z =
       let none = no-case z in
       let e = done-step none in
-      let a : made t q .answer ≡ callFor t q .effect .answer = ap (λ (x : Step). x .answer) e ∙ finished-answer (q .number) (callFor t q .effect) ∙ named-accepted (q .number) (callFor t q .effect .answer) (effect-code t _ (q .number) (q .a) (q .b) (q .c) (q .d)) in
+      let f = callFor t q .effect in
+      let done = named-accepted (q .number) (f .answer) (effect-code t _ (q .number) (q .a) (q .b) (q .c) (q .d)) in
+      let a : made t q .answer ≡ f .answer = ap (λ (x : Step). x .answer) e ∙ finished-answer (q .number) f ∙ done in
       record {
         code = z;
         cases = none;

@@ -14,7 +14,8 @@ use Rattle.rules.specs.Answer.{CallRule, Effect, codeOf, called}
 use Rattle.rules.specs.Tables.{semaphoreCount, semaphoreWidth, semaphore, withSemaphore, USED, KIND, COUNT}
 use Rattle.rules.specs.Lines.{anyone, semaphoreLine}
 use Rattle.rules.specs.Waits.{WaitTables, waitTables}
-use Rattle.rules.specs.Semaphores.{freeSemaphore, createCases, createEffect, deleteCases, deleteEffect, pendCases, pendEffect, postCases, postEffect, resetCases, resetEffect, semaphoreCall}
+use Rattle.rules.specs.Semaphores.{freeSemaphore, createCases, createEffect, deleteCases, deleteEffect, pendCases, pendEffect, postCases, postEffect}
+use Rattle.rules.specs.Semaphores.{resetCases, resetEffect, semaphoreCall}
 use Rattle.rules.specs.Step.{over, withSemaphores, callOf, inRange}
 use Rattle.rules.specs.declared.Tables.{Tables}
 use Rattle.rules_laws.proofs.Rows.{field-other, field-row, row-other}
@@ -40,7 +41,7 @@ module _ (s : ℕ) (q : WaitTables) (used : semaphore (q .objects) s USED ≢ 0)
   create-kept x a b c d z =
       let ok = accepted-is (createCases (q .objects) x a b c d) z in
       let free = eqb-true _ _ (free-is semaphoreCount (λ i. eqb (semaphore (q .objects) i USED) 0) (ok .at6) .1) in
-      row-other semaphoreWidth semaphoreCount (q .objects) (freeSemaphore (q .objects)) (1 ∷ a ∷ b ∷ []) refl s KIND
+      row-other semaphoreWidth semaphoreCount (q .objects) (freeSemaphore (q .objects)) (1 ∷ a ∷ b ∷ []) (omega arith) s KIND
       (λ e. used (ap (λ (i : ℕ). semaphore (q .objects) i USED) e ∙ free))
 
   -- one is deleted without waiters alone
@@ -48,7 +49,7 @@ module _ (s : ℕ) (q : WaitTables) (used : semaphore (q .objects) s USED ≢ 0)
   unfolding deleteCases deleteEffect
   delete-kept x a b c d z =
       let ok = accepted-is (deleteCases (q .lines) (q .objects) x a b c d) z in
-      row-other semaphoreWidth semaphoreCount (q .objects) a (zeros semaphoreWidth) refl s KIND
+      row-other semaphoreWidth semaphoreCount (q .objects) a (zeros semaphoreWidth) (omega arith) s KIND
       (λ e. true≢false (sym waiters ∙ ap (λ (i : ℕ). anyone (q .lines) (semaphoreLine i)) e ∙ ok .at5))
 
   pend-kept : (st : List ℕ) (x a b c d : ℕ) → Kept (called (pendCases (q .objects) st x a b c d) (pendEffect q st a b))

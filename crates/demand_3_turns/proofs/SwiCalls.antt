@@ -4,7 +4,8 @@ use mathlib.Core.List.{List}
 use lib.Dec.{eqb}
 use Rattle.rules.specs.Lines.{TaskQueues, taskQueues}
 use Rattle.rules.specs.Sound.{Sound}
-use Rattle.rules.specs.Swis.{SwiQueues, swiQueues, posted, triggered, top, createEffect, deleteEffect, postEffect, changeEffect, zeroEffect, endEffect, takenEffect, swiCall}
+use Rattle.rules.specs.Swis.{SwiQueues, swiQueues, posted, triggered, top, createEffect, deleteEffect, postEffect, changeEffect, zeroEffect, endEffect}
+use Rattle.rules.specs.Swis.{takenEffect, swiCall}
 use Rattle.rules.specs.Dispatch.{context}
 use Rattle.rules.specs.declared.Tables.{Tables}
 use Rattle.rules_laws.proofs.Calls.{chosen}

@@ -10,7 +10,9 @@ use Rattle.rules.specs.Answer.{T}
 use Rattle.rules.specs.Tables.{Typed, taskCount, notInUse, terminated, inactive, task, noTask}
 use Rattle.rules.specs.Lines.{TaskQueues, taskQueues, atBack}
 use Rattle.rules.specs.Dispatch.{context}
-use Rattle.rules.specs.Tasks.{freeTask, blocked, placedAt, withPriority, reprioritized, createCases, createEffect, deleteCases, deleteEffect, setPriorityCases, setPriorityEffect, yieldCases, yieldEffect, endCases, endEffect, sleepCases, sleepEffect, lastResultEffect, taskCall}
+use Rattle.rules.specs.Tasks.{freeTask, blocked, placedAt, withPriority, reprioritized, createCases, createEffect, deleteCases, deleteEffect}
+use Rattle.rules.specs.Tasks.{setPriorityCases, setPriorityEffect, yieldCases, yieldEffect, endCases, endEffect, sleepCases, sleepEffect}
+use Rattle.rules.specs.Tasks.{lastResultEffect, taskCall}
 use Rattle.rules.specs.declared.Tables.{Tables}
 use Rattle.rules.specs.declared.Task.{Task}
 use Rattle.rules_laws.proofs.Calls.{chosen}

@@ -2,9 +2,8 @@
 -- nobody before it, so that k is 0. Task 2 of priority 6 comes later, stands before it, and the one post readies task 2.
 use Prim.Native.Nat.{ℕ}
 use mathlib.Core.Path.{_≡_, refl}
-use mathlib.Core.List.{List, [], _∷_, _++_}
+use mathlib.Core.List.{List, [], _∷_}
 use native.Mathlib.Omega.{arith}
-use Rattle.basics.specs.Lists.{zeros}
 use Rattle.rules.specs.Answer.{nowWaiting}
 use Rattle.rules.specs.Tables.{forever, ready, atSemaphore, tables, current, semaphore, KIND}
 use Rattle.rules.specs.Lines.{line, semaphoreLine, readyLine}
@@ -18,14 +17,13 @@ use Rattle.runs.specs.Run.{made, after}
 use Rattle.runs.specs.Turn.{BlockedOn}
 use Rattle.demands.proofs.Two.{fresh-typed, fresh-is-sound}
 use Rattle.demands.specs.Three.{pend, Waits, Turn}
+use Rattle.demands_examples.proofs.Rows.{tasksOf, semaphoresOf, stateOf}
 use Rattle.demands_examples.proofs.BySteps.{asks, pass, inWords, Leads, leads, anything, blocked, stays-blocked, not-served}
+use Rattle.demands_examples.proofs.Told.{beginning}
 use Rattle.demands_examples.proofs.Stated.{Begun, Begins, begun-there}
 
 abbrev pub setup : List Line
 setup = createSemaphore 2 0 ⇒ said 0 0 0 (T 0) ∷ createTask 5 ⇒ said 0 0 1 (T 1) ∷ []
-
-abbrev pub beginning : List Line
-beginning = Runs.pend 0 forever ⇒ said 0 2 0 (T 0) ∷ []
 
 abbrev pub overtaking : List Line
 overtaking = createTask 6 ⇒ said 0 0 2 (T 2) ∷ Runs.pend 0 forever ⇒ said 0 2 0 (T 0) ∷ post 0 ⇒ said 0 0 2 (T 2) ∷ []
@@ -33,10 +31,9 @@ overtaking = createTask 6 ⇒ said 0 0 2 (T 2) ∷ Runs.pend 0 forever ⇒ said 
 -- the mode of task 1, the mode and priority of task 2, who waits at the semaphore, who is ready at 5 and at 6, the current task
 unfoldable pub tablesOf : ℕ → ℕ → ℕ → List ℕ → List ℕ → List ℕ → ℕ → Tables
 tablesOf one two priority waiters at5 at6 current =
-    tables (ready ∷ (zeros 7 ++ (one ∷ 5 ∷ (zeros 6 ++ (two ∷ priority ∷ zeros 238)))))
+    tables (tasksOf ((one ∷ 5 ∷ []) ∷ (two ∷ priority ∷ []) ∷ []))
     (linesWith (semaphoreLine 0 has waiters ∷ readyLine 0 has (0 ∷ []) ∷ readyLine 5 has at5 ∷ readyLine 6 has at6 ∷ []))
-    (1 ∷ 2 ∷ zeros 46) noEvents noMailboxes noSwis noClocks freeHeap
-    (0 ∷ 1 ∷ 1 ∷ 0 ∷ current ∷ 16 ∷ [])
+    (semaphoresOf ((1 ∷ 2 ∷ []) ∷ [])) noEvents noMailboxes noSwis noClocks freeHeap (stateOf 0 current)
 
 unfoldable pub start : Tables
 start = tablesOf ready 0 0 [] (1 ∷ []) [] 1

@@ -1,5 +1,7 @@
+pub mod Rows
 pub mod BySteps
 pub mod Stated
+pub mod Told
 pub mod Story
 pub mod Example
 pub mod Above

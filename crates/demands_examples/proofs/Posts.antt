@@ -9,7 +9,6 @@ use mathlib.Core.Bool.{Bool, true}
 use mathlib.Core.List.{List, [], _∷_, _++_}
 use native.Mathlib.Omega.{arith}
 use lib.ListN.{getD, take, drop}
-use Rattle.basics.specs.Lists.{zeros}
 use Rattle.rules.specs.Answer.{answer, asked}
 use Rattle.rules.specs.Tables.{Typed, fewLevels, forever, ready, tables, semaphore, COUNT}
 use Rattle.rules.specs.Lines.{readyLine}
@@ -26,6 +25,7 @@ use Rattle.demands.proofs.Two.{fresh-typed, fresh-is-sound}
 use Rattle.no_post_lost.specs.NoPostLost.{CallAndAnswer, history, howMany, setsCount, isPost, takesUnit, LastSet, Counting}
 use Rattle.no_post_lost.proofs.NoPostLost.{no-post-lost, no-post-lost-from-fresh}
 use Rattle.no_post_lost.proofs.LastSets.{one-last}
+use Rattle.demands_examples.proofs.Rows.{tasksOf, semaphoresOf, stateOf}
 use Rattle.demands_examples.proofs.BySteps.{asks, pass, inWords, Leads, leads, anything}
 use Rattle.rules.specs.declared.Call.{Call}
 
@@ -116,9 +116,8 @@ runCalls = asks (calls run)
 -- ---- the tables after it: task 1 is ready, with priority 5 and a last result of outcome 0; semaphores 0, 1 and 2; one tick
 unfoldable pub now : Tables
 now =
-    tables (ready ∷ (zeros 7 ++ (ready ∷ 5 ∷ zeros 246))) (linesWith (readyLine 0 has (0 ∷ []) ∷ readyLine 5 has (1 ∷ []) ∷ []))
-    (1 ∷ 2 ∷ 2 ∷ 1 ∷ 0 ∷ 65535 ∷ 1 ∷ 1 ∷ 1 ∷ zeros 39) noEvents noMailboxes noSwis noClocks freeHeap
-    (0 ∷ 1 ∷ 1 ∷ 1 ∷ 1 ∷ 16 ∷ [])
+    tables (tasksOf ((ready ∷ 5 ∷ []) ∷ [])) (linesWith (readyLine 0 has (0 ∷ []) ∷ readyLine 5 has (1 ∷ []) ∷ []))
+    (semaphoresOf ((1 ∷ 2 ∷ 2 ∷ []) ∷ (1 ∷ 0 ∷ 65535 ∷ []) ∷ (1 ∷ 1 ∷ 1 ∷ []) ∷ [])) noEvents noMailboxes noSwis noClocks freeHeap (stateOf 1 1)
 
 pub to-now : Leads anything 0 fresh run 4 now
 unfolding quickly linesWith pass inWords now

@@ -1,20 +1,21 @@
 -- The run of demand 3's worked example, computed from the definitions. Tasks 1, 2 and 3, all of priority 5, wait at semaphore 0: task 1 with a
--- limit of two ticks, 2 and 3 without end. Task 3 is the one to look at.
+-- limit of two ticks, 2 and 3 without end. Task 3 is the one to look at: it begins to wait behind 1 and 2, and is readied behind 1 and 2.
 use Prim.Native.Nat.{ℕ}
 use mathlib.Core.Path.{refl}
-use mathlib.Core.List.{List, [], _∷_, _++_}
-use Rattle.basics.specs.Lists.{zeros}
+use mathlib.Core.List.{List, [], _∷_}
+use native.Mathlib.Omega.{arith}
 use Rattle.rules.specs.Tables.{forever, minusOne, ready, atSemaphore, terminated, tables}
 use Rattle.rules.specs.Lines.{semaphoreLine, readyLine}
 use Rattle.rules.specs.Fresh.{fresh, noEvents, noMailboxes, noSwis, noClocks, freeHeap}
 use Rattle.rules.specs.declared.Tables.{Tables}
-use Rattle.rules.proofs.Runs.{Line, _⇒_, asked, said, calls, T, I, createTask, setPriority, yield, end, lastResult, createSemaphore, deleteSemaphore}
-use Rattle.rules.proofs.Runs.{pend, post, tasksOff, restoreTasks, interruptIn, interruptOut, tick}
+use Rattle.rules.proofs.Runs.{Line, _⇒_, asked, said, T, I, createTask, setPriority, yield, end, lastResult, createSemaphore, deleteSemaphore, pend, post}
+use Rattle.rules.proofs.Runs.{tasksOff, restoreTasks, interruptIn, interruptOut, tick}
 use Rattle.rules.proofs.Faster.{quickly}
 use Rattle.rules.proofs.Standing.{linesWith, _has_}
 use Rattle.demands.proofs.Two.{fresh-typed, fresh-is-sound}
-use Rattle.demands_examples.proofs.BySteps.{asks, pass, inWords, Leads, leads, anything, blocked, undisturbed}
-use Rattle.rules.specs.declared.Call.{Call}
+use Rattle.demands_examples.proofs.Rows.{tasksOf, semaphoresOf, stateOf}
+use Rattle.demands_examples.proofs.BySteps.{pass, inWords, Leads, leads, anything}
+use Rattle.demands_examples.proofs.Told.{Story, tell, Shown, shows}
 
 -- ---- the calls, and what each says: code, outcome, value, thread
 abbrev pub setup : List Line
@@ -27,10 +28,6 @@ setup =
     ∷ pend 0 forever ⇒ said 0 2 0 (T 0)
     ∷ createTask 5 ⇒ said 0 0 3 (T 3)
     ∷ []
-
--- task 3 begins to wait, behind 1 and 2
-abbrev pub beginning : List Line
-beginning = pend 0 forever ⇒ said 0 2 0 (T 0) ∷ []
 
 -- refused calls with seven codes; two ticks, with which task 1's limit runs out; and a post, which readies task 2
 abbrev pub flood : List Line
@@ -53,10 +50,6 @@ flood =
     ∷ post 0 ⇒ said 0 0 2 (T 1)
     ∷ []
 
--- the post that readies task 3, behind 1 and 2
-abbrev pub serving : List Line
-serving = post 0 ⇒ said 0 0 3 (T 1) ∷ []
-
 -- task 1 yields, a task joins behind, a tick and the third post, which counts, and task 2 ends
 abbrev pub queueing : List Line
 queueing =
@@ -70,60 +63,41 @@ queueing =
     ∷ []
 
 -- ---- the tables on the way: rows of tasks 1 to 4, waiters at semaphore 0, ready tasks of priority 5, the count, the ticks, the current task
-unfoldable pub tablesOf : List ℕ → List ℕ → List ℕ → ℕ → ℕ → ℕ → Tables
+unfoldable pub tablesOf : List (List ℕ) → List ℕ → List ℕ → ℕ → ℕ → ℕ → Tables
 tablesOf rows waiters queue count ticks current =
-    tables (ready ∷ (zeros 7 ++ (rows ++ zeros 216)))
+    tables (tasksOf rows)
     (linesWith (semaphoreLine 0 has waiters ∷ readyLine 0 has (0 ∷ []) ∷ readyLine 5 has queue ∷ []))
-    (1 ∷ 0 ∷ count ∷ 1 ∷ 0 ∷ 65535 ∷ zeros 42) noEvents noMailboxes noSwis noClocks freeHeap
-    (0 ∷ 1 ∷ 1 ∷ ticks ∷ current ∷ 16 ∷ [])
+    (semaphoresOf ((1 ∷ 0 ∷ count ∷ []) ∷ (1 ∷ 0 ∷ 65535 ∷ []) ∷ [])) noEvents noMailboxes noSwis noClocks freeHeap (stateOf ticks current)
 
 -- a row: mode, priority, object, left, first, second, outcome, value
 abbrev pub row : ℕ → ℕ → ℕ → List ℕ
 row mode left outcome = mode ∷ 5 ∷ 0 ∷ left ∷ 0 ∷ 0 ∷ outcome ∷ 0 ∷ []
 
 unfoldable pub start : Tables
-start = tablesOf (row atSemaphore 2 0 ++ (row atSemaphore 0 0 ++ (row ready 0 0 ++ zeros 8))) (1 ∷ 2 ∷ []) (3 ∷ []) 0 0 3
+start = tablesOf (row atSemaphore 2 0 ∷ row atSemaphore 0 0 ∷ row ready 0 0 ∷ []) (1 ∷ 2 ∷ []) (3 ∷ []) 0 0 3
 
 unfoldable pub begun : Tables
-begun = tablesOf (row atSemaphore 2 0 ++ (row atSemaphore 0 0 ++ (row atSemaphore 0 0 ++ zeros 8))) (1 ∷ 2 ∷ 3 ∷ []) [] 0 0 0
+begun = tablesOf (row atSemaphore 2 0 ∷ row atSemaphore 0 0 ∷ row atSemaphore 0 0 ∷ []) (1 ∷ 2 ∷ 3 ∷ []) [] 0 0 0
 
 unfoldable pub flooded : Tables
-flooded = tablesOf (row ready 0 1 ++ (row ready 0 0 ++ (row atSemaphore 0 0 ++ zeros 8))) (3 ∷ []) (1 ∷ 2 ∷ []) 0 2 1
+flooded = tablesOf (row ready 0 1 ∷ row ready 0 0 ∷ row atSemaphore 0 0 ∷ []) (3 ∷ []) (1 ∷ 2 ∷ []) 0 2 1
 
 unfoldable pub moment : Tables
-moment = tablesOf (row ready 0 1 ++ (row ready 0 0 ++ (row ready 0 0 ++ zeros 8))) [] (1 ∷ 2 ∷ 3 ∷ []) 0 2 1
+moment = tablesOf (row ready 0 1 ∷ row ready 0 0 ∷ row ready 0 0 ∷ []) [] (1 ∷ 2 ∷ 3 ∷ []) 0 2 1
 
 unfoldable pub ending : Tables
-ending = tablesOf (row ready 0 1 ++ (row terminated 0 0 ++ (row ready 0 0 ++ row ready 0 0))) [] (3 ∷ 1 ∷ 4 ∷ []) 1 3 3
+ending = tablesOf (row ready 0 1 ∷ row terminated 0 0 ∷ row ready 0 0 ∷ row ready 0 0 ∷ []) [] (3 ∷ 1 ∷ 4 ∷ []) 1 3 3
 
--- each call says what stands beside it; 0, 0, 1, 1 and 1 of them are accepted posts; task 3 is blocked before each call of the flood, and
--- undisturbed by the last ones
 pub to-start : Leads anything 0 fresh setup 0 start
 unfolding quickly linesWith tablesOf pass inWords start
 to-start = leads anything 0 fresh fresh-typed fresh-is-sound setup 0 start refl refl
 
-pub to-begun : Leads anything 0 start beginning 0 begun
-unfolding quickly linesWith tablesOf pass inWords start begun
-to-begun = leads anything 0 start (to-start .typed) (to-start .sound) beginning 0 begun refl refl
+-- ---- the story: one accepted post in the flood, and one once task 3 is ready
+abbrev pub story : Story
+story = tell 3 5 (1 ∷ 2 ∷ []) flood 1 queueing 1 start begun flooded moment ending
 
-pub to-flooded : Leads (blocked 0 3) 0 begun flood 1 flooded
-unfolding quickly linesWith tablesOf pass inWords begun flooded
-to-flooded = leads (blocked 0 3) 0 begun (to-begun .typed) (to-begun .sound) flood 1 flooded refl refl
-
-pub to-moment : Leads anything 0 flooded serving 1 moment
-unfolding quickly linesWith tablesOf pass inWords flooded moment
-to-moment = leads anything 0 flooded (to-flooded .typed) (to-flooded .sound) serving 1 moment refl refl
-
-pub to-ending : Leads (undisturbed 5 3) 0 moment queueing 1 ending
-unfolding quickly linesWith tablesOf pass inWords moment ending
-to-ending = leads (undisturbed 5 3) 0 moment (to-moment .typed) (to-moment .sound) queueing 1 ending refl refl
-
-pub whole : Leads anything 0 begun (flood ++ (serving ++ queueing)) 3 ending
-unfolding quickly linesWith tablesOf pass inWords begun ending
-whole = leads anything 0 begun (to-begun .typed) (to-begun .sound) (flood ++ (serving ++ queueing)) 3 ending refl refl
-
-abbrev pub run : List Call
-run = asks (calls (flood ++ (serving ++ queueing)))
-
-abbrev pub later : List Call
-later = asks (calls queueing)
+pub shown : Shown story
+unfolding quickly linesWith tablesOf pass inWords start begun flooded moment ending
+shown =
+    shows story setup fresh to-start ((refl, refl), (refl, refl), (refl, refl), (refl, refl))
+    ((refl, refl, refl), (refl, refl), ((refl, refl), refl, refl), (refl, refl), (refl, refl), (refl, refl, refl)) (omega arith, omega arith)

@@ -25,8 +25,8 @@ use Rattle.demands.proofs.Lists.{promised-list}
 use Rattle.mixtures.specs.Mixtures.{HandedList, Piece, single, list, Mixture, tablesAfter, ifAccepted, callsMade, answersHad}
 use Rattle.mixtures.proofs.Mixtures.{mixtures-are-calls}
 use Rattle.demands_examples.proofs.BySteps.{asks, pass, inWords}
-use Rattle.demands_examples.proofs.Lists.{Stepped, by-steps, threadIn, listOf, leftBy, promised-lines, oneTask, badPriority}
-use Rattle.demands_examples.proofs.Lists.{to-one-task, to-bad-priority, nines, lists, from-fresh, runs-last, task-0-runs, levels-17, refused-10}
+use Rattle.demands_examples.proofs.Lists.{Stepped, by-steps, threadIn, listOf, leftBy, promised-lines, oneTask, badPriority, to-one-task}
+use Rattle.demands_examples.proofs.Lists.{to-bad-priority, nines, lists, from-fresh, runs-last, task-0-runs, levels-17, refused-10}
 use Rattle.rules.specs.Answer.{asked}
 use Rattle.rules.specs.declared.Call.{Call}
 
@@ -166,5 +166,6 @@ FromOneWordACall =
 pub not-from-one-word-a-call : FromOneWordACall → ⊥
 unfolding laidOut
 not-from-one-word-a-call every =
-    let same = every fresh (listOf oneTask) (nines 3) _ (promised-left oneTask to-one-task (nines 3)) 1 (omega (arith, ap length (calls-laid-out (asks (calls oneTask))))) in
+    let one = ap length (calls-laid-out (asks (calls oneTask))) in
+    let same = every fresh (listOf oneTask) (nines 3) _ (promised-left oneTask to-one-task (nines 3)) 1 (omega arith) in
     omega (arith, same, ap (λ (h : Handed). getD (h .answers) 1 0) (lists .one-exact))

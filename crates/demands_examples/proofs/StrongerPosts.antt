@@ -1,5 +1,6 @@
--- Request No. 12 says no more than is true: for each must-fail edit of `no_post_lost`, the statement that it makes, denied by a run. That is the run of
--- `Posts`, where what is counted wrongly gives two sides that differ; and for what a post's value tells one more post after it, and a run in which task 2 is woken.
+-- Request No. 12 says no more than is true: for each must-fail edit of `no_post_lost`, the statement that it makes, denied by a run. That is the run
+-- of `Posts`, where what is counted wrongly gives two sides that differ; and for what a post's value tells one more post after it, and a run in which
+-- task 2 is woken.
 use Prim.Native.Nat.{ℕ, _+_}
 use mathlib.Core.Path.{_≡_, refl, sym, ap, _∙_}
 use mathlib.Core.Logic.{_≢_}
@@ -9,7 +10,6 @@ use native.Mathlib.Omega.{arith}
 use lib.Dec.{eqb}
 use lib.ListN.{take, drop}
 use borrow.Author.Tests.{eq-eqb}
-use Rattle.basics.specs.Lists.{zeros}
 use Rattle.rules.specs.Answer.{answer, done, notMet, nowWaiting, asked}
 use Rattle.rules.specs.Tables.{Typed, forever, ready, tables, semaphore, USED, KIND, COUNT}
 use Rattle.rules.specs.Lines.{readyLine}
@@ -24,6 +24,7 @@ use Rattle.runs.specs.Run.{made, next}
 use Rattle.demands.proofs.Two.{fresh-typed, fresh-is-sound}
 use Rattle.no_post_lost.specs.NoPostLost.{CallAndAnswer, howMany, isAccepted, isAcceptedOn, setsCount, isPost, takesUnit, Counting}
 use Rattle.woken_task.specs.WokenTask.{semaphorePost, Woke}
+use Rattle.demands_examples.proofs.Rows.{tasksOf, semaphoresOf, stateOf}
 use Rattle.demands_examples.proofs.BySteps.{asks, pass, inWords, Leads, leads, anything}
 use Rattle.demands_examples.proofs.Posts.{told, history-told, createdZero, createdTwo, createdThree, resetOne, now, to-now, all, at, since}
 use Rattle.demands_examples.proofs.Posts.{Counted, Sums, in-run, counting}
@@ -193,8 +194,8 @@ once = post 0 ⇒ said 0 0 0 (T 1) ∷ []
 
 unfoldable posted : Tables
 posted =
-    tables (now .tasks) (now .lines) (1 ∷ 2 ∷ 3 ∷ 1 ∷ 0 ∷ 65535 ∷ 1 ∷ 1 ∷ 1 ∷ zeros 39) (now .events) (now .mailboxes) (now .swis) (now .clocks) (now .heap)
-    (now .state)
+    tables (now .tasks) (now .lines) (semaphoresOf ((1 ∷ 2 ∷ 3 ∷ []) ∷ (1 ∷ 0 ∷ 65535 ∷ []) ∷ (1 ∷ 1 ∷ 1 ∷ []) ∷ []))
+    (now .events) (now .mailboxes) (now .swis) (now .clocks) (now .heap) (now .state)
 
 to-posted : Leads anything 0 now once 1 posted
 unfolding quickly linesWith pass inWords now posted
@@ -228,10 +229,9 @@ byTaskTwo =
 
 unfoldable taken : Tables
 taken =
-    tables (ready ∷ (zeros 7 ++ (ready ∷ 5 ∷ (zeros 6 ++ (ready ∷ 6 ∷ zeros 238)))))
+    tables (tasksOf ((ready ∷ 5 ∷ []) ∷ (ready ∷ 6 ∷ []) ∷ []))
     (linesWith (readyLine 0 has (0 ∷ []) ∷ readyLine 5 has (1 ∷ []) ∷ readyLine 6 has (2 ∷ []) ∷ []))
-    (1 ∷ zeros 47) noEvents noMailboxes noSwis noClocks freeHeap
-    (0 ∷ 1 ∷ 1 ∷ 0 ∷ 2 ∷ 16 ∷ [])
+    (semaphoresOf ((1 ∷ []) ∷ [])) noEvents noMailboxes noSwis noClocks freeHeap (stateOf 0 2)
 
 to-taken : Leads anything 0 fresh byTaskTwo 1 taken
 unfolding quickly linesWith pass inWords taken

@@ -5,7 +5,7 @@ use mathlib.Core.Logic.{inl, inr}
 use mathlib.Core.List.{List, [], _∷_, _++_}
 use native.Mathlib.Omega.{arith}
 use lib.ListN.{length, drop}
-use Rattle.basics.specs.Lists.{count, ahead, zeros}
+use Rattle.basics.specs.Lists.{count, ahead}
 use Rattle.rules.specs.Fresh.{noEvents, noMailboxes, noSwis, noClocks, freeHeap}
 use Rattle.rules.specs.Tables.{levels, ready, atSemaphore, terminated, tables, task}
 use Rattle.rules.specs.Lines.{line, activeLine, readyLine}
@@ -18,11 +18,13 @@ use Rattle.rules.proofs.Standing.{linesWith, _has_}
 use Rattle.demand_3_turns.proofs.Fronts.{nobody-before}
 use Rattle.runs.specs.Run.{next, after, Each, AllWords}
 use Rattle.runs.specs.Turn.{BlockedOn, postsOn, ServedIn, ReadyAt, queueAt, AtFront, Undisturbed, Gone, Unhindered}
-use Rattle.demands_examples.proofs.BySteps.{asks, pass, inWords, Leads, leads, anything, blocked, unchanged, stays-blocked, stays-unchanged, not-served}
-use Rattle.demands_examples.proofs.BySteps.{none-higher}
+use Rattle.demands_examples.proofs.Rows.{tasksOf, semaphoresOf, stateOf}
+use Rattle.demands_examples.proofs.BySteps.{asks, pass, inWords, Leads, leads, anything, blocked, unchanged, stays-blocked, stays-unchanged}
+use Rattle.demands_examples.proofs.BySteps.{not-served, none-higher}
 use Rattle.demands_examples.proofs.Stated.{Begun, Readied, begun-there}
-use Rattle.demands_examples.proofs.Story.{queueing, tablesOf, row, start, begun, moment, to-begun, to-moment, to-ending, later}
-use Rattle.demands_examples.proofs.Example.{begins, readied-there, in-moment, quiet, yields, front}
+use Rattle.demands_examples.proofs.Story.{queueing, tablesOf, row, start, begun, moment, story, shown}
+use Rattle.demands_examples.proofs.Example.{begins, to-ending, readied-there, in-moment, yields, front}
+use Rattle.demands_examples.proofs.Told.{later, to-begun, to-moment, quiet}
 use Rattle.rules.specs.declared.Call.{Call}
 
 -- ---- "one of the next k + 1 accepted posts": k are not enough. Task 3 waits behind two, and the two posts ready these
@@ -30,11 +32,11 @@ abbrev twoPosts : List Line
 twoPosts = post 0 ⇒ said 0 0 1 (T 1) ∷ post 0 ⇒ said 0 0 2 (T 1) ∷ []
 
 unfoldable alone : Tables
-alone = tablesOf (row ready 0 0 ++ (row ready 0 0 ++ (row atSemaphore 0 0 ++ zeros 8))) (3 ∷ []) (1 ∷ 2 ∷ []) 0 0 1
+alone = tablesOf (row ready 0 0 ∷ row ready 0 0 ∷ row atSemaphore 0 0 ∷ []) (3 ∷ []) (1 ∷ 2 ∷ []) 0 0 1
 
 to-alone : Leads (blocked 0 3) 0 begun twoPosts 2 alone
 unfolding quickly linesWith tablesOf pass inWords begun alone
-to-alone = leads (blocked 0 3) 0 begun (to-begun .typed) (to-begun .sound) twoPosts 2 alone refl refl
+to-alone = leads (blocked 0 3) 0 begun (to-begun story shown .typed) (to-begun story shown .sound) twoPosts 2 alone refl refl
 
 in-alone : BlockedOn 0 3 alone
 unfolding quickly tablesOf alone
@@ -56,7 +58,7 @@ AllStay p i v =
 
 pub not-all-of-those-before : Readied AllStay → ⊥
 not-all-of-those-before every =
-    let same = readied-there AllStay every later (to-ending .words) quiet in
+    let same = readied-there AllStay every (later story) (to-ending .words) (quiet story shown) in
     omega (arith, ap length (nobody-before front), ap length (rw (to-ending .now, in-moment .1) at same))
 
 -- ---- "before it runs": once it runs it may yield. Then task 1 is before it again, which had yielded in its turn
@@ -64,11 +66,11 @@ abbrev yielding : List Line
 yielding = queueing ++ (yield ⇒ said 0 0 0 (T 1) ∷ [])
 
 unfoldable behind : Tables
-behind = tablesOf (row ready 0 1 ++ (row terminated 0 0 ++ (row ready 0 0 ++ row ready 0 0))) [] (1 ∷ 4 ∷ 3 ∷ []) 1 3 1
+behind = tablesOf (row ready 0 1 ∷ row terminated 0 0 ∷ row ready 0 0 ∷ row ready 0 0 ∷ []) [] (1 ∷ 4 ∷ 3 ∷ []) 1 3 1
 
 to-behind : Leads (unchanged 5 3) 0 moment yielding 1 behind
 unfolding quickly linesWith tablesOf pass inWords moment behind
-to-behind = leads (unchanged 5 3) 0 moment (to-moment .typed) (to-moment .sound) yielding 1 behind refl refl
+to-behind = leads (unchanged 5 3) 0 moment (to-moment story shown .typed) (to-moment story shown .sound) yielding 1 behind refl refl
 
 in-behind : count 1 (ahead 3 (queueAt 5 behind)) ≡ 1
 unfolding quickly ahead linesWith tablesOf behind
@@ -95,14 +97,13 @@ outranking = queueing ++ (createTask 6 ⇒ said 0 0 5 (T 5) ∷ [])
 
 unfoldable outranked : Tables
 outranked =
-    tables (ready ∷ (zeros 7 ++ (row ready 0 1 ++ (row terminated 0 0 ++ (row ready 0 0 ++ (row ready 0 0 ++ (ready ∷ 6 ∷ zeros 214)))))))
+    tables (tasksOf (row ready 0 1 ∷ row terminated 0 0 ∷ row ready 0 0 ∷ row ready 0 0 ∷ (ready ∷ 6 ∷ []) ∷ []))
     (linesWith (readyLine 0 has (0 ∷ []) ∷ readyLine 5 has (3 ∷ 1 ∷ 4 ∷ []) ∷ readyLine 6 has (5 ∷ []) ∷ []))
-    (1 ∷ 0 ∷ 1 ∷ 1 ∷ 0 ∷ 65535 ∷ zeros 42) noEvents noMailboxes noSwis noClocks freeHeap
-    (0 ∷ 1 ∷ 1 ∷ 3 ∷ 5 ∷ 16 ∷ [])
+    (semaphoresOf ((1 ∷ 0 ∷ 1 ∷ []) ∷ (1 ∷ 0 ∷ 65535 ∷ []) ∷ [])) noEvents noMailboxes noSwis noClocks freeHeap (stateOf 3 5)
 
 to-outranked : Leads anything 0 moment outranking 1 outranked
 unfolding quickly linesWith tablesOf pass inWords moment outranked
-to-outranked = leads anything 0 moment (to-moment .typed) (to-moment .sound) outranking 1 outranked refl refl
+to-outranked = leads anything 0 moment (to-moment story shown .typed) (to-moment story shown .sound) outranking 1 outranked refl refl
 
 in-outranked : ReadyAt 5 3 outranked × (queueAt 5 outranked ≡ 3 ∷ drop 1 (queueAt 5 outranked)) × (running (outranked .lines) (outranked .state) ≡ Task 5)
     × (highestReady (levels (outranked .state)) (outranked .lines) ≡ 7) × (line (outranked .lines) activeLine ≡ [])

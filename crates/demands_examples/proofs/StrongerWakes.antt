@@ -19,9 +19,8 @@ use Rattle.rules.proofs.Faster.{quickly}
 use Rattle.rules.proofs.Standing.{linesWith}
 use Rattle.runs.specs.Run.{made, next, after}
 use Rattle.woken_task.specs.WokenTask.{Post, semaphorePost, mailboxPost, BlockedAt, Woke, WokeNobody, Tells}
-use Rattle.demands_examples.proofs.Wakes.{tablesOf, waits, woken, queued, to-waits, to-woken, to-queued, Answers, postSemaphore, postToReader, postStored}
-use Rattle.demands_examples.proofs.Wakes.{postWaiting, pendLettingIn, semaphore-answers, reader-answers, stored-answers, waiting-answers, let-in-answers}
-use Rattle.demands_examples.proofs.Wakes.{woke-two, woke-five}
+use Rattle.demands_examples.proofs.Wakes.{tablesOf, waits, woken, queued, to-waits, to-woken, to-queued, Answers, postSemaphore, postToReader}
+use Rattle.demands_examples.proofs.Wakes.{postStored, postWaiting, pendLettingIn, to-read, to-stored, to-let-in, told, woke-two, woke-five}
 use Rattle.rules.specs.declared.Call.{Call}
 
 -- ---- the statement over what it says of a post, its answer and the tables
@@ -50,7 +49,7 @@ woke-here W p q v number says some every =
 
 -- the post at the semaphore, where tasks 2 and 3 wait: it wakes task 2
 at-semaphore : (W : Says) → Stated (wokeBy W) semaphorePost → Here W semaphorePost postSemaphore
-at-semaphore W = woke-here W semaphorePost postSemaphore 2 refl semaphore-answers (λ e. omega arith)
+at-semaphore W = woke-here W semaphorePost postSemaphore 2 refl (told to-woken) (λ e. omega arith)
 
 -- N of a post that woke nobody: what the call with value 0 says of it
 abbrev nobodyBy : Says → Says
@@ -99,7 +98,7 @@ TheLast p t q r u = line (t .lines) (p .lineOf (q .a)) ≡ line (u .lines) (p .l
 pub not-the-last : Stated (wokeBy TheLast) semaphorePost → ⊥
 not-the-last every =
     let e : _≡_ {A = List ℕ} (2 ∷ 3 ∷ []) (3 ∷ 2 ∷ []) =
-    sym (lines-there .0) ∙ rw (line-left, semaphore-answers .value) at (at-semaphore TheLast every) in
+    sym (lines-there .0) ∙ rw (line-left, told to-woken .value) at (at-semaphore TheLast every) in
     omega (arith, ap (λ (xs : List ℕ). getD xs 0 0) e)
 
 -- one who stays in line
@@ -132,7 +131,7 @@ AllStay p t q r u = (x : ℕ) → x ≢ 32 → task (u .tasks) x ≡ task (t .ta
 
 pub not-all-stay : Stated (wokeBy AllStay) semaphorePost → ⊥
 not-all-stay every =
-    let now : task (next waits postSemaphore .tasks) 2 .mode ≡ ready = rw (semaphore-answers .value) at (woke-two .ready) in
+    let now : task (next waits postSemaphore .tasks) 2 .mode ≡ ready = rw (told to-woken .value) at (woke-two .ready) in
     omega (arith, two-waits, now, ap (λ (k : Task). k .mode) (at-semaphore AllStay every 2 (λ e. omega arith)))
 
 -- ---- a reader gets the word: it was 9
@@ -144,7 +143,7 @@ not-without-the-word every =
     omega (
       arith,
       ap (λ (k : Task). k .value) (woke-five .row),
-      ap (λ (k : Task). k .value) (woke-here WithoutWord mailboxPost postToReader 5 refl reader-answers (λ e. omega arith) every),
+      ap (λ (k : Task). k .value) (woke-here WithoutWord mailboxPost postToReader 5 refl (told to-read) (λ e. omega arith) every),
     )
 
 -- a mailbox post does not wake a writer
@@ -154,7 +153,7 @@ Writer p t q r u = task (t .tasks) (r .value) .mode ≡ writing
 pub not-a-writer : Stated (wokeBy Writer) mailboxPost → ⊥
 not-a-writer every =
     let w : task (waits .tasks) 5 .mode ≡ writing =
-    rw (reader-answers .value) at (woke-here Writer mailboxPost postToReader 5 refl reader-answers (λ e. omega arith) every) in
+    rw (told to-read .value) at (woke-here Writer mailboxPost postToReader 5 refl (told to-read) (λ e. omega arith) every) in
     omega (arith, five-reads, w)
 
 -- a pend that lets a writer in does not name it: its value is the word, 8
@@ -171,7 +170,7 @@ pendPost =
 pub not-by-a-pend : Stated Tells pendPost → ⊥
 not-by-a-pend every =
     let w : task (waits .tasks) 8 .mode ≡ writing =
-    rw (let-in-answers .value) at (woke-here Woke pendPost pendLettingIn 8 refl let-in-answers (λ e. omega arith) every .blocked .0) in
+    rw (told to-let-in .value) at (woke-here Woke pendPost pendLettingIn 8 refl (told to-let-in) (λ e. omega arith) every .blocked .0) in
     omega (arith, no-eight, w)
 
 -- ---- value 0: a word is stored, and nobody is woken
@@ -179,13 +178,13 @@ abbrev StoredNamed : Says
 StoredNamed p t q r u = r .value ≢ 0
 
 pub not-of-a-stored-message : Stated (nobodyBy StoredNamed) mailboxPost → ⊥
-not-of-a-stored-message every = nobody-here StoredNamed mailboxPost postStored refl stored-answers every (stored-answers .value)
+not-of-a-stored-message every = nobody-here StoredNamed mailboxPost postStored refl (told to-stored) every (told to-stored .value)
 
 abbrev WakeReported : Says
 WakeReported p t q r u = r .value ≡ 1
 
 pub not-a-wake-that-did-not-occur : Stated (nobodyBy WakeReported) mailboxPost → ⊥
-not-a-wake-that-did-not-occur every = omega (arith, stored-answers .value, nobody-here WakeReported mailboxPost postStored refl stored-answers every)
+not-a-wake-that-did-not-occur every = omega (arith, told to-stored .value, nobody-here WakeReported mailboxPost postStored refl (told to-stored) every)
 
 -- nobody was due: no reader waits at mailbox 1
 abbrev PassedOver : Says
@@ -196,7 +195,7 @@ unfolding quickly linesWith tablesOf waits waitsFirst
 none-due = refl
 
 pub not-passed-over : Stated (nobodyBy PassedOver) mailboxPost → ⊥
-not-passed-over every = true≢false (sym (nobody-here PassedOver mailboxPost postStored refl stored-answers every) ∙ none-due)
+not-passed-over every = true≢false (sym (nobody-here PassedOver mailboxPost postStored refl (told to-stored) every) ∙ none-due)
 
 -- where the post's caller waits to write, it is not ready
 abbrev StillReady : Says
@@ -213,4 +212,4 @@ not-still-ready every =
     ⊎-elim
     (λ same. omega (arith, one-ready, writes, now, ap (λ (k : Task). k .mode) same))
     (λ (_, r). omega (arith, writes, now, r))
-    (nobody-here StillReady mailboxPost postWaiting refl waiting-answers every 1)
+    (nobody-here StillReady mailboxPost postWaiting refl (told to-queued) every 1)

@@ -2,7 +2,7 @@
 use Prim.Native.Nat.{ℕ, _+_, _-_, min, _≤_, _<_}
 use mathlib.Core.Path.{_≡_, refl, sym, ap, _∙_}
 use mathlib.Core.Logic.{⊎-elim}
-use mathlib.Core.Bool.{Bool, true, false, not, _&&_, cond as if, true≢false}
+use mathlib.Core.Bool.{Bool, true, false, not, cond as if, true≢false}
 use mathlib.Core.List.{List, [], _++_, append-nil, append-assoc}
 use native.Mathlib.Nat.{zero-add}
 use native.Mathlib.Omega.{arith}
@@ -23,7 +23,7 @@ use Rattle.desk_parts.specs.Part.{kept, ReplayState, textBefore, waiting, versi
 use Rattle.desk_reads.specs.declared.PartPlace.{PartPlace}
 use Rattle.desk.specs.declared.Progress.{Progress}
 use Rattle.desk_reads.specs.Done.{placeAt, readResult, ReadLeaves}
-use Rattle.desk.specs.Done.{comeTo, replayState, progressOf, behind, PartLeaves, TurnLeaves}
+use Rattle.desk.specs.Done.{comeTo, replayState, progressOf, behind, TurnLeaves}
 use Rattle.desk_parts.proofs.Steps.{partAt, part-whole, part-step}
 use Rattle.desk_parts.proofs.Bounds.{part-bounded}
 
@@ -32,10 +32,16 @@ pub come-is : (o : ℕ) (r : PartPlace) (held : ℕ) {offset : ℕ} → offset �
     → record { held = held; offset = offset; count = r .count; len = r .len; ended = r .ended } ≡ comeTo o r held
 come-is o r held e = rw e
 
--- ---- a part goes on where it has not ended and can be read
-goes-on : (a b : Bool) → (not a && b) ≡ true → (a ≡ false) × (b ≡ true)
-goes-on true b h = absurd (true≢false (sym h))
-goes-on false b h = (refl, h)
+-- ---- what the records of a part leave
+-- part s, from offset o on, left l: tables t, and its text in front of buffer xs, which is now ys; the rest is not moved yet
+pub record PartLeaves (l : ReplayState) (s : List ℕ) (o : ℕ) (t : Tables) (xs ys : List ℕ) (r : PartPlace) : Type 0 where
+  pub text : Put xs 0 (l .text) ys (r .len)
+  pub rest : drop (r .at) s ≡ l .rest
+  pub inside : r .at ≤ length s
+  pub offset : kept (o + r .at) ≡ l .offset
+  pub count : r .count ≡ l .count
+  pub tables : t ≡ l .tables
+  pub ended : r .ended ≡ l .ended
 
 -- ---- part s from offset o on, after n₀ records, with tables t₀ and buffer xs
 -- where nothing follows
@@ -63,7 +69,8 @@ module _ (last : Bool) (s : List ℕ) (o n₀ : ℕ) (t₀ : Tables) (xs : List 
   -- a read, and what follows it
   read-last : (f : Read) (at n : ℕ) (t : Tables) → f ≡ readIn (versionBy (t .state)) s at → readable last s at ≡ true
       → partAt last s o at n t
-      ≡ textBefore (readResult f s o n t .text) (rest (readResult f s o n t .ended) (readResult f s o n t .at) (readResult f s o n t .count) (readResult f s o n t .tables))
+      ≡ textBefore (readResult f s o n t .text)
+      (rest (readResult f s o n t .ended) (readResult f s o n t .at) (readResult f s o n t .count) (readResult f s o n t .tables))
   unfolding readResult
   read-last (Record number start) at n t e h = part-step last s o at n t ∙ rw (h, ← e)
   read-last End at n t e h = part-step last s o at n t ∙ rw (h, ← e, append-nil)
@@ -85,12 +92,11 @@ module _ (last : Bool) (s : List ℕ) (o n₀ : ℕ) (t₀ : Tables) (xs : List 
   read-near (Version k) at n t e = (omega arith, (λ h. refl, omega arith))
 
   module _ {t : Tables} {ys : List ℕ} {p : PartPlace} (w : Sofar t ys p) where
-    module _ (on : (not (p .ended) && readable last s (p .at)) ≡ true) {u : Tables} {zs : List ℕ} {r : PartPlace}
+    module _ (on : p .ended ≡ false) (can : readable last s (p .at) ≡ true) {u : Tables} {zs : List ℕ} {r : PartPlace}
         (g : ReadLeaves (readResult (readIn (versionBy (t .state)) s (p .at)) s o (p .count) t) u ys (p .len) zs r) where
-      going : (p .ended ≡ false) × (readable last s (p .at) ≡ true)
-      going = goes-on (p .ended) (readable last s (p .at)) on
-
-      near : Near (p .at) (readResult (readIn (versionBy (t .state)) s (p .at)) s o (p .count) t .at) (readResult (readIn (versionBy (t .state)) s (p .at)) s o (p .count) t .ended)
+      near :
+          Near (p .at) (readResult (readIn (versionBy (t .state)) s (p .at)) s o (p .count) t .at)
+          (readResult (readIn (versionBy (t .state)) s (p .at)) s o (p .count) t .ended)
       near = read-near (readIn (versionBy (t .state)) s (p .at)) (p .at) (p .count) t refl
 
       -- one read more
@@ -101,35 +107,36 @@ module _ (last : Bool) (s : List ℕ) (o n₀ : ℕ) (t₀ : Tables) (xs : List 
             put = put-more (w .put) (g .line);
             whole =
                 w .whole
-                ∙ rw (going .0, read-last (readIn (versionBy (t .state)) s (p .at)) (p .at) (p .count) t refl (going .1), g .at, g .count, g .tables, g .ended) (simp append-assoc);
+                ∙ rw (on, read-last (readIn (versionBy (t .state)) s (p .at)) (p .at) (p .count) t refl can, g .at, g .count, g .tables, g .ended)
+                (simp append-assoc);
             inside = rw (g .at) (near .0);
             over = λ k. g .at ∙ near .1 .0 (sym (g .ended) ∙ k);
           }
 
       -- and less is left
       pub sofar-less : length s - r .at + bit (not (r .ended)) < length s - p .at + bit (not (p .ended))
-      sofar-less = rw (going .0, g .at, g .ended) (near .1 .1)
+      sofar-less = rw (on, g .at, g .ended) (near .1 .1)
 
-    -- the replay has ended, or too few bytes are left
-    pub sofar-stops : (not (p .ended) && readable last s (p .at)) ≡ false → PartLeaves (partOf last s o n₀ t₀) s o t xs ys p
-    sofar-stops = stops (p .ended) refl
-      where
-        stops : (b : Bool) → p .ended ≡ b → (not b && readable last s (p .at)) ≡ false → PartLeaves (partOf last s o n₀ t₀) s o t xs ys p
-        stops true e h =
-            rw (w .whole, e)
-            (record {
-              text = rw append-nil (w .put);
-              rest = rw (w .over e) (drop-length s);
-              inside = w .inside;
-              offset = rw (w .over e);
-              count = refl;
-              tables = refl;
-              ended = refl;
-            })
-        stops false e h =
-            let l : partAt last s o (p .at) (p .count) t ≡ waiting s o (p .at) (p .count) t = part-step last s o (p .at) (p .count) t ∙ rw h in
-            rw (w .whole, e, l)
-            (record { text = rw append-nil (w .put); rest = refl; inside = w .inside; offset = refl; count = refl; tables = refl; ended = refl })
+    -- the replay has ended
+    pub sofar-ended : p .ended ≡ true → PartLeaves (partOf last s o n₀ t₀) s o t xs ys p
+    sofar-ended e =
+        rw (w .whole, e)
+        (record {
+          text = rw append-nil (w .put);
+          rest = rw (w .over e) (drop-length s);
+          inside = w .inside;
+          offset = rw (w .over e);
+          count = refl;
+          tables = refl;
+          ended = refl;
+        })
+
+    -- too few bytes are left
+    pub sofar-waits : p .ended ≡ false → readable last s (p .at) ≡ false → PartLeaves (partOf last s o n₀ t₀) s o t xs ys p
+    sofar-waits e h =
+        let l : partAt last s o (p .at) (p .count) t ≡ waiting s o (p .at) (p .count) t = part-step last s o (p .at) (p .count) t ∙ rw h in
+        rw (w .whole, e, l)
+        (record { text = rw append-nil (w .put); rest = refl; inside = w .inside; offset = refl; count = refl; tables = refl; ended = refl })
 
 -- ---- a turn: the text fits, and the rest is in front
 -- what is stored in front stands there

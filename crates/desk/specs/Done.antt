@@ -1,5 +1,5 @@
 -- What the code of a replay leaves behind: the answer, the text in its buffer and the lent tables at exit.
-use Prim.Native.Nat.{ℕ, _+_, _≤_}
+use Prim.Native.Nat.{ℕ, _+_}
 use mathlib.Core.Path.{_≡_}
 use mathlib.Core.List.{List}
 use lib.ListN.{length, take, drop}
@@ -7,7 +7,6 @@ use lib.Seq.{sets}
 use denote.Ref.{now}
 use Rattle.rules.specs.declared.Tables.{Tables}
 use Rattle.tables.specs.Lent.{Over}
-use Rattle.text.specs.Put.{Put}
 use Rattle.desk_parts.specs.Part.{kept, ReplayState}
 use Rattle.desk_reads.specs.declared.PartPlace.{PartPlace}
 use Rattle.desk.specs.declared.Progress.{Progress}
@@ -15,16 +14,6 @@ use Rattle.desk.specs.declared.Progress.{Progress}
 -- what a replay has come to where records of a part at an offset stopped, with so many bytes that wait
 abbrev pub comeTo : ℕ → PartPlace → ℕ → Progress
 comeTo o r held = record { held = held; offset = kept (o + r .at); count = r .count; len = r .len; ended = r .ended }
-
--- part s, from offset o on, left l: tables t, and its text in front of buffer xs, which is now ys; the rest is not moved yet
-pub record PartLeaves (l : ReplayState) (s : List ℕ) (o : ℕ) (t : Tables) (xs ys : List ℕ) (r : PartPlace) : Type 0 where
-  pub text : Put xs 0 (l .text) ys (r .len)
-  pub rest : drop (r .at) s ≡ l .rest
-  pub inside : r .at ≤ length s
-  pub offset : kept (o + r .at) ≡ l .offset
-  pub count : r .count ≡ l .count
-  pub tables : t ≡ l .tables
-  pub ended : r .ended ≡ l .ended
 
 -- ---- what is handed from turn to turn
 -- tables t, the bytes that wait in front of part ps, the text in front of buffer xs, and p, as one value

@@ -20,55 +20,12 @@ ghost use lib.Dec.{eqb};
 ghost use lib.ListN.{length, take, drop};
 ghost use lib.Seq.{sets};
 ghost use Rattle.tables.specs.Lent.{lent, old, new, tablesOld, tablesNew};
-ghost use Rattle.desk_parts.specs.Part.{partOf, turn, start};
+ghost use Rattle.desk_parts.specs.Part.{turn, start};
 ghost use Rattle.kernel.specs.Safe.{Safe};
-ghost use Rattle.desk.specs.Done.{comeTo, progressOf, PartLeaves, had, came, Turns};
+ghost use Rattle.desk.specs.Done.{comeTo, progressOf, had, came, Turns};
 
 // A part of a log: the bytes that waited, and those that came.
 pub type Part = [u8; 2560];
-
-// The records of a part that starts at an offset of the log, after `count` others.
-fn records(
-    tasks: &mut Tasks,
-    lines: &mut Lines,
-    semaphores: &mut Semaphores,
-    events: &mut Events,
-    mailboxes: &mut Mailboxes,
-    swis: &mut Swis,
-    clocks: &mut Clocks,
-    heap: &mut Heap,
-    state: &mut State,
-    log: &[u8],
-    last: bool,
-    offset: u64,
-    count: u64,
-    out: &mut Text,
-) -> PartPlace
-    requires { ⌜ Safe (lent tasks lines semaphores events mailboxes swis clocks heap state) ⌝ }
-    ensures { λ r. ⌜ PartLeaves (partOf last (old log) offset count (tablesOld tasks lines semaphores events mailboxes swis clocks heap state))
-        (old log) offset (tablesNew tasks lines semaphores events mailboxes swis clocks heap state) (old out) (new out) r ⌝ }
-    ensures { λ _. ⌜ Safe (tablesNew tasks lines semaphores events mailboxes swis clocks heap state) ⌝ }
-{
-    let mut ran = place_at(0, count, 0, false);
-    while !ran.ended & (last | (20 <= log.len() - ran.at)) {
-        ran = next_line(
-            tasks,
-            lines,
-            semaphores,
-            events,
-            mailboxes,
-            swis,
-            clocks,
-            heap,
-            state,
-            log,
-            offset,
-            ran,
-            out,
-        );
-    }
-    ran
-}
 
 // Of the first n bytes, those from `at` on to the front; how many they are.
 pub fn to_front(part: &mut [u8], at: usize, n: usize) -> usize
@@ -161,21 +118,23 @@ pub fn replay_part(
     let n = end_of(p.held, more);
     let log = text::front(part, n);
     begin(state, log, p.count);
-    let ran = records(
-        tasks,
-        lines,
-        semaphores,
-        events,
-        mailboxes,
-        swis,
-        clocks,
-        heap,
-        state,
-        log,
-        more == 0,
-        p.offset,
-        p.count,
-        out,
-    );
+    let mut ran = place_at(0, p.count, 0, false);
+    while !ran.ended && ((more == 0) | (20 <= log.len() - ran.at)) {
+        ran = next_line(
+            tasks,
+            lines,
+            semaphores,
+            events,
+            mailboxes,
+            swis,
+            clocks,
+            heap,
+            state,
+            log,
+            p.offset,
+            ran,
+            out,
+        );
+    }
     come_to(p.offset, ran, to_front(part, ran.at, n))
 }

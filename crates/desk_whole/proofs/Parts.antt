@@ -194,7 +194,9 @@ module _ (w xs : List ℕ) where
               record {
                 text = v .text ++ next .text;
                 put = put-next;
-                size = ap length (turned .part) ∙ length-sets qs 0 (next .rest) ∙ ap length (n .bytes) ∙ length-sets ps (p .held) (fitting 2560 (p .held) (drop from w)) ∙ v .size;
+                size =
+                    ap length (turned .part) ∙ length-sets qs 0 (next .rest) ∙ ap length (n .bytes)
+                    ∙ length-sets ps (p .held) (fitting 2560 (p .held) (drop from w)) ∙ v .size;
                 few = few-wait;
                 inside = further;
                 whole = λ cs e.

@@ -1,3 +1,4 @@
 pub mod Starts
 pub mod Threads
 pub mod Lists
+pub mod Tested

@@ -1,5 +1,5 @@
 // The entries: any tables, any number, any arguments. What they promise of a call is `Promised`, and of a list of calls `PromisedList` (demands/specs): the
-// whole answer, demand 1, and from sound tables demand 2.
+// whole answer, demand 1, and from sound tables demand 2. On lent tables that is said by specs/InPlace.
 use kernel::Said;
 use rules::Call;
 use rules::Clocks;
@@ -17,17 +17,18 @@ use rules::Thread;
 ghost use mathlib.Core.Path.{_≡_};
 ghost use Prim.Native.Nat.{_*_, _≤_};
 ghost use lib.ListN.{length};
-ghost use Rattle.rules.specs.Answer.{answer, asked};
+ghost use Rattle.rules.specs.Answer.{answer};
 ghost use Rattle.rules.specs.Fresh.{madeFresh};
-ghost use Rattle.rules.specs.Sound.{Sound, sound as isSound};
+ghost use Rattle.rules.specs.Sound.{Sound};
 ghost use Rattle.rules.specs.Step.{stepOf};
-ghost use Rattle.runs.specs.CallList.{callsIn, callsOf, answerWords, handed};
-ghost use Rattle.demands.specs.Lists.{PromisedList};
+ghost use Rattle.rules.specs.declared.Thread.the-variants.{Task};
+ghost use Rattle.runs.specs.CallList.{callsIn, callsOf, answerWords};
 ghost use Rattle.demands.specs.One.{threadOf};
 ghost use Rattle.demands.specs.Promised.{Promised};
 ghost use Rattle.kernel.specs.Safe.{Safe};
 ghost use Rattle.call_lists.specs.Made.{ListMade};
 ghost use Rattle.tables.specs.Lent.{old, new, tablesOld, tablesNew};
+ghost use Rattle.entries.specs.InPlace.{PromisedInPlace, ListPromisedInPlace};
 
 // Fresh tables with 16 levels or 32: they are sound. No. 14: 'fresh tables asked for with other levels are 4 and come with 16'.
 pub fn fresh(levels: u32) -> Step
@@ -48,7 +49,24 @@ pub fn fresh(levels: u32) -> Step
     }
 }
 
-// One call on lent tables: code 10 and no change where they are not sound.
+// What is said by a code alone, of a thread that runs.
+fn with_code(code: u32, thread: Thread) -> Said
+    ensures { λ r. ⌜ (r .answer ≡ answer code 0 0) × (r .thread ≡ thread) ⌝ }
+{
+    Said {
+        answer: answers::refused(code),
+        thread,
+    }
+}
+
+// What is said of tables that are not sound: code 10, and T0.
+fn unsound() -> Said
+    ensures { λ r. ⌜ (r .answer ≡ answer 10 0 0) × (r .thread ≡ Task 0) ⌝ }
+{
+    with_code(10, Thread::Task(0))
+}
+
+// One call on lent tables: they are tested first, and nothing changes where they are not sound.
 pub fn call_in_place(
     tasks: &mut Tasks,
     lines: &mut Lines,
@@ -59,16 +77,11 @@ pub fn call_in_place(
     clocks: &mut Clocks,
     heap: &mut Heap,
     state: &mut State,
-    number: u32,
-    a: u32,
-    b: u32,
-    c: u32,
-    d: u32,
+    q: Call,
 ) -> Said
-    ensures { λ r. ⌜ Promised (tablesOld tasks lines semaphores events mailboxes swis clocks heap state) (asked number a b c d)
-        (stepOf (tablesNew tasks lines semaphores events mailboxes swis clocks heap state) (r .answer) (r .thread)) ⌝ }
+    ensures { λ r. ⌜ PromisedInPlace tasks lines semaphores events mailboxes swis clocks heap state q r ⌝ }
 {
-    tested::tested_call(
+    if !sound::is_sound(
         tasks,
         lines,
         semaphores,
@@ -78,7 +91,20 @@ pub fn call_in_place(
         clocks,
         heap,
         state,
-        Call { number, a, b, c, d },
+    ) {
+        return unsound();
+    }
+    kernel::step(
+        tasks,
+        lines,
+        semaphores,
+        events,
+        mailboxes,
+        swis,
+        clocks,
+        heap,
+        state,
+        q,
     )
 }
 
@@ -121,18 +147,9 @@ fn make_calls(
     }
 }
 
-// What is said of a list as a whole.
-fn of_list(code: u32, thread: Thread) -> Said
-    ensures { λ r. ⌜ (r .answer ≡ answer code 0 0) × (r .thread ≡ thread) ⌝ }
-{
-    Said {
-        answer: answers::refused(code),
-        thread,
-    }
-}
-
-// A list of calls on tables that were tested: code 10 where they are not sound, then code 4 where the list is bad; nothing is done then.
-fn hand_over(
+// Many calls at once on lent tables, which are tested once: up to 256 calls, five words to a call, and three words for the answer to each (request No. 4).
+// Code 10 where they are not sound, then code 4 where the list is bad; nothing is done then.
+pub fn call_list(
     tasks: &mut Tasks,
     lines: &mut Lines,
     semaphores: &mut Semaphores,
@@ -144,19 +161,27 @@ fn hand_over(
     state: &mut State,
     calls: &[u32],
     answers: &mut [u32],
-    sound: bool,
 ) -> Said
-    ensures { λ r. ⌜ (sound ≡ isSound (tablesOld tasks lines semaphores events mailboxes swis clocks heap state)
-        → PromisedList (tablesOld tasks lines semaphores events mailboxes swis clocks heap state) (old calls) (old answers)
-        (handed (tablesNew tasks lines semaphores events mailboxes swis clocks heap state) (new answers) (r .answer) (r .thread))) ⌝ }
+    ensures { λ r. ⌜ ListPromisedInPlace tasks lines semaphores events mailboxes swis clocks heap state calls answers r ⌝ }
 {
+    let sound = sound::is_sound(
+        tasks,
+        lines,
+        semaphores,
+        events,
+        mailboxes,
+        swis,
+        clocks,
+        heap,
+        state,
+    );
     let bad = call_lists::is_bad(calls.len(), answers.len());
     let running = dispatch::running(lines, state);
     if !sound {
-        return tested::unsound();
+        return unsound();
     }
     if bad {
-        return of_list(4, running);
+        return with_code(4, running);
     }
     make_calls(
         tasks,
@@ -172,51 +197,7 @@ fn hand_over(
         answers,
     );
     let last = dispatch::running(lines, state);
-    of_list(0, last)
-}
-
-// Many calls at once on lent tables, which are tested once: up to 256 calls, five words to a call, and three words for the answer to each (request No. 4).
-pub fn call_list(
-    tasks: &mut Tasks,
-    lines: &mut Lines,
-    semaphores: &mut Semaphores,
-    events: &mut Events,
-    mailboxes: &mut Mailboxes,
-    swis: &mut Swis,
-    clocks: &mut Clocks,
-    heap: &mut Heap,
-    state: &mut State,
-    calls: &[u32],
-    answers: &mut [u32],
-) -> Said
-    ensures { λ r. ⌜ PromisedList (tablesOld tasks lines semaphores events mailboxes swis clocks heap state) (old calls) (old answers)
-        (handed (tablesNew tasks lines semaphores events mailboxes swis clocks heap state) (new answers) (r .answer) (r .thread)) ⌝ }
-{
-    let sound = sound::is_sound(
-        tasks,
-        lines,
-        semaphores,
-        events,
-        mailboxes,
-        swis,
-        clocks,
-        heap,
-        state,
-    );
-    hand_over(
-        tasks,
-        lines,
-        semaphores,
-        events,
-        mailboxes,
-        swis,
-        clocks,
-        heap,
-        state,
-        calls,
-        answers,
-        sound,
-    )
+    with_code(0, last)
 }
 
 // The tables, and what was said.
@@ -233,8 +214,8 @@ fn stepped(tables: Tables, said: Said) -> Step
 }
 
 // One call on tables by value.
-pub fn call(t: Tables, number: u32, a: u32, b: u32, c: u32, d: u32) -> Step
-    ensures { λ r. ⌜ Promised t (asked number a b c d) r ⌝ }
+pub fn call(t: Tables, q: Call) -> Step
+    ensures { λ r. ⌜ Promised t q r ⌝ }
 {
     let mut tasks = t.tasks;
     let mut lines = t.lines;
@@ -245,7 +226,7 @@ pub fn call(t: Tables, number: u32, a: u32, b: u32, c: u32, d: u32) -> Step
     let mut clocks = t.clocks;
     let mut heap = t.heap;
     let mut state = t.state;
-    let said = tested::tested_call(
+    let said = call_in_place(
         &mut tasks,
         &mut lines,
         &mut semaphores,
@@ -255,7 +236,7 @@ pub fn call(t: Tables, number: u32, a: u32, b: u32, c: u32, d: u32) -> Step
         &mut clocks,
         &mut heap,
         &mut state,
-        Call { number, a, b, c, d },
+        q,
     );
     let tables = Tables {
         tasks,

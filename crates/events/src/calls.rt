@@ -2,6 +2,7 @@
 use super::table::free_event;
 use super::table::put_event;
 use rules::Answer;
+use rules::Call;
 use rules::Events;
 use rules::Lines;
 use rules::numbers::DONE;
@@ -10,7 +11,7 @@ use rules::numbers::EVENT_ROWS;
 use rules::numbers::T;
 use rules::numbers::USED;
 ghost use mathlib.Core.Path.{_≡_};
-ghost use Rattle.rules.specs.Answer.{withAnswer, answered, codeOf};
+ghost use Rattle.rules.specs.Answer.{withAnswer, answered, codeOf, _by_};
 ghost use Rattle.rules.specs.Waits.{waitTables};
 ghost use Rattle.rules.specs.Events.{createCases, createEffect, deleteCases, deleteEffect, createCall, deleteCall};
 ghost use Rattle.tables.specs.Lent.{old, new};
@@ -42,11 +43,11 @@ pub fn create_effect(events: &mut Events) -> Answer
     answers::accepted(DONE, i as u32)
 }
 
-pub fn create(events: &mut Events, x: u32, a: u32, b: u32, c: u32, d: u32) -> Answer
+pub fn create(events: &mut Events, x: u32, q: Call) -> Answer
     ensures { λ r. ⌜ ((ts : TaskTable) (ls : LineTable) → withAnswer r (waitTables ts ls (new events))
-        ≡ answered (waitTables ts ls (old events)) (createCall (waitTables ts ls (old events)) x a b c d)) ⌝ }
+        ≡ answered (waitTables ts ls (old events)) (createCall (waitTables ts ls (old events)) x by q)) ⌝ }
 {
-    let code = create_code(events, x, a, b, c, d);
+    let code = create_code(events, x, q.a, q.b, q.c, q.d);
     if code != 0 {
         return answers::refused(code);
     }
@@ -82,13 +83,13 @@ pub fn delete_effect(events: &mut Events, a: u32) -> Answer
     answers::accepted(DONE, 0)
 }
 
-pub fn delete(lines: &Lines, events: &mut Events, x: u32, a: u32, b: u32, c: u32, d: u32) -> Answer
+pub fn delete(lines: &Lines, events: &mut Events, x: u32, q: Call) -> Answer
     ensures { λ r. ⌜ ((ts : TaskTable) → withAnswer r (waitTables ts (old lines) (new events))
-        ≡ answered (waitTables ts (old lines) (old events)) (deleteCall (waitTables ts (old lines) (old events)) x a b c d)) ⌝ }
+        ≡ answered (waitTables ts (old lines) (old events)) (deleteCall (waitTables ts (old lines) (old events)) x by q)) ⌝ }
 {
-    let code = delete_code(lines, events, x, a, b, c, d);
+    let code = delete_code(lines, events, x, q.a, q.b, q.c, q.d);
     if code != 0 {
         return answers::refused(code);
     }
-    delete_effect(events, a)
+    delete_effect(events, q.a)
 }

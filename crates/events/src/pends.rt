@@ -1,5 +1,6 @@
 // 32 pend: its code, 0 where it is accepted; its effect where it is; and the call.
 use rules::Answer;
+use rules::Call;
 use rules::Events;
 use rules::Lines;
 use rules::State;
@@ -12,7 +13,7 @@ use rules::numbers::NOT_MET;
 use rules::numbers::NOW_WAITING;
 use rules::numbers::USED;
 ghost use mathlib.Core.Path.{_≡_};
-ghost use Rattle.rules.specs.Answer.{withAnswer, answered, codeOf};
+ghost use Rattle.rules.specs.Answer.{withAnswer, answered, codeOf, _by_};
 ghost use Rattle.rules.specs.Tables.{event, BITS};
 ghost use Rattle.rules.specs.Events.{matched, pendWaits, pendCases, pendEffect, pendCall};
 ghost use Rattle.tables.specs.Lent.{old, waitTablesOld, waitTablesNew};
@@ -33,36 +34,24 @@ pub fn pend_waits(events: &Events, a: u32, b: u32, c: u32, limit: u32) -> bool
     (event_match(events, a, b, c) == 0) & (limit != 0)
 }
 
-pub fn pend_code(
-    lines: &Lines,
-    events: &Events,
-    state: &State,
-    x: u32,
-    a: u32,
-    b: u32,
-    c: u32,
-    d: u32,
-) -> u32
-    ensures { λ r. ⌜ r ≡ codeOf (pendCases (old lines) (old events) (old state) x a b c d) ⌝ }
+pub fn pend_code(lines: &Lines, events: &Events, state: &State, x: u32, q: Call) -> u32
+    ensures { λ r. ⌜ r ≡ codeOf (pendCases (old lines) (old events) (old state) x by q) ⌝ }
 {
-    if moves::begins::outside(x, d) {
+    if moves::begins::outside(x, q.d) {
         return 2;
     }
-    let i = a as usize;
+    let i = q.a as usize;
     if rows::event(events, i, USED) == 0 {
-        return answers::absent_code(a, rules::numbers::EVENT_COUNT);
+        return answers::absent_code(q.a, rules::numbers::EVENT_COUNT);
     }
-    if (b == 0) & (c == 0) {
+    if (q.b == 0) & (q.c == 0) {
         return 4;
     }
-    let begins = pend_waits(events, a, b, c, d);
-    if (0 < lines::len(lines, EVENT_LINES + i)) | (begins & moves::begins::idle(state)) {
+    if 0 < lines::len(lines, EVENT_LINES + i) {
         return 5;
     }
-    if begins & moves::begins::switch_off(state) {
-        return 9;
-    }
-    0
+    let begins = pend_waits(events, q.a, q.b, q.c, q.d);
+    moves::begins::wait_code(state, begins)
 }
 
 // Any matched: they are cleared and are the value. Else not met, or the current task waits.
@@ -98,17 +87,14 @@ pub fn pend(
     events: &mut Events,
     state: &State,
     x: u32,
-    a: u32,
-    b: u32,
-    c: u32,
-    d: u32,
+    q: Call,
 ) -> Answer
     ensures { λ r. ⌜ withAnswer r (waitTablesNew tasks lines events)
-        ≡ answered (waitTablesOld tasks lines events) (pendCall (waitTablesOld tasks lines events) (old state) x a b c d) ⌝ }
+        ≡ answered (waitTablesOld tasks lines events) (pendCall (waitTablesOld tasks lines events) (old state) x by q) ⌝ }
 {
-    let code = pend_code(lines, events, state, x, a, b, c, d);
+    let code = pend_code(lines, events, state, x, q);
     if code != 0 {
         return answers::refused(code);
     }
-    pend_effect(tasks, lines, events, state, a, b, c, d)
+    pend_effect(tasks, lines, events, state, q.a, q.b, q.c, q.d)
 }

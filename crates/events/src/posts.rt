@@ -1,5 +1,6 @@
 // 33 post: its code, 0 where it is accepted; its effect where it is; and the call.
 use rules::Answer;
+use rules::Call;
 use rules::Events;
 use rules::Lines;
 use rules::Tasks;
@@ -8,7 +9,7 @@ use rules::numbers::DONE;
 use rules::numbers::EVENT_LINES;
 use rules::numbers::USED;
 ghost use mathlib.Core.Path.{_≡_};
-ghost use Rattle.rules.specs.Answer.{withAnswer, answered, codeOf};
+ghost use Rattle.rules.specs.Answer.{withAnswer, answered, codeOf, _by_};
 ghost use Rattle.rules.specs.Events.{waiterMatch, postedBits, postCases, postEffect, postCall};
 ghost use Rattle.tables.specs.Lent.{old, waitTablesOld, waitTablesNew};
 
@@ -71,21 +72,13 @@ pub fn post_effect(
     post_bits(tasks, lines, events, a, bits | mask)
 }
 
-pub fn post(
-    tasks: &mut Tasks,
-    lines: &mut Lines,
-    events: &mut Events,
-    a: u32,
-    b: u32,
-    c: u32,
-    d: u32,
-) -> Answer
+pub fn post(tasks: &mut Tasks, lines: &mut Lines, events: &mut Events, q: Call) -> Answer
     ensures { λ r. ⌜ withAnswer r (waitTablesNew tasks lines events)
-        ≡ answered (waitTablesOld tasks lines events) (postCall (waitTablesOld tasks lines events) a b c d) ⌝ }
+        ≡ answered (waitTablesOld tasks lines events) (postCall (waitTablesOld tasks lines events) by q) ⌝ }
 {
-    let code = post_code(events, a, c, d);
+    let code = post_code(events, q.a, q.c, q.d);
     if code != 0 {
         return answers::refused(code);
     }
-    post_effect(tasks, lines, events, a, b)
+    post_effect(tasks, lines, events, q.a, q.b)
 }

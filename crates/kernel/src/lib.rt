@@ -74,11 +74,7 @@ pub fn step(
         clocks,
         heap,
         state,
-        asked.number,
-        asked.a,
-        asked.b,
-        asked.c,
-        asked.d,
+        asked,
     );
     let said = answers::named(asked.number, answer);
     dispatch_after::settle(asked.number, answer, swis, lines, state);

@@ -30,8 +30,11 @@ module _ (s : List ℕ) (bytes : Bytes s) (start : ℕ) where
         part-byte s bytes start (n * 4 + 2 + 1) (omega arith),
       )
 
-  pub record-words : (number : ℕ)
-      → Words (asked number (argument (argumentBytes s start) 0) (argument (argumentBytes s start) 1) (argument (argumentBytes s start) 2) (argument (argumentBytes s start) 3))
+  -- argument n of the record
+  abbrev word : ℕ → ℕ
+  word n = argument (argumentBytes s start) n
+
+  pub record-words : (number : ℕ) → Words (asked number (word 0) (word 1) (word 2) (word 3))
   record-words number =
       record {
         a = argument-word 0 (omega arith);

@@ -24,7 +24,8 @@ use Rattle.rules_laws.proofs.Levels.{dispatch-keeps, step-keeps}
 use Rattle.demand_2_soundness.proofs.Keeps.{step-typed, step-sound}
 use Rattle.demand_2_soundness.proofs.Raised.{raised-levels, raised-swi-due, raised-task-due, raised-front, raised-sound}
 use Rattle.log_twins.specs.Twin.{LowCall, CallsAlike}
-use Rattle.log_twins.proofs.KindCalls.{alike, levels-few, context-same, running-same, tasks-alike, swis-alike, semaphores-alike, events-alike, mailboxes-alike}
+use Rattle.log_twins.proofs.KindCalls.{alike, levels-few, context-same, running-same, tasks-alike, swis-alike, semaphores-alike, events-alike}
+use Rattle.log_twins.proofs.KindCalls.{mailboxes-alike}
 use Rattle.log_twins.proofs.Switched.{store-aside, switches-alike}
 
 -- ---- the call before dispatch
@@ -113,7 +114,8 @@ finished-alike number r fits =
     let x : DispatchTables = settled (r .answer .code) (r .next .swis) (r .next .lines) (r .next .state) in
     rw (settled-alike (r .answer .code) (r .next .swis) (r .next .lines) (r .next .state) fits, running-same (x .state) (x .lines))
 
-module _ (t : Tables) (typed : Typed t) (s : Sound t) (few : state (t .state) LEVELS ≡ fewLevels) (number a b c d : ℕ) (w : Words (asked number a b c d)) (low : LowCall number a b) where
+module _ (t : Tables) (typed : Typed t) (s : Sound t) (few : state (t .state) LEVELS ≡ fewLevels) (number a b c d : ℕ)
+    (w : Words (asked number a b c d)) (low : LowCall number a b) where
   step-fits : Fits (step t number a b c d .tables .lines) (step t number a b c d .tables .state)
   step-fits =
       sound-fits (step t number a b c d .tables) (step-typed t typed s number a b c d w) (step-sound t typed s number a b c d w)

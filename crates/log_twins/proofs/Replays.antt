@@ -63,7 +63,8 @@ module _ (s w : List ℕ) (bytes : Bytes s) (twins : Twins s w) (low : LowLog s)
       let q : Call = asked number (argument bs 0) (argument bs 1) (argument bs 2) (argument bs 3) in
       let words : Words q = record-words s bytes start number in
       rw (same, calls-alike t (f .typed) (f .sound) (f .levels) q words (low .records at number start begins e))
-      (ap (λ ls. lineText (suc n) (made t q .answer) (made t q .thread) ∷ ls) (rest (start + argumentsLength) (suc n) (next t q) (omega arith) (next-few t f q words)))
+      (ap (λ ls. lineText (suc n) (made t q .answer) (made t q .thread) ∷ ls)
+      (rest (start + argumentsLength) (suc n) (next t q) (omega arith) (next-few t f q words)))
   first-alike k at n t begins f rest End e = refl
   first-alike k at n t begins f rest (Cut o) e = refl
   first-alike k at n t begins f rest (Length o) e = refl

@@ -205,14 +205,14 @@ module _ (ms : List ℕ) (i : ℕ) where
       ∙ ap (sets ms (i * mailboxWidth)) (replicate-append-replicate k 1 0)
 
   pub row-is : (x k : ℕ) {now : List ℕ} → i < mailboxCount → now ≡ sets ms (i * mailboxWidth) (zeros k) → k ≤ mailboxWidth → mailboxWidth ≤ k
-      → set now (i * mailboxWidth) x ≡ mailboxRow ms i (x ∷ zeros (1 + mailboxMost))
+      → set now (i * mailboxWidth) x ≡ mailboxRow ms i (x ∷ zeros (mailboxWidth - 1))
   row-is x k h e p q =
       let s : k ≡ mailboxWidth = omega arith in
       let z : i * mailboxWidth ≡ i * mailboxWidth + 0 = omega arith in
       ap (λ (l : List ℕ). set l (i * mailboxWidth) x) (e ∙ ap (λ (n : ℕ). sets ms (i * mailboxWidth) (zeros n)) s)
       ∙ ap (λ (n : ℕ). set (sets ms (i * mailboxWidth) (zeros mailboxWidth)) n x) z
       ∙ sets-set (zeros mailboxWidth) ms (i * mailboxWidth) 0 x (omega arith)
-      ∙ sym (withRow-in mailboxWidth mailboxCount ms i (x ∷ zeros (1 + mailboxMost)) h)
+      ∙ sym (withRow-in mailboxWidth mailboxCount ms i (x ∷ zeros (mailboxWidth - 1)) h)
 
-  pub no-row : (x : ℕ) → mailboxCount ≤ i → ms ≡ mailboxRow ms i (x ∷ zeros (1 + mailboxMost))
-  no-row x h = sym (withRow-out mailboxWidth mailboxCount ms i (x ∷ zeros (1 + mailboxMost)) h)
+  pub no-row : (x : ℕ) → mailboxCount ≤ i → ms ≡ mailboxRow ms i (x ∷ zeros (mailboxWidth - 1))
+  no-row x h = sym (withRow-out mailboxWidth mailboxCount ms i (x ∷ zeros (mailboxWidth - 1)) h)

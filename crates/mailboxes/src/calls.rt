@@ -3,6 +3,7 @@ use super::table::free_mailbox;
 use super::table::put_mailbox;
 use super::waiters::anyone;
 use rules::Answer;
+use rules::Call;
 use rules::Lines;
 use rules::Mailboxes;
 use rules::numbers::CAPACITY;
@@ -12,7 +13,7 @@ use rules::numbers::MAILBOX_ROWS;
 use rules::numbers::MESSAGES;
 use rules::numbers::T;
 ghost use mathlib.Core.Path.{_≡_};
-ghost use Rattle.rules.specs.Answer.{withAnswer, answered, codeOf};
+ghost use Rattle.rules.specs.Answer.{withAnswer, answered, codeOf, _by_};
 ghost use Rattle.rules.specs.Waits.{waitTables};
 ghost use Rattle.rules.specs.Mailboxes.{createCases, createEffect, deleteCases, deleteEffect, createCall, deleteCall};
 ghost use Rattle.tables.specs.Lent.{old, new};
@@ -47,42 +48,35 @@ pub fn create_effect(mailboxes: &mut Mailboxes, a: u32) -> Answer
 }
 
 // Call 40.
-pub fn create(mailboxes: &mut Mailboxes, x: u32, a: u32, b: u32, c: u32, d: u32) -> Answer
+pub fn create(mailboxes: &mut Mailboxes, x: u32, q: Call) -> Answer
     ensures { λ r. ⌜ ((ts : TaskTable) (ls : LineTable) → withAnswer r (waitTables ts ls (new mailboxes))
-        ≡ answered (waitTables ts ls (old mailboxes)) (createCall (waitTables ts ls (old mailboxes)) x a b c d)) ⌝ }
+        ≡ answered (waitTables ts ls (old mailboxes)) (createCall (waitTables ts ls (old mailboxes)) x by q)) ⌝ }
 {
-    let code = create_code(mailboxes, x, a, b, c, d);
+    let code = create_code(mailboxes, x, q.a, q.b, q.c, q.d);
     if code != 0 {
         return answers::refused(code);
     }
-    create_effect(mailboxes, a)
+    create_effect(mailboxes, q.a)
 }
 
 // ---- 41 delete (T): 5 with waiters or messages
 
 // The code of call 41.
-pub fn delete_code(
-    lines: &Lines,
-    mailboxes: &Mailboxes,
-    x: u32,
-    a: u32,
-    b: u32,
-    c: u32,
-    d: u32,
-) -> u32
-    ensures { λ r. ⌜ r ≡ codeOf (deleteCases (old lines) (old mailboxes) x a b c d) ⌝ }
+pub fn delete_code(lines: &Lines, mailboxes: &Mailboxes, x: u32, q: Call) -> u32
+    ensures { λ r. ⌜ r ≡ codeOf (deleteCases (old lines) (old mailboxes) x by q) ⌝ }
 {
     if x != T {
         return 2;
     }
-    if rows::mailbox(mailboxes, a as usize, CAPACITY) == 0 {
-        return answers::absent_code(a, rules::numbers::MAILBOX_COUNT);
+    let i = q.a as usize;
+    if rows::mailbox(mailboxes, i, CAPACITY) == 0 {
+        return answers::absent_code(q.a, rules::numbers::MAILBOX_COUNT);
     }
-    if answers::unused(0, b, c, d) {
+    if answers::unused(0, q.b, q.c, q.d) {
         return 4;
     }
-    let n = rows::mailbox(mailboxes, a as usize, MESSAGES);
-    if anyone(lines, a) | (n != 0) {
+    let n = rows::mailbox(mailboxes, i, MESSAGES);
+    if anyone(lines, q.a) | (n != 0) {
         return 5;
     }
     0
@@ -98,21 +92,13 @@ pub fn delete_effect(mailboxes: &mut Mailboxes, a: u32) -> Answer
 }
 
 // Call 41.
-pub fn delete(
-    lines: &Lines,
-    mailboxes: &mut Mailboxes,
-    x: u32,
-    a: u32,
-    b: u32,
-    c: u32,
-    d: u32,
-) -> Answer
+pub fn delete(lines: &Lines, mailboxes: &mut Mailboxes, x: u32, q: Call) -> Answer
     ensures { λ r. ⌜ ((ts : TaskTable) → withAnswer r (waitTables ts (old lines) (new mailboxes))
-        ≡ answered (waitTables ts (old lines) (old mailboxes)) (deleteCall (waitTables ts (old lines) (old mailboxes)) x a b c d)) ⌝ }
+        ≡ answered (waitTables ts (old lines) (old mailboxes)) (deleteCall (waitTables ts (old lines) (old mailboxes)) x by q)) ⌝ }
 {
-    let code = delete_code(lines, mailboxes, x, a, b, c, d);
+    let code = delete_code(lines, mailboxes, x, q);
     if code != 0 {
         return answers::refused(code);
     }
-    delete_effect(mailboxes, a)
+    delete_effect(mailboxes, q.a)
 }

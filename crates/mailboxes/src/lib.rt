@@ -7,12 +7,13 @@ pub mod table;
 pub mod waiters;
 
 use rules::Answer;
+use rules::Call;
 use rules::Lines;
 use rules::Mailboxes;
 use rules::State;
 use rules::Tasks;
 ghost use mathlib.Core.Path.{_≡_};
-ghost use Rattle.rules.specs.Answer.{withAnswer, answered};
+ghost use Rattle.rules.specs.Answer.{withAnswer, answered, _by_};
 ghost use Rattle.rules.specs.Mailboxes.{mailboxCall};
 ghost use Rattle.tables.specs.Lent.{old, waitTablesOld, waitTablesNew};
 
@@ -23,20 +24,17 @@ pub fn mailbox_call(
     mailboxes: &mut Mailboxes,
     state: &State,
     x: u32,
-    number: u32,
-    a: u32,
-    b: u32,
-    c: u32,
-    d: u32,
+    q: Call,
 ) -> Answer
     ensures { λ r. ⌜ withAnswer r (waitTablesNew tasks lines mailboxes)
-        ≡ answered (waitTablesOld tasks lines mailboxes) (mailboxCall (waitTablesOld tasks lines mailboxes) (old state) x number a b c d) ⌝ }
+        ≡ answered (waitTablesOld tasks lines mailboxes) (mailboxCall (waitTablesOld tasks lines mailboxes) (old state) x (q .number) by q) ⌝ }
 {
+    let number = q.number;
     match number {
-        0x40 => calls::create(mailboxes, x, a, b, c, d),
-        0x41 => calls::delete(lines, mailboxes, x, a, b, c, d),
-        0x42 => posts::post(tasks, lines, mailboxes, state, x, a, b, c, d),
-        0x43 => pends::pend(tasks, lines, mailboxes, state, x, a, b, c, d),
+        0x40 => calls::create(mailboxes, x, q),
+        0x41 => calls::delete(lines, mailboxes, x, q),
+        0x42 => posts::post(tasks, lines, mailboxes, state, x, q),
+        0x43 => pends::pend(tasks, lines, mailboxes, state, x, q),
         _ => answers::refused(1),
     }
 }

@@ -7,6 +7,7 @@ use super::waiters::not_done;
 use super::waiters::pend_waits;
 use super::waiters::waits_first;
 use rules::Answer;
+use rules::Call;
 use rules::Lines;
 use rules::Mailboxes;
 use rules::State;
@@ -17,41 +18,27 @@ use rules::numbers::MESSAGES;
 use rules::numbers::READING;
 use rules::numbers::WRITING;
 ghost use mathlib.Core.Path.{_≡_};
-ghost use Rattle.rules.specs.Answer.{withAnswer, answered, codeOf};
+ghost use Rattle.rules.specs.Answer.{withAnswer, answered, codeOf, _by_};
 ghost use Rattle.rules.specs.Mailboxes.{pendCases, oldestTaken, pendEffect, pendCall};
 ghost use Rattle.tables.specs.Lent.{old, waitTablesOld, waitTablesNew};
 
 // ---- 43 pend (mailbox, limit): value the oldest word
 
 // The code of call 43.
-pub fn pend_code(
-    mailboxes: &Mailboxes,
-    state: &State,
-    x: u32,
-    a: u32,
-    b: u32,
-    c: u32,
-    d: u32,
-) -> u32
-    ensures { λ r. ⌜ r ≡ codeOf (pendCases (old mailboxes) (old state) x a b c d) ⌝ }
+pub fn pend_code(mailboxes: &Mailboxes, state: &State, x: u32, q: Call) -> u32
+    ensures { λ r. ⌜ r ≡ codeOf (pendCases (old mailboxes) (old state) x by q) ⌝ }
 {
-    if moves::begins::outside(x, b) {
+    if moves::begins::outside(x, q.b) {
         return 2;
     }
-    if rows::mailbox(mailboxes, a as usize, CAPACITY) == 0 {
-        return answers::absent_code(a, rules::numbers::MAILBOX_COUNT);
+    if rows::mailbox(mailboxes, q.a as usize, CAPACITY) == 0 {
+        return answers::absent_code(q.a, rules::numbers::MAILBOX_COUNT);
     }
-    if answers::unused(0, 0, c, d) {
+    if answers::unused(0, 0, q.c, q.d) {
         return 4;
     }
-    let begins = pend_waits(mailboxes, a, b);
-    if begins & moves::begins::idle(state) {
-        return 5;
-    }
-    if begins & moves::begins::switch_off(state) {
-        return 9;
-    }
-    0
+    let begins = pend_waits(mailboxes, q.a, q.b);
+    moves::begins::wait_code(state, begins)
 }
 
 // The oldest message goes; the first waiting writer's word joins the back, that writer is ready.
@@ -94,17 +81,14 @@ pub fn pend(
     mailboxes: &mut Mailboxes,
     state: &State,
     x: u32,
-    a: u32,
-    b: u32,
-    c: u32,
-    d: u32,
+    q: Call,
 ) -> Answer
     ensures { λ r. ⌜ withAnswer r (waitTablesNew tasks lines mailboxes)
-        ≡ answered (waitTablesOld tasks lines mailboxes) (pendCall (waitTablesOld tasks lines mailboxes) (old state) x a b c d) ⌝ }
+        ≡ answered (waitTablesOld tasks lines mailboxes) (pendCall (waitTablesOld tasks lines mailboxes) (old state) x by q) ⌝ }
 {
-    let code = pend_code(mailboxes, state, x, a, b, c, d);
+    let code = pend_code(mailboxes, state, x, q);
     if code != 0 {
         return answers::refused(code);
     }
-    pend_effect(tasks, lines, mailboxes, state, a, b)
+    pend_effect(tasks, lines, mailboxes, state, q.a, q.b)
 }

@@ -5,6 +5,7 @@ use super::waiters::not_done;
 use super::waiters::post_waits;
 use super::waiters::waits_first;
 use rules::Answer;
+use rules::Call;
 use rules::Lines;
 use rules::Mailboxes;
 use rules::State;
@@ -15,7 +16,7 @@ use rules::numbers::MAILBOX_LINES;
 use rules::numbers::READING;
 use rules::numbers::WRITING;
 ghost use mathlib.Core.Path.{_≡_};
-ghost use Rattle.rules.specs.Answer.{withAnswer, answered, codeOf};
+ghost use Rattle.rules.specs.Answer.{withAnswer, answered, codeOf, _by_};
 ghost use Rattle.rules.specs.Mailboxes.{postCases, postEffect, postCall};
 ghost use Rattle.tables.specs.Lent.{old, waitTablesOld, waitTablesNew};
 
@@ -28,29 +29,21 @@ pub fn post_code(
     mailboxes: &Mailboxes,
     state: &State,
     x: u32,
-    a: u32,
-    c: u32,
-    d: u32,
+    q: Call,
 ) -> u32
-    ensures { λ r. ⌜ r ≡ codeOf (postCases (old tasks) (old lines) (old mailboxes) (old state) x a c d) ⌝ }
+    ensures { λ r. ⌜ r ≡ codeOf (postCases (old tasks) (old lines) (old mailboxes) (old state) x (q .a) (q .c) (q .d)) ⌝ }
 {
-    if moves::begins::outside(x, c) {
+    if moves::begins::outside(x, q.c) {
         return 2;
     }
-    if rows::mailbox(mailboxes, a as usize, CAPACITY) == 0 {
-        return answers::absent_code(a, rules::numbers::MAILBOX_COUNT);
+    if rows::mailbox(mailboxes, q.a as usize, CAPACITY) == 0 {
+        return answers::absent_code(q.a, rules::numbers::MAILBOX_COUNT);
     }
-    if answers::unused(0, 0, 0, d) {
+    if answers::unused(0, 0, 0, q.d) {
         return 4;
     }
-    let begins = post_waits(tasks, lines, mailboxes, a, c);
-    if begins & moves::begins::idle(state) {
-        return 5;
-    }
-    if begins & moves::begins::switch_off(state) {
-        return 9;
-    }
-    0
+    let begins = post_waits(tasks, lines, mailboxes, q.a, q.c);
+    moves::begins::wait_code(state, begins)
 }
 
 // The word goes to the first waiting reader, whose number is the value; or to the back, or the post is not done at once.
@@ -82,17 +75,14 @@ pub fn post(
     mailboxes: &mut Mailboxes,
     state: &State,
     x: u32,
-    a: u32,
-    b: u32,
-    c: u32,
-    d: u32,
+    q: Call,
 ) -> Answer
     ensures { λ r. ⌜ withAnswer r (waitTablesNew tasks lines mailboxes)
-        ≡ answered (waitTablesOld tasks lines mailboxes) (postCall (waitTablesOld tasks lines mailboxes) (old state) x a b c d) ⌝ }
+        ≡ answered (waitTablesOld tasks lines mailboxes) (postCall (waitTablesOld tasks lines mailboxes) (old state) x by q) ⌝ }
 {
-    let code = post_code(tasks, lines, mailboxes, state, x, a, c, d);
+    let code = post_code(tasks, lines, mailboxes, state, x, q);
     if code != 0 {
         return answers::refused(code);
     }
-    post_effect(tasks, lines, mailboxes, state, a, b, c)
+    post_effect(tasks, lines, mailboxes, state, q.a, q.b, q.c)
 }

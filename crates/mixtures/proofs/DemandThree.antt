@@ -63,7 +63,8 @@ module _ (t : Tables) (sound : Sound t) (ps : List Piece) (m : Mixture t ps) (s 
 
   types : Each ByType t (asks (b .before)) × Each ByType v (pend s ∷ asks (b .since))
   types =
-      each-split ByType t (asks (b .before)) (pend s ∷ asks (b .since)) (subst (λ (qs : List Call). Each ByType t qs) (place .calls) (mixtures-are-calls t sound ps m .types))
+      each-split ByType t (asks (b .before)) (pend s ∷ asks (b .since))
+      (subst (λ (qs : List Call). Each ByType t qs) (place .calls) (mixtures-are-calls t sound ps m .types))
 
   begins : ByType v (pend s)
   unfolding Each

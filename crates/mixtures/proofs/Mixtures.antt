@@ -26,7 +26,8 @@ use Rattle.demands.specs.Lists.{PromisedList}
 use Rattle.demands.proofs.One.{demand-1}
 use Rattle.demands.proofs.Promised.{thread-is}
 use Rattle.demands.proofs.Lists.{kept-along}
-use Rattle.mixtures.specs.Mixtures.{HandedList, Piece, single, list, tablesOf, threadOfPiece, codeOfPiece, Mixture, tablesAfter, threadAfter, codesOf, callsOfPiece, answersOfPiece, callsMade, answersHad}
+use Rattle.mixtures.specs.Mixtures.{HandedList, Piece, single, list, tablesOf, threadOfPiece, codeOfPiece, Mixture, tablesAfter, threadAfter}
+use Rattle.mixtures.specs.Mixtures.{codesOf, callsOfPiece, answersOfPiece, callsMade, answersHad}
 use Rattle.mixtures.specs.Shown.{MixturesAreCalls, CutAsYouLike, AllTen, UnsoundStay}
 use Rattle.mixtures.proofs.Appended.{after-append, answers-append, each-append, each-always, paired-history}
 

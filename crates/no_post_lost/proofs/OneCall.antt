@@ -64,4 +64,6 @@ module _ (t : Tables) (typed : Typed t) (sound : Sound t) (s : ℕ) (q : Call) w
   count-set e =
       by-answer t sound q
       (λ back. absurd (false≢true (sym (sets-none back) ∙ e)))
-      (λ ok. rw (semaphores-after t q ok) (set-to t typed (task-0-never-waits t sound) s (q .a) (q .b) (q .c) (q .d) (q .number) (ok .cases) (rw (ok .answer) at e)))
+      (λ ok.
+      rw (semaphores-after t q ok)
+      (set-to t typed (task-0-never-waits t sound) s (q .a) (q .b) (q .c) (q .d) (q .number) (ok .cases) (rw (ok .answer) at e)))

@@ -16,8 +16,8 @@ use Rattle.rules.specs.Answer.{Effect, CallRule, answer, codeOf, done, notMet, 
 use Rattle.rules.specs.Tables.{Typed, semaphoreCount, semaphoreWidth, semaphore, withSemaphore, semaphoreRow, USED, KIND, COUNT}
 use Rattle.rules.specs.Lines.{anyone, frontOf, semaphoreLine}
 use Rattle.rules.specs.Waits.{WaitTables, waitTables}
-use Rattle.rules.specs.Semaphores.{isBinary, most, freeSemaphore, createCases, createEffect, deleteEffect, pendEffect, countMost}
-use Rattle.rules.specs.Semaphores.{postCases, postEffect, countUp, resetCases, resetEffect, semaphoreCall}
+use Rattle.rules.specs.Semaphores.{isBinary, most, freeSemaphore, createCases, createEffect, deleteEffect, pendEffect, countMost, postCases, postEffect}
+use Rattle.rules.specs.Semaphores.{countUp, resetCases, resetEffect, semaphoreCall}
 use Rattle.rules.specs.Dispatch.{context}
 use Rattle.rules.specs.Step.{callOf}
 use Rattle.rules.specs.declared.Answer.{Answer}
@@ -103,19 +103,19 @@ module _ (t : Tables) (typed : Typed t) (never : NeverWaits 0 (t .lines)) (s a b
   create-even : (i : ℕ) → Evenly 0x20 (semaphoreRow ss i (1 ∷ a ∷ b ∷ [])) (answer 0 done i)
   create-even i not-set =
       let other : s ≢ i = λ (e : s ≡ i). true≢false (sym (eq-eqb i s (sym e)) ∙ sym (or-false (eqb i s)) ∙ not-set) in
-      still 0x20 _ (answer 0 done i) (λ f. row-other semaphoreWidth semaphoreCount ss i (1 ∷ a ∷ b ∷ []) refl s f other) refl not-set
+      still 0x20 _ (answer 0 done i) (λ f. row-other semaphoreWidth semaphoreCount ss i (1 ∷ a ∷ b ∷ []) (omega arith) s f other) refl not-set
 
   -- 21 deletes another one: s is still in use
   delete-even : Evenly 0x21 (semaphoreRow ss a (zeros semaphoreWidth)) (answer 0 done 0)
   delete-even not-set now =
       still 0x21 _ (answer 0 done 0)
-      (λ f. row-other semaphoreWidth semaphoreCount ss a (zeros semaphoreWidth) refl s f (λ (e : s ≡ a). now .0 (rw e gone)))
+      (λ f. row-other semaphoreWidth semaphoreCount ss a (zeros semaphoreWidth) (omega arith) s f (λ (e : s ≡ a). now .0 (rw e gone)))
       refl not-set now
     where
       gone : semaphore (semaphoreRow ss a (zeros semaphoreWidth)) a USED ≡ 0
       gone =
           by-range a semaphoreCount
-          (λ lt. row-same semaphoreWidth semaphoreCount ss a (zeros semaphoreWidth) (omega (arith, typed .semaphores)) refl lt USED (omega arith))
+          (λ lt. row-same semaphoreWidth semaphoreCount ss a (zeros semaphoreWidth) (omega (arith, typed .semaphores)) (omega arith) lt USED (omega arith))
           (λ past. field-out semaphoreWidth semaphoreCount _ a USED past)
 
   -- 22 takes one where the count is above 0; not met or waiting it takes nothing
@@ -246,7 +246,8 @@ module _ (t : Tables) (typed : Typed t) (never : NeverWaits 0 (t .lines)) (s a b
       let i = freeSemaphore ss in
       let (inside, _) = free-is semaphoreCount (λ i. eqb (semaphore ss i USED) 0) (accepted-is (callAt 0x20 .cases) z .at6) in
       let here : i ≡ s = eqb-true i s (rw (or-false (eqb i s)) at e) in
-      rw (← here) (row-same semaphoreWidth semaphoreCount ss i (1 ∷ a ∷ b ∷ []) (omega (arith, typed .semaphores)) refl inside COUNT (omega arith))
+      rw (← here)
+      (row-same semaphoreWidth semaphoreCount ss i (1 ∷ a ∷ b ∷ []) (omega (arith, typed .semaphores)) (omega arith) inside COUNT (omega arith))
 
   -- 24 names one in use
   resets : SetsTo 0x24

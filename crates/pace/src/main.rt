@@ -1,79 +1,9 @@
 // Makes the calls of the log on standard input with `step`, again and again, and prints a sum over all answers: for measuring.
+use call_lists::call_at;
 use pace_sums::Calls;
-use rules::Call;
-use rules::Clocks;
-use rules::Events;
-use rules::Heap;
-use rules::Lines;
-use rules::Mailboxes;
-use rules::Semaphores;
-use rules::State;
-use rules::Swis;
-use rules::Tasks;
 use text::Text;
-ghost use Rattle.kernel.specs.Safe.{Safe};
 ghost use Rattle.io.specs.Counts.{Counts};
-ghost use Rattle.tables.specs.Lent.{new, lent};
-
-// Call k of the log: number 0xffffffff, which no call has, past its end.
-fn call_at(calls: &Calls, k: usize) -> Call {
-    if 3276 <= k {
-        return Call {
-            number: u32::MAX,
-            a: 0,
-            b: 0,
-            c: 0,
-            d: 0,
-        };
-    }
-    Call {
-        number: calls[k * 5],
-        a: calls[k * 5 + 1],
-        b: calls[k * 5 + 2],
-        c: calls[k * 5 + 3],
-        d: calls[k * 5 + 4],
-    }
-}
-
-// The first n calls.
-fn make_calls(
-    tasks: &mut Tasks,
-    lines: &mut Lines,
-    semaphores: &mut Semaphores,
-    events: &mut Events,
-    mailboxes: &mut Mailboxes,
-    swis: &mut Swis,
-    clocks: &mut Clocks,
-    heap: &mut Heap,
-    state: &mut State,
-    calls: &Calls,
-    n: usize,
-    from: u32,
-) -> u32
-    requires { ⌜ Safe (lent tasks lines semaphores events mailboxes swis clocks heap state) ⌝ }
-{
-    let mut sum = from;
-    let mut k = 0;
-    while k < n {
-        let said = kernel::step(
-            tasks,
-            lines,
-            semaphores,
-            events,
-            mailboxes,
-            swis,
-            clocks,
-            heap,
-            state,
-            call_at(calls, k),
-        );
-        let answer = said.answer;
-        let thread = said.thread;
-        sum = pace_sums::add(sum, answer, thread);
-        k += 1;
-    }
-    sum
-}
+ghost use Rattle.tables.specs.Lent.{new};
 
 // All of them, from fresh tables of so many levels.
 fn one_round(levels: u32, calls: &Calls, n: usize, from: u32) -> u32 {
@@ -87,20 +17,27 @@ fn one_round(levels: u32, calls: &Calls, n: usize, from: u32) -> u32 {
     let mut clocks = fresh.clocks;
     let mut heap = fresh.heap;
     let mut state = fresh.state;
-    make_calls(
-        &mut tasks,
-        &mut lines,
-        &mut semaphores,
-        &mut events,
-        &mut mailboxes,
-        &mut swis,
-        &mut clocks,
-        &mut heap,
-        &mut state,
-        calls,
-        n,
-        from,
-    )
+    let mut sum = from;
+    let mut k = 0;
+    while k < n {
+        let said = kernel::step(
+            &mut tasks,
+            &mut lines,
+            &mut semaphores,
+            &mut events,
+            &mut mailboxes,
+            &mut swis,
+            &mut clocks,
+            &mut heap,
+            &mut state,
+            call_at(calls, k),
+        );
+        let answer = said.answer;
+        let thread = said.thread;
+        sum = pace_sums::add(sum, answer, thread);
+        k += 1;
+    }
+    sum
 }
 
 // How often the log is gone through, by the program's first argument.

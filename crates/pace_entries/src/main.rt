@@ -1,4 +1,5 @@
 // The same with the two entries that test the tables before each call: with `call_in_place`, or with `call` if a second argument is there.
+use call_lists::call_at;
 use pace_sums::Calls;
 use text::Text;
 ghost use Rattle.io.specs.Counts.{Counts};
@@ -18,10 +19,7 @@ fn in_place(levels: u32, calls: &Calls, n: usize, from: u32) -> u32 {
     let mut state = fresh.state;
     let mut sum = from;
     let mut k = 0;
-    while k < 3276 {
-        if n <= k {
-            return sum;
-        }
+    while k < n {
         let said = entries::call_in_place(
             &mut tasks,
             &mut lines,
@@ -32,11 +30,7 @@ fn in_place(levels: u32, calls: &Calls, n: usize, from: u32) -> u32 {
             &mut clocks,
             &mut heap,
             &mut state,
-            calls[k * 5],
-            calls[k * 5 + 1],
-            calls[k * 5 + 2],
-            calls[k * 5 + 3],
-            calls[k * 5 + 4],
+            call_at(calls, k),
         );
         let answer = said.answer;
         let thread = said.thread;
@@ -51,18 +45,8 @@ fn by_value(levels: u32, calls: &Calls, n: usize, from: u32) -> u32 {
     let mut tables = entries::fresh(levels).tables;
     let mut sum = from;
     let mut k = 0;
-    while k < 3276 {
-        if n <= k {
-            return sum;
-        }
-        let after = entries::call(
-            tables,
-            calls[k * 5],
-            calls[k * 5 + 1],
-            calls[k * 5 + 2],
-            calls[k * 5 + 3],
-            calls[k * 5 + 4],
-        );
+    while k < n {
+        let after = entries::call(tables, call_at(calls, k));
         let answer = after.answer;
         let thread = after.thread;
         sum = pace_sums::add(sum, answer, thread);

@@ -64,9 +64,9 @@ module _ (t₀ : Tables) where
     pub came : List (List ℕ)
     pub left : (replayState t ps xs p ≡ afterReads came (begins t₀)) ⊎ (replayState t ps xs p ≡ stop (afterReads came (begins t₀)))
 
-  pub sofar-none : (ps xs : List ℕ) {p : Progress} → p ≡ progressOf start → Sofar t₀ ps xs p
+  pub sofar-none : {t : Tables} (ps xs : List ℕ) {p : Progress} → t ≡ t₀ → p ≡ progressOf start → Sofar t ps xs p
   unfolding afterReads
-  sofar-none ps xs e = rw e (record { came = []; left = inl refl })
+  sofar-none ps xs e begun = rw (e, begun) (record { came = []; left = inl refl })
 
   module _ {t : Tables} {ps xs : List ℕ} {p : Progress} (v : Sofar t ps xs p) where
     -- where it has not ended it was not stopped
@@ -104,13 +104,16 @@ module _ (t₀ : Tables) where
 
       next-is : turn (eqb (r .more) 0) bytes (replayState t qs xs p) ≡ afterReads (v .came ++ (bytes ∷ [])) (begins t₀)
       next-is =
-          let all : length bytes ≡ r .more = length-take-le (r .more) (drop (p .held) qs) (omega (arith, ap (λ (k : Came). k .more) (b .came), has-room (b .answer) (length qs - p .held), length-drop (p .held) qs)) in
+          let all : length bytes ≡ r .more =
+          length-take-le (r .more) (drop (p .held) qs)
+          (omega (arith, ap (λ (k : Came). k .more) (b .came), has-room (b .answer) (length qs - p .held), length-drop (p .held) qs)) in
           ap (turn (eqb (r .more) 0) bytes) before-is ∙ sym (rw all at (left-more (v .came) bytes (begins t₀) not-over))
 
       pub sofar-next : {u : Tables} {qs′ ys : List ℕ} {q : Progress} → Handed r bytes (replayState t qs xs p) (replayState u qs′ ys q) → Sofar u qs′ ys q
       sofar-next {u} {qs′} {ys} {q} = by-read (r .failed)
         where
-          by-read : (f : Bool) → HandedIf f (replayState t qs xs p) (turn (eqb (r .more) 0) bytes (replayState t qs xs p)) (replayState u qs′ ys q) → Sofar u qs′ ys q
+          by-read : (f : Bool)
+              → HandedIf f (replayState t qs xs p) (turn (eqb (r .more) 0) bytes (replayState t qs xs p)) (replayState u qs′ ys q) → Sofar u qs′ ys q
           by-read true h = record { came = v .came; left = inr (h ∙ ap stop before-is) }
           by-read false h =
               record {
@@ -121,7 +124,3 @@ module _ (t₀ : Tables) where
                     (λ (k : replayState u qs′ ys q ≡ stop (turn (eqb (r .more) 0) bytes (replayState t qs xs p))). inr (k ∙ ap stop next-is))
                     h;
               }
-
--- the tables that it began with, by another name
-pub replayed-from : {t t₀ u : Tables} → t ≡ t₀ → Replayed t u → Replayed t₀ u
-replayed-from e r = rw e at r

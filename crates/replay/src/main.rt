@@ -142,51 +142,8 @@ fn turn(
     written(out, next)
 }
 
-// All turns.
-// A loop has to end, and nothing says that a log does: the turns are counted down from a number that no run comes to.
-fn all_turns(
-    tasks: &mut Tasks,
-    lines: &mut Lines,
-    semaphores: &mut Semaphores,
-    events: &mut Events,
-    mailboxes: &mut Mailboxes,
-    swis: &mut Swis,
-    clocks: &mut Clocks,
-    heap: &mut Heap,
-    state: &mut State,
-    fd: i32,
-    name: &[u8],
-)
-    requires { ⌜ Safe (lent tasks lines semaphores events mailboxes swis clocks heap state) ⌝ }
-    ensures { λ _. ⌜ Replayed (tablesOld tasks lines semaphores events mailboxes swis clocks heap state)
-        (tablesNew tasks lines semaphores events mailboxes swis clocks heap state) ⌝ }
-{
-    let mut part = [0u8; 2560];
-    let mut out = [0u8; 16384];
-    let mut p = desk::begun();
-    let mut turns = u64::MAX;
-    while (0 < turns) & !p.ended {
-        let read = read_part(fd, name, &mut part, p.held);
-        p = turn(
-            tasks,
-            lines,
-            semaphores,
-            events,
-            mailboxes,
-            swis,
-            clocks,
-            heap,
-            state,
-            &mut part,
-            read,
-            p,
-            &mut out,
-        );
-        turns -= 1;
-    }
-}
-
 // Replays what can be read at fd, and answers the tables that it came to; `name` is told where a read fails.
+// A loop has to end, and nothing says that a log does: the turns are counted down from a number that no run comes to.
 fn replay_all(fd: i32, name: &[u8]) -> Tables
     ensures { λ r. ⌜ Replayed fresh r ⌝ }
 {
@@ -200,19 +157,29 @@ fn replay_all(fd: i32, name: &[u8]) -> Tables
     let mut clocks = fresh.clocks;
     let mut heap = fresh.heap;
     let mut state = fresh.state;
-    all_turns(
-        &mut tasks,
-        &mut lines,
-        &mut semaphores,
-        &mut events,
-        &mut mailboxes,
-        &mut swis,
-        &mut clocks,
-        &mut heap,
-        &mut state,
-        fd,
-        name,
-    );
+    let mut part = [0u8; 2560];
+    let mut out = [0u8; 16384];
+    let mut p = desk::begun();
+    let mut turns = u64::MAX;
+    while (0 < turns) & !p.ended {
+        let read = read_part(fd, name, &mut part, p.held);
+        p = turn(
+            &mut tasks,
+            &mut lines,
+            &mut semaphores,
+            &mut events,
+            &mut mailboxes,
+            &mut swis,
+            &mut clocks,
+            &mut heap,
+            &mut state,
+            &mut part,
+            read,
+            p,
+            &mut out,
+        );
+        turns -= 1;
+    }
     Tables {
         tasks,
         lines,

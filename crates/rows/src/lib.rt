@@ -1,6 +1,7 @@
 // The words of each table's rows, and the rows that are worked on whole.
 pub mod readings;
 
+use basics::wide;
 use rules::Clock;
 use rules::Clocks;
 use rules::Events;
@@ -12,26 +13,30 @@ use rules::Tasks;
 use rules::numbers::CLOCK_FIRST;
 use rules::numbers::CLOCK_LEFT;
 use rules::numbers::CLOCK_ROWS;
+use rules::numbers::CLOCK_ROWS_U8;
 use rules::numbers::CLOCK_SWI;
 use rules::numbers::CLOCK_WIDTH;
-use rules::numbers::EVENT_ROWS;
-use rules::numbers::EVENT_WIDTH;
+use rules::numbers::CLOCK_WIDTH_U8;
+use rules::numbers::EVENT_ROWS_U8;
+use rules::numbers::EVENT_WIDTH_U8;
 use rules::numbers::HELD;
-use rules::numbers::MAILBOX_ROWS;
-use rules::numbers::MAILBOX_WIDTH;
+use rules::numbers::MAILBOX_ROWS_U8;
+use rules::numbers::MAILBOX_WIDTH_U8;
 use rules::numbers::MASK;
 use rules::numbers::MODE;
 use rules::numbers::OBJECT;
 use rules::numbers::OUTCOME;
 use rules::numbers::PERIOD;
-use rules::numbers::SEMAPHORE_ROWS;
-use rules::numbers::SEMAPHORE_WIDTH;
-use rules::numbers::SWI_ROWS;
-use rules::numbers::SWI_WIDTH;
+use rules::numbers::SEMAPHORE_ROWS_U8;
+use rules::numbers::SEMAPHORE_WIDTH_U8;
+use rules::numbers::SWI_ROWS_U8;
+use rules::numbers::SWI_WIDTH_U8;
 use rules::numbers::TASK_LEFT;
 use rules::numbers::TASK_PRIORITY;
 use rules::numbers::TASK_ROWS;
+use rules::numbers::TASK_ROWS_U8;
 use rules::numbers::TASK_WIDTH;
+use rules::numbers::TASK_WIDTH_U8;
 use rules::numbers::USED;
 use rules::numbers::VALUE;
 ghost use mathlib.Core.Path.{_≡_};
@@ -40,28 +45,49 @@ ghost use Rattle.rules.specs.Tables.{taskCount, taskWidth, clockCount, clockWid
 ghost use Rattle.rules.specs.Tables.{withEvent, mailbox, withMailbox, swi, withSwi};
 ghost use Rattle.tables.specs.Lent.{old, new};
 
+// ---- any table of n rows of w words
+
+// Word f of row i; 0 where there is none.
+pub fn word(t: &[u32], w: u8, n: u8, i: usize, f: usize) -> u32
+    ensures { λ r. ⌜ r ≡ field w n (old t) i f ⌝ }
+{
+    if i < wide(n) {
+        if f < wide(w) {
+            let k = i * wide(w) + f;
+            if k < t.len() {
+                return t[k];
+            }
+        }
+    }
+    0
+}
+
+// Word f of row i is x now, where there is one.
+pub fn set_word(t: &mut [u32], w: u8, n: u8, i: usize, f: usize, x: u32)
+    ensures { λ _. ⌜ new t ≡ withField w n (old t) i f x ⌝ }
+{
+    if i < wide(n) {
+        if f < wide(w) {
+            let k = i * wide(w) + f;
+            if k < t.len() {
+                t[k] = x;
+            }
+        }
+    }
+}
+
 // ---- tasks
 
 pub fn task_word(tasks: &Tasks, i: usize, f: usize) -> u32
     ensures { λ r. ⌜ r ≡ field taskWidth taskCount (old tasks) i f ⌝ }
 {
-    if i < TASK_ROWS {
-        if f < TASK_WIDTH {
-            return tasks[i * TASK_WIDTH + f];
-        }
-        return 0;
-    }
-    0
+    word(tasks, TASK_WIDTH_U8, TASK_ROWS_U8, i, f)
 }
 
 pub fn set_task_word(tasks: &mut Tasks, i: usize, f: usize, x: u32)
     ensures { λ _. ⌜ new tasks ≡ withField taskWidth taskCount (old tasks) i f x ⌝ }
 {
-    if i < TASK_ROWS {
-        if f < TASK_WIDTH {
-            tasks[i * TASK_WIDTH + f] = x;
-        }
-    }
+    set_word(tasks, TASK_WIDTH_U8, TASK_ROWS_U8, i, f, x)
 }
 
 // Task i's row; all 0 where there is none.
@@ -101,23 +127,13 @@ pub fn set_task(tasks: &mut Tasks, i: usize, k: Task)
 pub fn semaphore(semaphores: &Semaphores, i: usize, f: usize) -> u32
     ensures { λ r. ⌜ r ≡ semaphore (old semaphores) i f ⌝ }
 {
-    if i < SEMAPHORE_ROWS {
-        if f < SEMAPHORE_WIDTH {
-            return semaphores[i * SEMAPHORE_WIDTH + f];
-        }
-        return 0;
-    }
-    0
+    word(semaphores, SEMAPHORE_WIDTH_U8, SEMAPHORE_ROWS_U8, i, f)
 }
 
 pub fn set_semaphore(semaphores: &mut Semaphores, i: usize, f: usize, x: u32)
     ensures { λ _. ⌜ new semaphores ≡ withSemaphore (old semaphores) i f x ⌝ }
 {
-    if i < SEMAPHORE_ROWS {
-        if f < SEMAPHORE_WIDTH {
-            semaphores[i * SEMAPHORE_WIDTH + f] = x;
-        }
-    }
+    set_word(semaphores, SEMAPHORE_WIDTH_U8, SEMAPHORE_ROWS_U8, i, f, x)
 }
 
 // ---- events
@@ -125,23 +141,13 @@ pub fn set_semaphore(semaphores: &mut Semaphores, i: usize, f: usize, x: u32)
 pub fn event(events: &Events, i: usize, f: usize) -> u32
     ensures { λ r. ⌜ r ≡ event (old events) i f ⌝ }
 {
-    if i < EVENT_ROWS {
-        if f < EVENT_WIDTH {
-            return events[i * EVENT_WIDTH + f];
-        }
-        return 0;
-    }
-    0
+    word(events, EVENT_WIDTH_U8, EVENT_ROWS_U8, i, f)
 }
 
 pub fn set_event(events: &mut Events, i: usize, f: usize, x: u32)
     ensures { λ _. ⌜ new events ≡ withEvent (old events) i f x ⌝ }
 {
-    if i < EVENT_ROWS {
-        if f < EVENT_WIDTH {
-            events[i * EVENT_WIDTH + f] = x;
-        }
-    }
+    set_word(events, EVENT_WIDTH_U8, EVENT_ROWS_U8, i, f, x)
 }
 
 // ---- mailboxes
@@ -149,23 +155,13 @@ pub fn set_event(events: &mut Events, i: usize, f: usize, x: u32)
 pub fn mailbox(mailboxes: &Mailboxes, i: usize, f: usize) -> u32
     ensures { λ r. ⌜ r ≡ mailbox (old mailboxes) i f ⌝ }
 {
-    if i < MAILBOX_ROWS {
-        if f < MAILBOX_WIDTH {
-            return mailboxes[i * MAILBOX_WIDTH + f];
-        }
-        return 0;
-    }
-    0
+    word(mailboxes, MAILBOX_WIDTH_U8, MAILBOX_ROWS_U8, i, f)
 }
 
 pub fn set_mailbox(mailboxes: &mut Mailboxes, i: usize, f: usize, x: u32)
     ensures { λ _. ⌜ new mailboxes ≡ withMailbox (old mailboxes) i f x ⌝ }
 {
-    if i < MAILBOX_ROWS {
-        if f < MAILBOX_WIDTH {
-            mailboxes[i * MAILBOX_WIDTH + f] = x;
-        }
-    }
+    set_word(mailboxes, MAILBOX_WIDTH_U8, MAILBOX_ROWS_U8, i, f, x)
 }
 
 // ---- Swis
@@ -173,23 +169,13 @@ pub fn set_mailbox(mailboxes: &mut Mailboxes, i: usize, f: usize, x: u32)
 pub fn swi(swis: &Swis, i: usize, f: usize) -> u32
     ensures { λ r. ⌜ r ≡ swi (old swis) i f ⌝ }
 {
-    if i < SWI_ROWS {
-        if f < SWI_WIDTH {
-            return swis[i * SWI_WIDTH + f];
-        }
-        return 0;
-    }
-    0
+    word(swis, SWI_WIDTH_U8, SWI_ROWS_U8, i, f)
 }
 
 pub fn set_swi(swis: &mut Swis, i: usize, f: usize, x: u32)
     ensures { λ _. ⌜ new swis ≡ withSwi (old swis) i f x ⌝ }
 {
-    if i < SWI_ROWS {
-        if f < SWI_WIDTH {
-            swis[i * SWI_WIDTH + f] = x;
-        }
-    }
+    set_word(swis, SWI_WIDTH_U8, SWI_ROWS_U8, i, f, x)
 }
 
 // ---- clocks
@@ -197,13 +183,7 @@ pub fn set_swi(swis: &mut Swis, i: usize, f: usize, x: u32)
 pub fn clock_word(clocks: &Clocks, i: usize, f: usize) -> u32
     ensures { λ r. ⌜ r ≡ field clockWidth clockCount (old clocks) i f ⌝ }
 {
-    if i < CLOCK_ROWS {
-        if f < CLOCK_WIDTH {
-            return clocks[i * CLOCK_WIDTH + f];
-        }
-        return 0;
-    }
-    0
+    word(clocks, CLOCK_WIDTH_U8, CLOCK_ROWS_U8, i, f)
 }
 
 // Clock i's row; all 0 where there is none.

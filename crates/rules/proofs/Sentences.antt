@@ -1,13 +1,16 @@
 -- Sentences of 01, each shown by a small case of its definition, so that a definition that says otherwise is refused at once.
 -- In this order: the small tables; the record `Sentences`, a field for each, by the parts of 01; and that all of them hold, computed.
-use Prim.Native.Nat.{ℕ}
+use Prim.Native.Nat.{ℕ, _*_, _-_}
 use mathlib.Core.Path.{_≡_, refl}
 use mathlib.Core.Bool.{true, false}
 use mathlib.Core.List.{List, [], _∷_, _++_, map}
+use lib.ListN.{length}
 use Rattle.basics.specs.Lists.{zeros}
 use Rattle.basics.specs.Rule.{holds}
 use Rattle.rules.specs.Answer.{Effect, answer, accepted, refused, called, answered, named, codeOf, given, onObject, never, done, T, S, I}
 use Rattle.rules.specs.Tables.{task, forever, ready, sleeping, atSemaphore, atEvent, reading, writing, fewLevels}
+use Rattle.rules.specs.Tables.{taskCount, taskWidth, swiCount, swiWidth, semaphoreCount, semaphoreWidth, eventCount, eventWidth}
+use Rattle.rules.specs.Tables.{mailboxCount, mailboxWidth, clockCount, clockWidth}
 use Rattle.rules.specs.Lines.{line, joined, taskQueues, semaphoreLine, mailboxLine, eventLine, postedLine, activeLine, readyLine}
 use Rattle.rules.specs.Waits.{ticksFor, waitTables}
 use Rattle.rules.specs.Tasks.{reprioritized}
@@ -25,9 +28,21 @@ use Rattle.rules.specs.declared.Tables.{Tables}
 use Rattle.rules.proofs.Computed.{computed}
 use Rattle.rules.proofs.Standing.{linesWith, _has_}
 
+-- these words, and zeros behind them up to so many: a row, or a table that begins with these rows
+abbrev pub filled : ℕ → List ℕ → List ℕ
+filled n ws = ws ++ zeros (n - length ws)
+
+-- a table of tasks that begins with these rows, and of each other kind with these words
+abbrev pub taskRows : List ℕ → List ℕ → List ℕ
+taskRows one two =
+    filled (taskCount * taskWidth) (filled taskWidth (ready ∷ []) ++ filled taskWidth one ++ filled taskWidth two)
+
+abbrev pub swiWords : List ℕ → List ℕ
+swiWords = filled (swiCount * swiWidth)
+
 -- tasks 1, at this priority and with so many ticks left, and 2, at 5 and without end, wait at semaphore 0
 abbrev pub waiters : ℕ → ℕ → List ℕ
-waiters p n = (ready ∷ zeros 7) ++ (atSemaphore ∷ p ∷ 0 ∷ n ∷ zeros 4) ++ (atSemaphore ∷ 5 ∷ zeros 6) ++ zeros 232
+waiters p n = taskRows (atSemaphore ∷ p ∷ 0 ∷ n ∷ []) (atSemaphore ∷ 5 ∷ [])
 
 -- their line, and task 0 ready
 abbrev pub waiting : List ℕ
@@ -36,11 +51,11 @@ waiting = linesWith (semaphoreLine 0 has (1 ∷ 2 ∷ []) ∷ readyLine 0 has (0
 
 -- a counting semaphore with this count
 abbrev pub counting : ℕ → List ℕ
-counting n = 1 ∷ 0 ∷ n ∷ zeros 45
+counting n = filled (semaphoreCount * semaphoreWidth) (1 ∷ 0 ∷ n ∷ [])
 
 -- tasks 1 and 2 are blocked in this mode at object 0 and hold this word, and task 2 stands before task 1 in this line
 abbrev pub blocked : ℕ → ℕ → List ℕ
-blocked mode word = (ready ∷ zeros 7) ++ (mode ∷ 5 ∷ 0 ∷ 0 ∷ word ∷ zeros 3) ++ (mode ∷ 5 ∷ 0 ∷ 0 ∷ word ∷ zeros 3) ++ zeros 232
+blocked mode word = taskRows (mode ∷ 5 ∷ 0 ∷ 0 ∷ word ∷ []) (mode ∷ 5 ∷ 0 ∷ 0 ∷ word ∷ [])
 
 abbrev pub twoAt : ℕ → List ℕ
 unfolding linesWith
@@ -48,22 +63,22 @@ twoAt j = linesWith (j has (2 ∷ 1 ∷ []) ∷ readyLine 0 has (0 ∷ []) ∷ [
 
 -- a mailbox for one message: it is empty; it has this word
 abbrev pub empty : List ℕ
-empty = 1 ∷ zeros 79
+empty = filled (mailboxCount * mailboxWidth) (1 ∷ [])
 
 abbrev pub full : ℕ → List ℕ
-full word = 1 ∷ 1 ∷ word ∷ zeros 77
+full word = filled (mailboxCount * mailboxWidth) (1 ∷ 1 ∷ word ∷ [])
 
 -- a Swi of priority 3 and initial trigger 5, with this taken trigger
 abbrev pub taking : ℕ → List ℕ
-taking n = 1 ∷ 3 ∷ 5 ∷ 5 ∷ 0 ∷ n ∷ zeros 90
+taking n = swiWords (1 ∷ 3 ∷ 5 ∷ 5 ∷ 0 ∷ n ∷ [])
 
 -- the same, posted with this trigger
 abbrev pub postedWith : ℕ → List ℕ
-postedWith n = 1 ∷ 3 ∷ 5 ∷ n ∷ 1 ∷ zeros 91
+postedWith n = swiWords (1 ∷ 3 ∷ 5 ∷ n ∷ 1 ∷ [])
 
 -- an event with these bits
 abbrev pub bits : ℕ → List ℕ
-bits n = 1 ∷ n ∷ zeros 14
+bits n = filled (eventCount * eventWidth) (1 ∷ n ∷ [])
 
 -- depth 0, both switches on, and this current task
 abbrev pub currently : ℕ → List ℕ
@@ -89,8 +104,8 @@ oldCodes = map (λ number. codeOf (switchCall (tickTables [] [] [] [] (switched 
 abbrev pub together : TickTables
 unfolding linesWith
 together =
-    tickTables ((ready ∷ zeros 7) ++ (sleeping ∷ 0 ∷ 0 ∷ 1 ∷ zeros 244)) (linesWith []) (zeros 18 ++ (1 ∷ 17 ∷ zeros 76))
-    (1 ∷ 3 ∷ 1 ∷ 0 ∷ 1 ∷ zeros 75)
+    tickTables (taskRows (sleeping ∷ 0 ∷ 0 ∷ 1 ∷ []) []) (linesWith []) (swiWords (zeros (3 * swiWidth) ++ (1 ∷ 17 ∷ [])))
+    (filled (clockCount * clockWidth) (1 ∷ 3 ∷ 1 ∷ 0 ∷ 1 ∷ []))
     (currently 0)
 
 pub record Sentences : Type 0 where
@@ -184,8 +199,8 @@ pub record Sentences : Type 0 where
   -- "fields without meaning at the time (.., the taken trigger of a Swi not active)" are 0: a Swi that ends has none
   pub ends : endEffect (swiQueues (taking 2) (linesWith (activeLine has (0 ∷ []) ∷ []))) .next .swis ≡ taking 0
   -- "fields without meaning at the time (.., an ended wait's data, ..)" are 0: a ready task has no ticks left
-  pub ended-wait : holds (otherRule fewLevels (task (ready ∷ 5 ∷ 0 ∷ 1 ∷ zeros 4) 0)) ≡ false
-  pub no-wait : holds (otherRule fewLevels (task (ready ∷ 5 ∷ zeros 6) 0)) ≡ true
+  pub ended-wait : holds (otherRule fewLevels (task (filled taskWidth (ready ∷ 5 ∷ 0 ∷ 1 ∷ [])) 0)) ≡ false
+  pub no-wait : holds (otherRule fewLevels (task (filled taskWidth (ready ∷ 5 ∷ [])) 0)) ≡ true
 
 pub sentences : Sentences
 unfolding computed linesWith

@@ -12,6 +12,11 @@ use Rattle.rules.specs.declared.Answer.{Answer}
 abbrev pub asked : ℕ → ℕ → ℕ → ℕ → ℕ → Call
 asked number a b c d = record { number = number; a = a; b = b; c = c; d = d }
 
+-- what is said of four arguments, at the four of a call
+infix 10 _by_
+abbrev pub _by_ : {A : Type 0} → (ℕ → ℕ → ℕ → ℕ → A) → Call → A
+of by q = of (q .a) (q .b) (q .c) (q .d)
+
 -- "All arguments are unsigned 32-bit"
 pub record Words (q : Call) : Type 0 where
   pub a : q .a < wordEnd

@@ -2,14 +2,14 @@
 use Prim.Native.Nat.{ℕ}
 use mathlib.Core.Path.{refl}
 use mathlib.Core.List.{List, [], _∷_, _++_, map}
-use Rattle.rules.specs.Tables.{forever, minusOne}
+use lib.ListN.{replicate}
+use Rattle.rules.specs.Tables.{forever, minusOne, mostDepth}
 use Rattle.rules.specs.Fresh.{fresh}
 use Rattle.rules.specs.declared.Thread.{Thread}
-use Rattle.rules.proofs.Runs.{Asked, Line, _runs_, AllRun, _⇒_, asked, said, saw, T, S, I, createTask, deleteTask, setPriority, yield, end, sleep}
-use Rattle.rules.proofs.Runs.{lastResult, createSwi, deleteSwi, postSwi, endSwi, postedOf, createSemaphore, pend, createMailbox}
-use Rattle.rules.proofs.Runs.{deleteMailbox, postMailbox, pendMailbox, createClock, startClock, stopClock, ticksOf, turnOff, restore, swisOff, restoreSwis}
-use Rattle.rules.proofs.Runs.{post, deleteSemaphore, createEvent, deleteEvent, pendEvent, postEvent, deleteClock, tasksOff, restoreTasks}
-use Rattle.rules.proofs.Runs.{interruptIn, interruptOut, tick}
+use Rattle.rules.proofs.Runs.{Asked, Line, AllRun, _⇒_, asked, said, saw, T, S, I, createTask, deleteTask, setPriority, yield, end, sleep, lastResult}
+use Rattle.rules.proofs.Runs.{createSwi, deleteSwi, postSwi, endSwi, postedOf, createSemaphore, pend, createMailbox, deleteMailbox, postMailbox}
+use Rattle.rules.proofs.Runs.{pendMailbox, createClock, startClock, stopClock, ticksOf, turnOff, restore, swisOff, restoreSwis, post, deleteSemaphore}
+use Rattle.rules.proofs.Runs.{createEvent, deleteEvent, pendEvent, postEvent, deleteClock, tasksOff, restoreTasks, interruptIn, interruptOut, tick}
 use Rattle.rules.proofs.Faster.{faster, quickly, fresh-sound}
 
 -- "Tasks join queues at the back."; "03 yield"; "02 set priority: value the old one"; "05 sleep"; "04 end"; "01 delete: terminated only"
@@ -219,19 +219,8 @@ which =
 -- "74 interrupt in, 7 at depth 8; 75 out"
 abbrev pub interrupts : List Line
 interrupts =
-    interruptOut ⇒ said 2 0 0 (T 0)
-    ∷ interruptIn ⇒ said 0 0 0 I
-    ∷ interruptIn ⇒ said 0 0 0 I
-    ∷ interruptIn ⇒ said 0 0 0 I
-    ∷ interruptIn ⇒ said 0 0 0 I
-    ∷ interruptIn ⇒ said 0 0 0 I
-    ∷ interruptIn ⇒ said 0 0 0 I
-    ∷ interruptIn ⇒ said 0 0 0 I
-    ∷ interruptIn ⇒ said 0 0 0 I
-    ∷ interruptIn ⇒ said 7 0 0 I
-    ∷ interruptOut ⇒ said 0 0 0 I
-    ∷ interruptIn ⇒ said 0 0 0 I
-    ∷ []
+    (interruptOut ⇒ said 2 0 0 (T 0) ∷ replicate mostDepth (interruptIn ⇒ said 0 0 0 I))
+    ++ (interruptIn ⇒ said 7 0 0 I ∷ interruptOut ⇒ said 0 0 0 I ∷ interruptIn ⇒ said 0 0 0 I ∷ [])
 
 -- No. 2: "Code 3 stays for a number outside its table. A number inside the table whose object is not in use gets a new code. The answer's value names
 -- the table": of each table the first number outside, the last inside, which is free, and one whose object was deleted; call 50 names Swis. Task 0, an
@@ -306,46 +295,18 @@ order =
     ∷ pend 7 0 ⇒ said 11 0 3 I
     ∷ []
 
-pub record Calls : Type 0 where
-  pub of-tasks : fresh runs tasks
-  pub of-messages : fresh runs messages
-  pub of-writers-and-readers : fresh runs writers-and-readers
-  pub of-clocks : fresh runs clocks
-  pub of-switches : fresh runs switches
-  pub of-interrupts : fresh runs interrupts
-  pub of-numbers : fresh runs numbers
-  pub of-order : fresh runs order
-  pub of-woken : fresh runs woken
-  pub of-both : fresh runs both
-  pub of-which : fresh runs which
-
 -- in two lists, so that each is computed within the steps that one proof may take
-abbrev all : List (List Line)
+abbrev pub all : List (List Line)
 all = tasks ∷ messages ∷ writers-and-readers ∷ clocks ∷ switches ∷ []
 
-abbrev more : List (List Line)
+abbrev pub more : List (List Line)
 more = interrupts ∷ numbers ∷ order ∷ woken ∷ both ∷ which ∷ []
 
-all-run : AllRun fresh all
+-- from fresh tables each says what stands beside its calls
+pub all-run : AllRun fresh all
 unfolding quickly
 all-run = faster fresh all fresh-sound refl
 
-more-run : AllRun fresh more
+pub more-run : AllRun fresh more
 unfolding quickly
 more-run = faster fresh more fresh-sound refl
-
-pub calls : Calls
-calls =
-    record {
-      of-tasks = all-run .0;
-      of-messages = all-run .1 .0;
-      of-writers-and-readers = all-run .1 .1 .0;
-      of-clocks = all-run .1 .1 .1 .0;
-      of-switches = all-run .1 .1 .1 .1 .0;
-      of-interrupts = more-run .0;
-      of-numbers = more-run .1 .0;
-      of-order = more-run .1 .1 .0;
-      of-woken = more-run .1 .1 .1 .0;
-      of-both = more-run .1 .1 .1 .1 .0;
-      of-which = more-run .1 .1 .1 .1 .1 .0;
-    }

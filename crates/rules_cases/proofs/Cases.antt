@@ -9,9 +9,9 @@ use Rattle.rules.specs.Sound.{sound}
 use Rattle.rules.specs.Text.{textOf}
 use Rattle.rules.specs.Replay.{replayLines, replayText}
 use Rattle.rules.specs.declared.Tables.{Tables}
-use Rattle.rules.proofs.Runs.{Line, _runs_, AllRun, _⇒_, said, saw, T, S, I, ascii, createTask, lastResult, createSwi, postSwi, takeOne}
-use Rattle.rules.proofs.Runs.{clearBits, takenTrigger, triggerOf, postedOf, createSemaphore, pend, post, countOf, waitersAt, createEvent}
-use Rattle.rules.proofs.Runs.{pendEvent, postEvent, bitsOf, take, giveBack, interruptIn, interruptOut, tick, tickCount}
+use Rattle.rules.proofs.Runs.{Line, _runs_, AllRun, _⇒_, said, saw, T, S, I, ascii, createTask, lastResult, createSwi, postSwi, takeOne, clearBits}
+use Rattle.rules.proofs.Runs.{takenTrigger, triggerOf, postedOf, createSemaphore, pend, post, countOf, waitersAt, createEvent, pendEvent, postEvent}
+use Rattle.rules.proofs.Runs.{bitsOf, take, giveBack, interruptIn, interruptOut, tick, tickCount}
 use Rattle.rules.proofs.Faster.{faster, faster-replay, faster-sound, quickly, fresh-sound}
 
 -- ---- "Replay of: create at 5; semaphore kind 0 count 0; pend on 0 without end; post 0; post 7."
@@ -173,21 +173,15 @@ case-l =
     ∷ tickCount ⇒ saw 0
     ∷ []
 
+abbrev pub from-b-to-k : List (List Line)
+from-b-to-k = case-b ∷ case-c ∷ case-d ∷ case-e ∷ case-f ∷ case-g ∷ case-h ∷ case-i ∷ case-j ∷ case-k ∷ []
+
 pub record CasesAToL : Type 0 where
   -- "(a) the five calls above": the lines, the whole text, and the first line's bytes
   pub a : replayLines sample ≡ printed
   pub a-text : replayText sample ≡ ascii "1 0 0 1 T1\n2 0 0 0 T1\n3 0 2 0 T0\n4 0 0 1 T1\n5 11 0 3 T1\nend 5\n"
   pub a-bytes : ascii "1 0 0 1 T1" ≡ 0x31 ∷ 0x20 ∷ 0x30 ∷ 0x20 ∷ 0x30 ∷ 0x20 ∷ 0x31 ∷ 0x20 ∷ 0x54 ∷ 0x31 ∷ []
-  pub b : fresh runs case-b
-  pub c : fresh runs case-c
-  pub d : fresh runs case-d
-  pub e : fresh runs case-e
-  pub f : fresh runs case-f
-  pub g : fresh runs case-g
-  pub h : fresh runs case-h
-  pub i : fresh runs case-i
-  pub j : fresh runs case-j
-  pub k : fresh runs case-k
+  pub b-to-k : AllRun fresh from-b-to-k
   pub l : late runs case-l
 
 replayed : replayLines sample ≡ printed
@@ -198,13 +192,6 @@ replayed-text : textOf printed ≡ ascii "1 0 0 1 T1\n2 0 0 0 T1\n3 0 2 0 T0\n4 
 unfolding textOf ascii printed
 replayed-text = refl
 
-abbrev from-fresh : List (List Line)
-from-fresh = case-b ∷ case-c ∷ case-d ∷ case-e ∷ case-f ∷ case-g ∷ case-h ∷ case-i ∷ case-j ∷ case-k ∷ []
-
-b-to-k : AllRun fresh from-fresh
-unfolding quickly
-b-to-k = faster fresh from-fresh fresh-sound refl
-
 late-sound : sound late ≡ true
 unfolding quickly late
 late-sound = faster-sound late refl
@@ -214,21 +201,12 @@ unfolding quickly late
 l-alone = faster late (case-l ∷ []) late-sound refl
 
 pub cases-a-to-l : CasesAToL
-unfolding replayText ascii
+unfolding quickly replayText ascii
 cases-a-to-l =
     record {
       a = replayed;
       a-text = ap textOf replayed ∙ replayed-text;
       a-bytes = refl;
-      b = b-to-k .0;
-      c = b-to-k .1 .0;
-      d = b-to-k .1 .1 .0;
-      e = b-to-k .1 .1 .1 .0;
-      f = b-to-k .1 .1 .1 .1 .0;
-      g = b-to-k .1 .1 .1 .1 .1 .0;
-      h = b-to-k .1 .1 .1 .1 .1 .1 .0;
-      i = b-to-k .1 .1 .1 .1 .1 .1 .1 .0;
-      j = b-to-k .1 .1 .1 .1 .1 .1 .1 .1 .0;
-      k = b-to-k .1 .1 .1 .1 .1 .1 .1 .1 .1 .0;
+      b-to-k = faster fresh from-b-to-k fresh-sound refl;
       l = l-alone .0;
     }

@@ -13,7 +13,8 @@ use Rattle.rules.specs.Step.{stepOf}
 use Rattle.rules.specs.declared.Tables.{Tables}
 use Rattle.rules.proofs.Agree.{sound-means}
 use Rattle.rules.proofs.Computed.{computed}
-use Rattle.rules.proofs.Runs.{Line, says, _runs_, AllRun, _⇒_, said, saw, T, S, I, createTask, setPriority, yield, end, createSwi, postSwi, createSemaphore, pend, post}
+use Rattle.rules.proofs.Runs.{Line, says, _runs_, AllRun, _⇒_, said, saw, T, S, I, createTask, setPriority, yield, end, createSwi, postSwi}
+use Rattle.rules.proofs.Runs.{createSemaphore, pend, post}
 use Rattle.rules.proofs.Faster.{faster, quickly, fresh-sound, fresh-for-sound}
 
 -- "With 32, priorities run to 31": (i) for 32 levels: 16 and 31 are made, 32 is code 4. With 16 levels 16 is code 4 (`Cases.case-i`, `set-16`)
@@ -81,12 +82,11 @@ refused-10 =
     createTask 5 ⇒ said 10 0 0 (T 0)
     ∷ []
 
+abbrev pub with-32 : List (List Line)
+with-32 = case-i-32 ∷ set-32 ∷ dispatch-32 ∷ wakes-32 ∷ swis-32 ∷ []
+
 pub record Levels : Type 0 where
-  pub i-32 : freshWith 32 runs case-i-32
-  pub set : freshWith 32 runs set-32
-  pub dispatch : freshWith 32 runs dispatch-32
-  pub wakes : freshWith 32 runs wakes-32
-  pub swis : freshWith 32 runs swis-32
+  pub runs-with-32 : AllRun (freshWith 32) with-32
   pub set-with-16 : fresh runs set-16
   -- "set when they are made fresh"; "fresh tables asked for with other levels are 4 and come with 16"
   pub made-16 : madeFresh 16 ≡ stepOf (freshWith 16) (answer 0 0 0) (T 0)
@@ -97,9 +97,6 @@ pub record Levels : Type 0 where
   pub sound-32 : sound (freshWith 32) ≡ true
   pub other-unsound : (t : Tables) → state (t .state) LEVELS ≢ 16 → state (t .state) LEVELS ≢ 32 → sound t ≡ false
   pub code-10 : freshWith 17 runs refused-10
-
-abbrev with-32 : List (List Line)
-with-32 = case-i-32 ∷ set-32 ∷ dispatch-32 ∷ wakes-32 ∷ swis-32 ∷ []
 
 all-run : AllRun (freshWith 32) with-32
 unfolding quickly
@@ -121,11 +118,7 @@ pub levels : Levels
 unfolding computed says
 levels =
     record {
-      i-32 = all-run .0;
-      set = all-run .1 .0;
-      dispatch = all-run .1 .1 .0;
-      wakes = all-run .1 .1 .1 .0;
-      swis = all-run .1 .1 .1 .1 .0;
+      runs-with-32 = all-run;
       set-with-16 = set-alone .0;
       made-16 = refl;
       made-32 = refl;

@@ -82,7 +82,8 @@ module _ (q : WaitTables) (st : List ℕ) (a b c d : ℕ) where
 -- ---- each kind
 module _ (x number a b c d : ℕ) where
   task-code : (q : TaskQueues) (st : List ℕ) → Accepts (Tasks.taskCall q st x number a b c d)
-  unfolding Tasks.taskCall Tasks.createEffect Tasks.deleteEffect Tasks.setPriorityEffect Tasks.yieldEffect Tasks.endEffect Tasks.sleepEffect Tasks.lastResultEffect
+  unfolding Tasks.taskCall Tasks.createEffect Tasks.deleteEffect Tasks.setPriorityEffect Tasks.yieldEffect Tasks.endEffect
+      Tasks.sleepEffect Tasks.lastResultEffect
   task-code q st =
       numbered (eqb number 0x00) (one _ _ _ _)
       (numbered (eqb number 0x01) (one _ _ _ _)

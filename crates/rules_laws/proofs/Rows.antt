@@ -111,14 +111,15 @@ module _ (w n : ℕ) (t : List ℕ) (i : ℕ) (ws : List ℕ) where
   pub length-withRow : length (withRow w n t i ws) ≡ length t
   length-withRow = by-range i n (λ h. ap length (withRow-in h) ∙ length-sets t (i * w) ws) (λ h. ap length (withRow-out h))
 
-  pub row-same : n * w ≤ length t → length ws ≡ w → i < n → (f : ℕ) → f < w → field w n (withRow w n t i ws) i f ≡ getD ws f 0
-  row-same all whole h f q =
-      field-in w n (withRow w n t i ws) i f h q
+  -- a word of the row that was written; the words of the other rows
+  pub row-same : n * w ≤ length t → length ws ≤ w → i < n → (f : ℕ) → f < length ws → field w n (withRow w n t i ws) i f ≡ getD ws f 0
+  row-same all fits h f q =
+      field-in w n (withRow w n t i ws) i f h (omega arith)
       ∙ ap (λ (l : List ℕ). getD l (i * w + f) 0) (withRow-in h)
       ∙ getD-sets-in ws t (i * w) f (omega (arith, row-end w i n h)) (omega arith)
 
-  pub row-other : length ws ≡ w → (k f : ℕ) → k ≢ i → field w n (withRow w n t i ws) k f ≡ field w n t k f
-  row-other whole k f d =
+  pub row-other : length ws ≤ w → (k f : ℕ) → k ≢ i → field w n (withRow w n t i ws) k f ≡ field w n t k f
+  row-other fits k f d =
       by-range k n
       (λ p.
       by-range f w

@@ -2,7 +2,7 @@
 use Prim.Native.Nat.{ℕ, zero, suc}
 use mathlib.Core.Path.{_≡_, refl}
 use mathlib.Core.Bool.{Bool, true, false, not, _&&_, and-eq-true-iff}
-use mathlib.Core.List.{List, [], _∷_}
+use mathlib.Core.List.{List, [], _∷_, _++_, map}
 use native.Mathlib.Decide.{ℕ-discrete}
 use native.Mathlib.Omega.{arith}
 use borrow.Author.Tests.{ltb-true, lt-ltb, not-true}
@@ -119,25 +119,18 @@ one-false b [] k e = cc
 one-false b (c ∷ cs) zero e = rw (e, and-false b) (from-false cs)
 one-false b (c ∷ cs) (suc k) e = one-false (b && c) cs k e
 
-others : Tables → List Bool
-others t =
-    holds (ruleOf of-heap t)
-    ∷ holds (ruleOf of-clocks t)
-    ∷ holds (ruleOf of-tasks t)
-    ∷ holds (ruleOf of-lines t)
-    ∷ holds (ruleOf of-members t)
-    ∷ holds (ruleOf of-task-once t)
-    ∷ holds (ruleOf of-swi-once t)
-    ∷ holds (ruleOf of-semaphores t)
-    ∷ holds (ruleOf of-events t)
-    ∷ holds (ruleOf of-mailboxes t)
-    ∷ holds (ruleOf of-swis t)
-    ∷ holds (ruleOf of-active t)
-    ∷ holds (ruleOf of-dispatch t)
-    ∷ []
+-- the rules after the first, in the order in which `sound` asks for them, and whether each holds
+names : List Name
+names =
+    (of-heap ∷ of-clocks ∷ of-tasks ∷ of-lines ∷ of-members ∷ of-task-once ∷ of-swi-once ∷ [])
+    ++ (of-semaphores ∷ of-events ∷ of-mailboxes ∷ of-swis ∷ of-active ∷ of-dispatch ∷ [])
 
+others : Tables → List Bool
+others t = map (λ (n : Name). holds (ruleOf n t)) names
+
+-- by the place of each among them
 unsound : (n : Name) (t : Tables) → holds (ruleOf n t) ≡ false → sound t ≡ false
-unfolding sound allTrue others
+unfolding sound allTrue names others
 unsound of-state t e = rw e
 unsound of-heap t e = one-false (holds (ruleOf of-state t)) (others t) 0 e
 unsound of-clocks t e = one-false (holds (ruleOf of-state t)) (others t) 1 e

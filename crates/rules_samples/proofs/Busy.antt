@@ -1,12 +1,13 @@
 -- Two sets of sound tables, and words of them to be changed.
-use Prim.Native.Nat.{ℕ, _+_, _*_}
+use Prim.Native.Nat.{ℕ, _+_, _-_, _*_}
 use mathlib.Core.Path.{_≡_, refl}
 use mathlib.Core.Bool.{true}
 use mathlib.Core.List.{List, [], _∷_, _++_}
-use lib.ListN.{set}
+use lib.ListN.{length, set}
 use Rattle.basics.specs.Lists.{zeros}
 use Rattle.rules.specs.Fresh.{noSemaphores, noEvents, noMailboxes, noSwis, noClocks, freeHeap}
 use Rattle.rules.specs.Rows.{withField}
+use Rattle.rules.specs.Tables.{swiCount, swiWidth, semaphoreCount, semaphoreWidth, eventCount, eventWidth, heapUnits, fewLevels}
 use Rattle.rules.specs.Tables.{taskCount, taskWidth, mailboxCount, mailboxWidth, clockCount, clockWidth, minusOne, ready, sleeping, atSemaphore}
 use Rattle.rules.specs.Tables.{atEvent, reading, writing, terminated, inactive, withSemaphore, withEvent, withSwi, withState, tables}
 use Rattle.rules.specs.Lines.{lineWidth, withLine, semaphoreLine, mailboxLine, eventLine, postedLine, activeLine, readyLine}
@@ -15,21 +16,27 @@ use Rattle.rules.specs.declared.Tables.{Tables}
 use Rattle.rules.proofs.Faster.{faster-sound, quickly}
 use Rattle.rules.proofs.Standing.{linesWith, _has_}
 
+-- n rows of w words: these, each with zeros behind its words, and rows of zeros behind them
+abbrev tableOf : ℕ → ℕ → List (List ℕ) → List ℕ
+tableOf w n [] = zeros (n * w)
+tableOf w n (r ∷ rs) = r ++ (zeros (w - length r) ++ tableOf w (n - 1) rs)
+
 -- ---- tables in which something of each kind is going on; two Swis are active, task 1 is the current one
 -- mode, priority, object, left, first, second, outcome, value
 abbrev busyTasks : List ℕ
 busyTasks =
-    (ready ∷ 0 ∷ 0 ∷ 0 ∷ 0 ∷ 0 ∷ 0 ∷ 0 ∷ [])
-    ++ (ready ∷ 5 ∷ 0 ∷ 0 ∷ 0 ∷ 0 ∷ 0 ∷ 0 ∷ [])
-    ++ (sleeping ∷ 4 ∷ 0 ∷ 3 ∷ 0 ∷ 0 ∷ 0 ∷ 0 ∷ [])
-    ++ (atSemaphore ∷ 4 ∷ 0 ∷ 0 ∷ 0 ∷ 0 ∷ 0 ∷ 0 ∷ [])
-    ++ (atEvent ∷ 4 ∷ 0 ∷ 2 ∷ 3 ∷ 0 ∷ 0 ∷ 0 ∷ [])
-    ++ (reading ∷ 4 ∷ 0 ∷ 0 ∷ 0 ∷ 0 ∷ 0 ∷ 0 ∷ [])
-    ++ (writing ∷ 4 ∷ 1 ∷ 0 ∷ 9 ∷ 0 ∷ 0 ∷ 0 ∷ [])
-    ++ (terminated ∷ 4 ∷ 0 ∷ 0 ∷ 0 ∷ 0 ∷ 1 ∷ 0 ∷ [])
-    ++ (inactive ∷ minusOne ∷ 0 ∷ 0 ∷ 0 ∷ 0 ∷ 0 ∷ 0 ∷ [])
-    ++ (ready ∷ 3 ∷ 0 ∷ 0 ∷ 0 ∷ 0 ∷ 0 ∷ 12 ∷ [])
-    ++ zeros 176
+    tableOf taskWidth taskCount
+    ((ready ∷ [])
+    ∷ (ready ∷ 5 ∷ [])
+    ∷ (sleeping ∷ 4 ∷ 0 ∷ 3 ∷ [])
+    ∷ (atSemaphore ∷ 4 ∷ [])
+    ∷ (atEvent ∷ 4 ∷ 0 ∷ 2 ∷ 3 ∷ [])
+    ∷ (reading ∷ 4 ∷ [])
+    ∷ (writing ∷ 4 ∷ 1 ∷ 0 ∷ 9 ∷ [])
+    ∷ (terminated ∷ 4 ∷ 0 ∷ 0 ∷ 0 ∷ 0 ∷ 1 ∷ [])
+    ∷ (inactive ∷ minusOne ∷ [])
+    ∷ (ready ∷ 3 ∷ 0 ∷ 0 ∷ 0 ∷ 0 ∷ 0 ∷ 12 ∷ [])
+    ∷ [])
 
 abbrev busyLines : List ℕ
 unfolding linesWith
@@ -51,19 +58,19 @@ unfolding linesWith
 busy =
     tables busyTasks busyLines
     -- used, kind, count: task 3 waits at semaphore 0, semaphore 1 is binary, semaphore 2 is counting by priority
-    (1 ∷ 0 ∷ 0 ∷ 1 ∷ 1 ∷ 1 ∷ 1 ∷ 2 ∷ 3 ∷ zeros 39)
+    (tableOf semaphoreWidth semaphoreCount ((1 ∷ 0 ∷ 0 ∷ []) ∷ (1 ∷ 1 ∷ 1 ∷ []) ∷ (1 ∷ 2 ∷ 3 ∷ []) ∷ []))
     -- used, bits: task 4 waits at event 0 for bits 3
-    (1 ∷ 1 ∷ 1 ∷ 5 ∷ zeros 12)
+    (tableOf eventWidth eventCount ((1 ∷ 1 ∷ []) ∷ (1 ∷ 5 ∷ []) ∷ []))
     -- capacity, messages there, the words: task 5 reads from mailbox 0, task 6 writes to mailbox 1
-    ((2 ∷ zeros 9) ++ (1 ∷ 1 ∷ 7 ∷ zeros 7) ++ (3 ∷ 1 ∷ 4 ∷ zeros 7) ++ zeros 50)
+    (tableOf mailboxWidth mailboxCount ((2 ∷ []) ∷ (1 ∷ 1 ∷ 7 ∷ []) ∷ (3 ∷ 1 ∷ 4 ∷ []) ∷ []))
     -- used, priority, initial, trigger, posted, taken: 0 and 1 are active, 2 is posted
-    (1 ∷ 3 ∷ 5 ∷ 5 ∷ 0 ∷ 2 ∷ 1 ∷ 6 ∷ 0 ∷ 1 ∷ 0 ∷ 4 ∷ 1 ∷ 6 ∷ 0 ∷ 0 ∷ 1 ∷ 0 ∷ 1 ∷ 2 ∷ 0 ∷ 0 ∷ 0 ∷ 0 ∷ zeros 72)
+    (tableOf swiWidth swiCount ((1 ∷ 3 ∷ 5 ∷ 5 ∷ 0 ∷ 2 ∷ []) ∷ (1 ∷ 6 ∷ 0 ∷ 1 ∷ 0 ∷ 4 ∷ []) ∷ (1 ∷ 6 ∷ 0 ∷ 0 ∷ 1 ∷ []) ∷ (1 ∷ 2 ∷ []) ∷ []))
     -- used, swi, first, period, left: clock 0 runs, clock 1 is stopped
-    (1 ∷ 3 ∷ 2 ∷ 0 ∷ 1 ∷ 1 ∷ 3 ∷ 4 ∷ 1 ∷ 0 ∷ zeros 70)
+    (tableOf clockWidth clockCount ((1 ∷ 3 ∷ 2 ∷ 0 ∷ 1 ∷ []) ∷ (1 ∷ 3 ∷ 4 ∷ 1 ∷ []) ∷ []))
     -- a block of three units, a free one, a block of one
-    (1 ∷ 2 ∷ 2 ∷ 0 ∷ 1 ∷ zeros 251)
-    -- depth, Swis on, tasks on, tick, current
-    (0 ∷ 1 ∷ 1 ∷ 7 ∷ 1 ∷ 16 ∷ [])
+    (1 ∷ 2 ∷ 2 ∷ 0 ∷ 1 ∷ zeros (heapUnits - 5))
+    -- depth, Swis on, tasks on, tick, current, levels
+    (0 ∷ 1 ∷ 1 ∷ 7 ∷ 1 ∷ fewLevels ∷ [])
 
 pub busy-sound : sound busy ≡ true
 unfolding quickly linesWith busy
@@ -73,10 +80,10 @@ busy-sound = faster-sound busy refl
 unfoldable pub held : Tables
 unfolding linesWith
 held =
-    tables (ready ∷ 0 ∷ 0 ∷ 0 ∷ 0 ∷ 0 ∷ 0 ∷ 0 ∷ ready ∷ 5 ∷ zeros 246)
+    tables (tableOf taskWidth taskCount ((ready ∷ []) ∷ (ready ∷ 5 ∷ []) ∷ []))
     (linesWith (readyLine 0 has (0 ∷ []) ∷ readyLine 5 has (1 ∷ []) ∷ []))
     noSemaphores noEvents noMailboxes noSwis noClocks freeHeap
-    (0 ∷ 1 ∷ 0 ∷ 0 ∷ 0 ∷ 16 ∷ [])
+    (0 ∷ 1 ∷ 0 ∷ 0 ∷ 0 ∷ fewLevels ∷ [])
 
 pub held-sound : sound held ≡ true
 unfolding quickly linesWith held

@@ -3,10 +3,9 @@ use mathlib.Core.Path.{refl}
 use mathlib.Core.List.{List, [], _∷_}
 use Rattle.rules.specs.Tables.{minusOne, forever}
 use Rattle.rules.specs.Fresh.{fresh}
-use Rattle.rules.proofs.Runs.{Line, _runs_, AllRun, _⇒_, said, saw, T, S, I, createTask, deleteTask, lastResult, createSwi, deleteSwi, postSwi}
-use Rattle.rules.proofs.Runs.{addOne, endSwi, takenTrigger, triggerOf, createSemaphore, deleteSemaphore, pend, post, countOf, createEvent}
-use Rattle.rules.proofs.Runs.{deleteEvent, postEvent, createMailbox, deleteMailbox, postMailbox, createClock, deleteClock, startClock}
-use Rattle.rules.proofs.Runs.{interruptIn, tick}
+use Rattle.rules.proofs.Runs.{Line, AllRun, _⇒_, said, saw, T, S, I, createTask, deleteTask, lastResult, createSwi, deleteSwi, postSwi, addOne, endSwi}
+use Rattle.rules.proofs.Runs.{takenTrigger, triggerOf, createSemaphore, deleteSemaphore, pend, post, countOf, createEvent, deleteEvent, postEvent}
+use Rattle.rules.proofs.Runs.{createMailbox, deleteMailbox, postMailbox, createClock, deleteClock, startClock, interruptIn, tick}
 use Rattle.rules.proofs.Faster.{faster, quickly, fresh-sound}
 
 -- "A number below the table's size passes although its object was deleted.": it is code 11, of each kind; an inactive task can be deleted
@@ -73,24 +72,10 @@ triggered =
     ∷ deleteSwi 0 ⇒ said 0 0 0 (T 0)
     ∷ []
 
-pub record Mistakes : Type 0 where
-  pub deleted-number : fresh runs deleted
-  pub expired-waiter : fresh runs expired
-  pub woken-and-counted : fresh runs woken
-  pub trigger-set-back : fresh runs triggered
-
-abbrev all : List (List Line)
+abbrev pub all : List (List Line)
 all = deleted ∷ expired ∷ woken ∷ triggered ∷ []
 
-all-run : AllRun fresh all
+-- from fresh tables each says what stands beside its calls
+pub mistakes : AllRun fresh all
 unfolding quickly
-all-run = faster fresh all fresh-sound refl
-
-pub mistakes : Mistakes
-mistakes =
-    record {
-      deleted-number = all-run .0;
-      expired-waiter = all-run .1 .0;
-      woken-and-counted = all-run .1 .1 .0;
-      trigger-set-back = all-run .1 .1 .1 .0;
-    }
+mistakes = faster fresh all fresh-sound refl

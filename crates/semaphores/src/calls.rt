@@ -2,6 +2,7 @@
 use super::table::free_semaphore;
 use super::table::put_semaphore;
 use rules::Answer;
+use rules::Call;
 use rules::Lines;
 use rules::Semaphores;
 use rules::numbers::COUNT;
@@ -14,7 +15,7 @@ use rules::numbers::USED;
 ghost use mathlib.Core.Path.{_≡_};
 ghost use mathlib.Core.Bool.{not, _||_};
 ghost use lib.Dec.{ltb, leb};
-ghost use Rattle.rules.specs.Answer.{withAnswer, answered, codeOf, unused};
+ghost use Rattle.rules.specs.Answer.{withAnswer, answered, codeOf, unused, _by_};
 ghost use Rattle.rules.specs.Waits.{waitTables};
 ghost use Rattle.rules.specs.Semaphores.{most, createCases, createEffect, deleteCases, deleteEffect, resetCases, resetEffect, createCall, deleteCall};
 ghost use Rattle.rules.specs.Semaphores.{resetCall};
@@ -55,38 +56,30 @@ pub fn create_effect(semaphores: &mut Semaphores, a: u32, b: u32) -> Answer
     answers::accepted(DONE, i as u32)
 }
 
-pub fn create(semaphores: &mut Semaphores, x: u32, a: u32, b: u32, c: u32, d: u32) -> Answer
+pub fn create(semaphores: &mut Semaphores, x: u32, q: Call) -> Answer
     ensures { λ r. ⌜ ((ts : TaskTable) (ls : LineTable) → withAnswer r (waitTables ts ls (new semaphores))
-        ≡ answered (waitTables ts ls (old semaphores)) (createCall (waitTables ts ls (old semaphores)) x a b c d)) ⌝ }
+        ≡ answered (waitTables ts ls (old semaphores)) (createCall (waitTables ts ls (old semaphores)) x by q)) ⌝ }
 {
-    let code = create_code(semaphores, x, a, b, c, d);
+    let code = create_code(semaphores, x, q.a, q.b, q.c, q.d);
     if code != 0 {
         return answers::refused(code);
     }
-    create_effect(semaphores, a, b)
+    create_effect(semaphores, q.a, q.b)
 }
 
 // ---- 21: delete
 
-pub fn delete_code(
-    lines: &Lines,
-    semaphores: &Semaphores,
-    x: u32,
-    a: u32,
-    b: u32,
-    c: u32,
-    d: u32,
-) -> u32
-    ensures { λ r. ⌜ r ≡ codeOf (deleteCases (old lines) (old semaphores) x a b c d) ⌝ }
+pub fn delete_code(lines: &Lines, semaphores: &Semaphores, x: u32, q: Call) -> u32
+    ensures { λ r. ⌜ r ≡ codeOf (deleteCases (old lines) (old semaphores) x by q) ⌝ }
 {
     if x != T {
         return 2;
     }
-    let i = a as usize;
+    let i = q.a as usize;
     if rows::semaphore(semaphores, i, USED) == 0 {
-        return answers::absent_code(a, rules::numbers::SEMAPHORE_COUNT);
+        return answers::absent_code(q.a, rules::numbers::SEMAPHORE_COUNT);
     }
-    if answers::unused(0, b, c, d) {
+    if answers::unused(0, q.b, q.c, q.d) {
         return 4;
     }
     if 0 < lines::len(lines, i) {
@@ -104,23 +97,15 @@ pub fn delete_effect(semaphores: &mut Semaphores, a: u32) -> Answer
     answers::accepted(DONE, 0)
 }
 
-pub fn delete(
-    lines: &Lines,
-    semaphores: &mut Semaphores,
-    x: u32,
-    a: u32,
-    b: u32,
-    c: u32,
-    d: u32,
-) -> Answer
+pub fn delete(lines: &Lines, semaphores: &mut Semaphores, x: u32, q: Call) -> Answer
     ensures { λ r. ⌜ ((ts : TaskTable) → withAnswer r (waitTables ts (old lines) (new semaphores))
-        ≡ answered (waitTables ts (old lines) (old semaphores)) (deleteCall (waitTables ts (old lines) (old semaphores)) x a b c d)) ⌝ }
+        ≡ answered (waitTables ts (old lines) (old semaphores)) (deleteCall (waitTables ts (old lines) (old semaphores)) x by q)) ⌝ }
 {
-    let code = delete_code(lines, semaphores, x, a, b, c, d);
+    let code = delete_code(lines, semaphores, x, q);
     if code != 0 {
         return answers::refused(code);
     }
-    delete_effect(semaphores, a)
+    delete_effect(semaphores, q.a)
 }
 
 // ---- 24: reset, to a count as in 20
@@ -132,25 +117,17 @@ pub fn bad_reset(kind: u32, count: u32, c: u32, d: u32) -> bool
     !(count <= rows::readings::most(kind)) | answers::unused(0, 0, c, d)
 }
 
-pub fn reset_code(
-    lines: &Lines,
-    semaphores: &Semaphores,
-    x: u32,
-    a: u32,
-    b: u32,
-    c: u32,
-    d: u32,
-) -> u32
-    ensures { λ r. ⌜ r ≡ codeOf (resetCases (old lines) (old semaphores) x a b c d) ⌝ }
+pub fn reset_code(lines: &Lines, semaphores: &Semaphores, x: u32, q: Call) -> u32
+    ensures { λ r. ⌜ r ≡ codeOf (resetCases (old lines) (old semaphores) x by q) ⌝ }
 {
     if x != T {
         return 2;
     }
-    let i = a as usize;
+    let i = q.a as usize;
     if rows::semaphore(semaphores, i, USED) == 0 {
-        return answers::absent_code(a, rules::numbers::SEMAPHORE_COUNT);
+        return answers::absent_code(q.a, rules::numbers::SEMAPHORE_COUNT);
     }
-    if bad_reset(rows::semaphore(semaphores, i, KIND), b, c, d) {
+    if bad_reset(rows::semaphore(semaphores, i, KIND), q.b, q.c, q.d) {
         return 4;
     }
     if 0 < lines::len(lines, i) {
@@ -167,21 +144,13 @@ pub fn reset_effect(semaphores: &mut Semaphores, a: u32, b: u32) -> Answer
     answers::accepted(DONE, 0)
 }
 
-pub fn reset(
-    lines: &Lines,
-    semaphores: &mut Semaphores,
-    x: u32,
-    a: u32,
-    b: u32,
-    c: u32,
-    d: u32,
-) -> Answer
+pub fn reset(lines: &Lines, semaphores: &mut Semaphores, x: u32, q: Call) -> Answer
     ensures { λ r. ⌜ ((ts : TaskTable) → withAnswer r (waitTables ts (old lines) (new semaphores))
-        ≡ answered (waitTables ts (old lines) (old semaphores)) (resetCall (waitTables ts (old lines) (old semaphores)) x a b c d)) ⌝ }
+        ≡ answered (waitTables ts (old lines) (old semaphores)) (resetCall (waitTables ts (old lines) (old semaphores)) x by q)) ⌝ }
 {
-    let code = reset_code(lines, semaphores, x, a, b, c, d);
+    let code = reset_code(lines, semaphores, x, q);
     if code != 0 {
         return answers::refused(code);
     }
-    reset_effect(semaphores, a, b)
+    reset_effect(semaphores, q.a, q.b)
 }

@@ -5,12 +5,13 @@ pub mod posts;
 pub mod table;
 
 use rules::Answer;
+use rules::Call;
 use rules::Lines;
 use rules::Semaphores;
 use rules::State;
 use rules::Tasks;
 ghost use mathlib.Core.Path.{_≡_};
-ghost use Rattle.rules.specs.Answer.{withAnswer, answered};
+ghost use Rattle.rules.specs.Answer.{withAnswer, answered, _by_};
 ghost use Rattle.rules.specs.Semaphores.{semaphoreCall};
 ghost use Rattle.tables.specs.Lent.{old, waitTablesOld, waitTablesNew};
 
@@ -21,21 +22,18 @@ pub fn semaphore_call(
     semaphores: &mut Semaphores,
     state: &State,
     x: u32,
-    number: u32,
-    a: u32,
-    b: u32,
-    c: u32,
-    d: u32,
+    q: Call,
 ) -> Answer
     ensures { λ r. ⌜ withAnswer r (waitTablesNew tasks lines semaphores)
-        ≡ answered (waitTablesOld tasks lines semaphores) (semaphoreCall (waitTablesOld tasks lines semaphores) (old state) x number a b c d) ⌝ }
+        ≡ answered (waitTablesOld tasks lines semaphores) (semaphoreCall (waitTablesOld tasks lines semaphores) (old state) x (q .number) by q) ⌝ }
 {
+    let number = q.number;
     match number {
-        0x20 => calls::create(semaphores, x, a, b, c, d),
-        0x21 => calls::delete(lines, semaphores, x, a, b, c, d),
-        0x22 => pends::pend(tasks, lines, semaphores, state, x, a, b, c, d),
-        0x23 => posts::post(tasks, lines, semaphores, a, b, c, d),
-        0x24 => calls::reset(lines, semaphores, x, a, b, c, d),
+        0x20 => calls::create(semaphores, x, q),
+        0x21 => calls::delete(lines, semaphores, x, q),
+        0x22 => pends::pend(tasks, lines, semaphores, state, x, q),
+        0x23 => posts::post(tasks, lines, semaphores, q),
+        0x24 => calls::reset(lines, semaphores, x, q),
         _ => answers::refused(1),
     }
 }

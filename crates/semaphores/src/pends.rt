@@ -1,5 +1,6 @@
 // 22 pend: its code, 0 where it is accepted; its effect where it is; and the call.
 use rules::Answer;
+use rules::Call;
 use rules::Lines;
 use rules::Semaphores;
 use rules::State;
@@ -13,7 +14,7 @@ use rules::numbers::NOT_MET;
 use rules::numbers::NOW_WAITING;
 use rules::numbers::USED;
 ghost use mathlib.Core.Path.{_≡_};
-ghost use Rattle.rules.specs.Answer.{withAnswer, answered, codeOf};
+ghost use Rattle.rules.specs.Answer.{withAnswer, answered, codeOf, _by_};
 ghost use Rattle.rules.specs.Tables.{task, atSemaphore};
 ghost use Rattle.rules.specs.Lines.{moved};
 ghost use Rattle.rules.specs.Waits.{waiting};
@@ -29,34 +30,20 @@ pub fn pend_waits(semaphores: &Semaphores, a: u32, limit: u32) -> bool
     (rows::semaphore(semaphores, a as usize, COUNT) == 0) & (limit != 0)
 }
 
-pub fn pend_code(
-    semaphores: &Semaphores,
-    state: &State,
-    x: u32,
-    a: u32,
-    b: u32,
-    c: u32,
-    d: u32,
-) -> u32
-    ensures { λ r. ⌜ r ≡ codeOf (pendCases (old semaphores) (old state) x a b c d) ⌝ }
+pub fn pend_code(semaphores: &Semaphores, state: &State, x: u32, q: Call) -> u32
+    ensures { λ r. ⌜ r ≡ codeOf (pendCases (old semaphores) (old state) x by q) ⌝ }
 {
-    if moves::begins::outside(x, b) {
+    if moves::begins::outside(x, q.b) {
         return 2;
     }
-    if rows::semaphore(semaphores, a as usize, USED) == 0 {
-        return answers::absent_code(a, rules::numbers::SEMAPHORE_COUNT);
+    if rows::semaphore(semaphores, q.a as usize, USED) == 0 {
+        return answers::absent_code(q.a, rules::numbers::SEMAPHORE_COUNT);
     }
-    if answers::unused(0, 0, c, d) {
+    if answers::unused(0, 0, q.c, q.d) {
         return 4;
     }
-    let begins = pend_waits(semaphores, a, b);
-    if begins & moves::begins::idle(state) {
-        return 5;
-    }
-    if begins & moves::begins::switch_off(state) {
-        return 9;
-    }
-    0
+    let begins = pend_waits(semaphores, q.a, q.b);
+    moves::begins::wait_code(state, begins)
 }
 
 // Task i waits at semaphore a: in arrival order, or before the first waiter of lower priority.
@@ -111,17 +98,14 @@ pub fn pend(
     semaphores: &mut Semaphores,
     state: &State,
     x: u32,
-    a: u32,
-    b: u32,
-    c: u32,
-    d: u32,
+    q: Call,
 ) -> Answer
     ensures { λ r. ⌜ withAnswer r (waitTablesNew tasks lines semaphores)
-        ≡ answered (waitTablesOld tasks lines semaphores) (pendCall (waitTablesOld tasks lines semaphores) (old state) x a b c d) ⌝ }
+        ≡ answered (waitTablesOld tasks lines semaphores) (pendCall (waitTablesOld tasks lines semaphores) (old state) x by q) ⌝ }
 {
-    let code = pend_code(semaphores, state, x, a, b, c, d);
+    let code = pend_code(semaphores, state, x, q);
     if code != 0 {
         return answers::refused(code);
     }
-    pend_effect(tasks, lines, semaphores, state, a, b)
+    pend_effect(tasks, lines, semaphores, state, q.a, q.b)
 }

@@ -1,5 +1,6 @@
 // 23 post: its code, 0 where it is accepted; its effect where it is; and the call.
 use rules::Answer;
+use rules::Call;
 use rules::Lines;
 use rules::Semaphores;
 use rules::Tasks;
@@ -11,7 +12,7 @@ use rules::numbers::USED;
 ghost use mathlib.Core.Path.{_≡_};
 ghost use mathlib.Core.Bool.{not, _&&_};
 ghost use lib.Dec.{leb};
-ghost use Rattle.rules.specs.Answer.{withAnswer, answered, codeOf};
+ghost use Rattle.rules.specs.Answer.{withAnswer, answered, codeOf, _by_};
 ghost use Rattle.rules.specs.Tables.{semaphore, KIND, COUNT};
 ghost use Rattle.rules.specs.Semaphores.{countUp, isBinary, postCases, postEffect, postCall};
 ghost use Rattle.tables.specs.Lent.{old, waitTablesOld, waitTablesNew};
@@ -71,21 +72,13 @@ pub fn post_effect(
     answers::accepted(DONE, 0)
 }
 
-pub fn post(
-    tasks: &mut Tasks,
-    lines: &mut Lines,
-    semaphores: &mut Semaphores,
-    a: u32,
-    b: u32,
-    c: u32,
-    d: u32,
-) -> Answer
+pub fn post(tasks: &mut Tasks, lines: &mut Lines, semaphores: &mut Semaphores, q: Call) -> Answer
     ensures { λ r. ⌜ withAnswer r (waitTablesNew tasks lines semaphores)
-        ≡ answered (waitTablesOld tasks lines semaphores) (postCall (waitTablesOld tasks lines semaphores) a b c d) ⌝ }
+        ≡ answered (waitTablesOld tasks lines semaphores) (postCall (waitTablesOld tasks lines semaphores) by q) ⌝ }
 {
-    let code = post_code(semaphores, a, b, c, d);
+    let code = post_code(semaphores, q.a, q.b, q.c, q.d);
     if code != 0 {
         return answers::refused(code);
     }
-    post_effect(tasks, lines, semaphores, a)
+    post_effect(tasks, lines, semaphores, q.a)
 }

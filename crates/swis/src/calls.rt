@@ -3,6 +3,7 @@ use super::table::free_swi;
 use super::table::is_held;
 use super::table::put_swi;
 use rules::Answer;
+use rules::Call;
 use rules::Clocks;
 use rules::Lines;
 use rules::State;
@@ -16,7 +17,7 @@ use rules::numbers::T;
 use rules::numbers::TAKEN;
 use rules::numbers::USED;
 ghost use mathlib.Core.Path.{_≡_};
-ghost use Rattle.rules.specs.Answer.{withAnswer, answered, codeOf};
+ghost use Rattle.rules.specs.Answer.{withAnswer, answered, codeOf, _by_};
 ghost use Rattle.rules.specs.Swis.{swiQueues, createCases, createEffect, deleteCases, deleteEffect, endCases, endEffect, takenCases, takenEffect, createCall};
 ghost use Rattle.rules.specs.Swis.{deleteCall, endCall, takenCall};
 ghost use Rattle.tables.specs.Lent.{old, new, swiQueuesOld, swiQueuesNew};
@@ -52,41 +53,32 @@ pub fn create_effect(swis: &mut Swis, a: u32, b: u32) -> Answer
     answers::accepted(DONE, i as u32)
 }
 
-pub fn create(swis: &mut Swis, x: u32, a: u32, b: u32, c: u32, d: u32) -> Answer
+pub fn create(swis: &mut Swis, x: u32, q: Call) -> Answer
     ensures { λ r. ⌜ ((ls : LineTable) → withAnswer r (swiQueues (new swis) ls)
-        ≡ answered (swiQueues (old swis) ls) (createCall (swiQueues (old swis) ls) x a b c d)) ⌝ }
+        ≡ answered (swiQueues (old swis) ls) (createCall (swiQueues (old swis) ls) x by q)) ⌝ }
 {
-    let code = create_code(swis, x, a, b, c, d);
+    let code = create_code(swis, x, q.a, q.b, q.c, q.d);
     if code != 0 {
         return answers::refused(code);
     }
-    create_effect(swis, a, b)
+    create_effect(swis, q.a, q.b)
 }
 
 // ---- 11: delete
 
-pub fn delete_code(
-    swis: &Swis,
-    lines: &Lines,
-    clocks: &Clocks,
-    x: u32,
-    a: u32,
-    b: u32,
-    c: u32,
-    d: u32,
-) -> u32
-    ensures { λ r. ⌜ r ≡ codeOf (deleteCases (old swis) (old lines) (old clocks) x a b c d) ⌝ }
+pub fn delete_code(swis: &Swis, lines: &Lines, clocks: &Clocks, x: u32, q: Call) -> u32
+    ensures { λ r. ⌜ r ≡ codeOf (deleteCases (old swis) (old lines) (old clocks) x by q) ⌝ }
 {
     if x != T {
         return 2;
     }
-    if rows::swi(swis, a as usize, USED) == 0 {
-        return answers::absent_code(a, rules::numbers::SWI_COUNT);
+    if rows::swi(swis, q.a as usize, USED) == 0 {
+        return answers::absent_code(q.a, rules::numbers::SWI_COUNT);
     }
-    if answers::unused(0, b, c, d) {
+    if answers::unused(0, q.b, q.c, q.d) {
         return 4;
     }
-    if is_held(swis, lines, clocks, a) {
+    if is_held(swis, lines, clocks, q.a) {
         return 5;
     }
     0
@@ -100,24 +92,15 @@ pub fn delete_effect(swis: &mut Swis, a: u32) -> Answer
     answers::accepted(DONE, 0)
 }
 
-pub fn delete(
-    swis: &mut Swis,
-    lines: &Lines,
-    clocks: &Clocks,
-    x: u32,
-    a: u32,
-    b: u32,
-    c: u32,
-    d: u32,
-) -> Answer
+pub fn delete(swis: &mut Swis, lines: &Lines, clocks: &Clocks, x: u32, q: Call) -> Answer
     ensures { λ r. ⌜ withAnswer r (swiQueues (new swis) (old lines))
-        ≡ answered (swiQueuesOld swis lines) (deleteCall (swiQueuesOld swis lines) (old clocks) x a b c d) ⌝ }
+        ≡ answered (swiQueuesOld swis lines) (deleteCall (swiQueuesOld swis lines) (old clocks) x by q) ⌝ }
 {
-    let code = delete_code(swis, lines, clocks, x, a, b, c, d);
+    let code = delete_code(swis, lines, clocks, x, q);
     if code != 0 {
         return answers::refused(code);
     }
-    delete_effect(swis, a)
+    delete_effect(swis, q.a)
 }
 
 // ---- 17: end of the running Swi
@@ -147,20 +130,11 @@ pub fn end_effect(swis: &mut Swis, lines: &mut Lines) -> Answer
     answers::accepted(DONE, 0)
 }
 
-pub fn end(
-    swis: &mut Swis,
-    lines: &mut Lines,
-    state: &State,
-    x: u32,
-    a: u32,
-    b: u32,
-    c: u32,
-    d: u32,
-) -> Answer
+pub fn end(swis: &mut Swis, lines: &mut Lines, state: &State, x: u32, q: Call) -> Answer
     ensures { λ r. ⌜ withAnswer r (swiQueuesNew swis lines)
-        ≡ answered (swiQueuesOld swis lines) (endCall (swiQueuesOld swis lines) (old state) x a b c d) ⌝ }
+        ≡ answered (swiQueuesOld swis lines) (endCall (swiQueuesOld swis lines) (old state) x by q) ⌝ }
 {
-    let code = end_code(state, x, a, b, c, d);
+    let code = end_code(state, x, q.a, q.b, q.c, q.d);
     if code != 0 {
         return answers::refused(code);
     }
@@ -188,10 +162,10 @@ pub fn taken_effect(swis: &Swis, lines: &Lines) -> Answer
     answers::accepted(DONE, rows::swi(swis, basics::wide(i), TAKEN))
 }
 
-pub fn taken(swis: &Swis, lines: &Lines, x: u32, a: u32, b: u32, c: u32, d: u32) -> Answer
-    ensures { λ r. ⌜ withAnswer r (swiQueuesOld swis lines) ≡ answered (swiQueuesOld swis lines) (takenCall (swiQueuesOld swis lines) x a b c d) ⌝ }
+pub fn taken(swis: &Swis, lines: &Lines, x: u32, q: Call) -> Answer
+    ensures { λ r. ⌜ withAnswer r (swiQueuesOld swis lines) ≡ answered (swiQueuesOld swis lines) (takenCall (swiQueuesOld swis lines) x by q) ⌝ }
 {
-    let code = taken_code(x, a, b, c, d);
+    let code = taken_code(x, q.a, q.b, q.c, q.d);
     if code != 0 {
         return answers::refused(code);
     }

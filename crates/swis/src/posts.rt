@@ -1,5 +1,6 @@
 // Posting a Swi, and the calls 12 to 16.
 use rules::Answer;
+use rules::Call;
 use rules::Lines;
 use rules::Swis;
 use rules::numbers::DONE;
@@ -9,7 +10,7 @@ use rules::numbers::PRIORITY;
 use rules::numbers::TRIGGER;
 use rules::numbers::USED;
 ghost use mathlib.Core.Path.{_≡_};
-ghost use Rattle.rules.specs.Answer.{withAnswer, answered, codeOf};
+ghost use Rattle.rules.specs.Answer.{withAnswer, answered, codeOf, _by_};
 ghost use Rattle.rules.specs.Swis.{posted, oneDown, postCases, maskCases, postEffect, changeEffect, zeroEffect, postCall, addCall, takeCall, setBitsCall};
 ghost use Rattle.rules.specs.Swis.{clearBitsCall};
 ghost use Rattle.tables.specs.Lent.{old, swiQueuesOld, swiQueuesNew};
@@ -92,60 +93,60 @@ pub fn zero_effect(swis: &mut Swis, lines: &mut Lines, a: u32, v: u32) -> Answer
 // ---- the calls
 
 // 12: post.
-pub fn post(swis: &mut Swis, lines: &mut Lines, a: u32, b: u32, c: u32, d: u32) -> Answer
-    ensures { λ r. ⌜ withAnswer r (swiQueuesNew swis lines) ≡ answered (swiQueuesOld swis lines) (postCall (swiQueuesOld swis lines) a b c d) ⌝ }
+pub fn post(swis: &mut Swis, lines: &mut Lines, q: Call) -> Answer
+    ensures { λ r. ⌜ withAnswer r (swiQueuesNew swis lines) ≡ answered (swiQueuesOld swis lines) (postCall (swiQueuesOld swis lines) by q) ⌝ }
 {
-    let code = post_code(swis, a, b, c, d);
+    let code = post_code(swis, q.a, q.b, q.c, q.d);
     if code != 0 {
         return answers::refused(code);
     }
-    post_effect(swis, lines, a)
+    post_effect(swis, lines, q.a)
 }
 
 // 13: add one to the trigger and post.
-pub fn add(swis: &mut Swis, lines: &mut Lines, a: u32, b: u32, c: u32, d: u32) -> Answer
-    ensures { λ r. ⌜ withAnswer r (swiQueuesNew swis lines) ≡ answered (swiQueuesOld swis lines) (addCall (swiQueuesOld swis lines) a b c d) ⌝ }
+pub fn add(swis: &mut Swis, lines: &mut Lines, q: Call) -> Answer
+    ensures { λ r. ⌜ withAnswer r (swiQueuesNew swis lines) ≡ answered (swiQueuesOld swis lines) (addCall (swiQueuesOld swis lines) by q) ⌝ }
 {
-    let code = post_code(swis, a, b, c, d);
+    let code = post_code(swis, q.a, q.b, q.c, q.d);
     if code != 0 {
         return answers::refused(code);
     }
-    let v = rows::swi(swis, a as usize, TRIGGER);
-    change_effect(swis, lines, a, std::num::wrapping_add_u32(v, 1))
+    let v = rows::swi(swis, q.a as usize, TRIGGER);
+    change_effect(swis, lines, q.a, std::num::wrapping_add_u32(v, 1))
 }
 
 // 14: take one from the trigger and post if it is 0 now.
-pub fn take(swis: &mut Swis, lines: &mut Lines, a: u32, b: u32, c: u32, d: u32) -> Answer
-    ensures { λ r. ⌜ withAnswer r (swiQueuesNew swis lines) ≡ answered (swiQueuesOld swis lines) (takeCall (swiQueuesOld swis lines) a b c d) ⌝ }
+pub fn take(swis: &mut Swis, lines: &mut Lines, q: Call) -> Answer
+    ensures { λ r. ⌜ withAnswer r (swiQueuesNew swis lines) ≡ answered (swiQueuesOld swis lines) (takeCall (swiQueuesOld swis lines) by q) ⌝ }
 {
-    let code = post_code(swis, a, b, c, d);
+    let code = post_code(swis, q.a, q.b, q.c, q.d);
     if code != 0 {
         return answers::refused(code);
     }
-    let v = rows::swi(swis, a as usize, TRIGGER);
-    zero_effect(swis, lines, a, one_down(v))
+    let v = rows::swi(swis, q.a as usize, TRIGGER);
+    zero_effect(swis, lines, q.a, one_down(v))
 }
 
 // 15: set the mask's bits in the trigger and post.
-pub fn set_bits(swis: &mut Swis, lines: &mut Lines, a: u32, b: u32, c: u32, d: u32) -> Answer
-    ensures { λ r. ⌜ withAnswer r (swiQueuesNew swis lines) ≡ answered (swiQueuesOld swis lines) (setBitsCall (swiQueuesOld swis lines) a b c d) ⌝ }
+pub fn set_bits(swis: &mut Swis, lines: &mut Lines, q: Call) -> Answer
+    ensures { λ r. ⌜ withAnswer r (swiQueuesNew swis lines) ≡ answered (swiQueuesOld swis lines) (setBitsCall (swiQueuesOld swis lines) by q) ⌝ }
 {
-    let code = mask_code(swis, a, c, d);
+    let code = mask_code(swis, q.a, q.c, q.d);
     if code != 0 {
         return answers::refused(code);
     }
-    let v = rows::swi(swis, a as usize, TRIGGER);
-    change_effect(swis, lines, a, v | b)
+    let v = rows::swi(swis, q.a as usize, TRIGGER);
+    change_effect(swis, lines, q.a, v | q.b)
 }
 
 // 16: clear the mask's bits in the trigger and post if it is 0 now.
-pub fn clear_bits(swis: &mut Swis, lines: &mut Lines, a: u32, b: u32, c: u32, d: u32) -> Answer
-    ensures { λ r. ⌜ withAnswer r (swiQueuesNew swis lines) ≡ answered (swiQueuesOld swis lines) (clearBitsCall (swiQueuesOld swis lines) a b c d) ⌝ }
+pub fn clear_bits(swis: &mut Swis, lines: &mut Lines, q: Call) -> Answer
+    ensures { λ r. ⌜ withAnswer r (swiQueuesNew swis lines) ≡ answered (swiQueuesOld swis lines) (clearBitsCall (swiQueuesOld swis lines) by q) ⌝ }
 {
-    let code = mask_code(swis, a, c, d);
+    let code = mask_code(swis, q.a, q.c, q.d);
     if code != 0 {
         return answers::refused(code);
     }
-    let v = rows::swi(swis, a as usize, TRIGGER);
-    zero_effect(swis, lines, a, v & !b)
+    let v = rows::swi(swis, q.a as usize, TRIGGER);
+    zero_effect(swis, lines, q.a, v & !q.b)
 }

@@ -1,5 +1,6 @@
 // Calls 74, 75, 77 and 78: they change the state alone.
 use rules::Answer;
+use rules::Call;
 use rules::State;
 use rules::numbers::DEPTH;
 use rules::numbers::DONE;
@@ -9,7 +10,7 @@ use rules::numbers::S;
 use rules::numbers::SWIS;
 use rules::numbers::TASKS;
 ghost use mathlib.Core.Path.{_≡_};
-ghost use Rattle.rules.specs.Answer.{withAnswer, answered, codeOf};
+ghost use Rattle.rules.specs.Answer.{withAnswer, answered, codeOf, _by_};
 ghost use Rattle.rules.specs.Switches.{setting, settings, turned, mayNotName, badWhich, badKey, offCases, restoreCases, inCases, interruptCases, offCall};
 ghost use Rattle.rules.specs.Switches.{restoreCall, inCall, outCall};
 ghost use Rattle.tables.specs.Lent.{old, new};
@@ -98,10 +99,11 @@ pub fn off_code(x: u32, which: u32, b: u32, c: u32, d: u32) -> u32
 }
 
 // 77 off: the named ones' old settings.
-pub fn off(state: &mut State, x: u32, which: u32, b: u32, c: u32, d: u32) -> Answer
-    ensures { λ r. ⌜ withAnswer r (new state) ≡ answered (old state) (offCall (old state) x which b c d) ⌝ }
+pub fn off(state: &mut State, x: u32, q: Call) -> Answer
+    ensures { λ r. ⌜ withAnswer r (new state) ≡ answered (old state) (offCall (old state) x by q) ⌝ }
 {
-    let code = off_code(x, which, b, c, d);
+    let which = q.a;
+    let code = off_code(x, which, q.b, q.c, q.d);
     if code != 0 {
         return answers::refused(code);
     }
@@ -125,10 +127,12 @@ pub fn restore_code(x: u32, which: u32, key: u32, c: u32, d: u32) -> u32
 }
 
 // 78 restore: those of the named ones whose bit is in the key.
-pub fn restore(state: &mut State, x: u32, which: u32, key: u32, c: u32, d: u32) -> Answer
-    ensures { λ r. ⌜ withAnswer r (new state) ≡ answered (old state) (restoreCall (old state) x which key c d) ⌝ }
+pub fn restore(state: &mut State, x: u32, q: Call) -> Answer
+    ensures { λ r. ⌜ withAnswer r (new state) ≡ answered (old state) (restoreCall (old state) x by q) ⌝ }
 {
-    let code = restore_code(x, which, key, c, d);
+    let which = q.a;
+    let key = q.b;
+    let code = restore_code(x, which, key, q.c, q.d);
     if code != 0 {
         return answers::refused(code);
     }
@@ -151,10 +155,10 @@ pub fn in_code(state: &State, a: u32, b: u32, c: u32, d: u32) -> u32
 }
 
 // 74 interrupt in.
-pub fn interrupt_in(state: &mut State, a: u32, b: u32, c: u32, d: u32) -> Answer
-    ensures { λ r. ⌜ withAnswer r (new state) ≡ answered (old state) (inCall (old state) a b c d) ⌝ }
+pub fn interrupt_in(state: &mut State, q: Call) -> Answer
+    ensures { λ r. ⌜ withAnswer r (new state) ≡ answered (old state) (inCall (old state) by q) ⌝ }
 {
-    let code = in_code(state, a, b, c, d);
+    let code = in_code(state, q.a, q.b, q.c, q.d);
     if code != 0 {
         return answers::refused(code);
     }
@@ -179,10 +183,10 @@ pub fn interrupt_code(x: u32, a: u32, b: u32, c: u32, d: u32) -> u32
 }
 
 // 75 interrupt out.
-pub fn interrupt_out(state: &mut State, x: u32, a: u32, b: u32, c: u32, d: u32) -> Answer
-    ensures { λ r. ⌜ withAnswer r (new state) ≡ answered (old state) (outCall (old state) x a b c d) ⌝ }
+pub fn interrupt_out(state: &mut State, x: u32, q: Call) -> Answer
+    ensures { λ r. ⌜ withAnswer r (new state) ≡ answered (old state) (outCall (old state) x by q) ⌝ }
 {
-    let code = interrupt_code(x, a, b, c, d);
+    let code = interrupt_code(x, q.a, q.b, q.c, q.d);
     if code != 0 {
         return answers::refused(code);
     }

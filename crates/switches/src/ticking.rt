@@ -1,5 +1,6 @@
 // The tick: the count, then the clocks in rising number, then the tasks in rising number; and call 76.
 use rules::Answer;
+use rules::Call;
 use rules::Clocks;
 use rules::Lines;
 use rules::State;
@@ -16,7 +17,7 @@ use rules::numbers::TICK;
 ghost use mathlib.Core.Path.{_≡_};
 ghost use Rattle.rules.specs.Tick.{postedIf, clockTick, clocksTicked, oneLess, endedWith, taskTick, tasksTicked, ticked, tickCall};
 ghost use Rattle.switches.specs.Still.{clocksStill, eightStill, eightTick};
-ghost use Rattle.rules.specs.Answer.{withAnswer, answered};
+ghost use Rattle.rules.specs.Answer.{withAnswer, answered, _by_};
 ghost use Rattle.tables.specs.Lent.{old, taskQueuesOld, taskQueuesNew, swiQueuesOld, swiQueuesNew, clockTablesOld, clockTablesNew, tickTablesOld};
 ghost use Rattle.tables.specs.Lent.{tickTablesNew};
 
@@ -174,15 +175,12 @@ pub fn tick_call(
     clocks: &mut Clocks,
     state: &mut State,
     x: u32,
-    a: u32,
-    b: u32,
-    c: u32,
-    d: u32,
+    q: Call,
 ) -> Answer
     ensures { λ r. ⌜ withAnswer r (tickTablesNew tasks lines swis clocks state)
-        ≡ answered (tickTablesOld tasks lines swis clocks state) (tickCall (tickTablesOld tasks lines swis clocks state) x a b c d) ⌝ }
+        ≡ answered (tickTablesOld tasks lines swis clocks state) (tickCall (tickTablesOld tasks lines swis clocks state) x by q) ⌝ }
 {
-    let code = super::state::interrupt_code(x, a, b, c, d);
+    let code = super::state::interrupt_code(x, q.a, q.b, q.c, q.d);
     if code != 0 {
         return answers::refused(code);
     }

@@ -8,6 +8,7 @@ use super::table::no_task;
 use super::table::placed_at;
 use super::table::with_priority;
 use rules::Answer;
+use rules::Call;
 use rules::Lines;
 use rules::State;
 use rules::Tasks;
@@ -22,7 +23,7 @@ use rules::numbers::TASK_PRIORITY;
 use rules::numbers::TASK_ROWS;
 use rules::numbers::TERMINATED;
 ghost use mathlib.Core.Path.{_≡_};
-ghost use Rattle.rules.specs.Answer.{codeOf, withAnswer, answered};
+ghost use Rattle.rules.specs.Answer.{codeOf, withAnswer, answered, _by_};
 ghost use Rattle.rules.specs.Lines.{taskQueues};
 ghost use Rattle.rules.specs.Tasks.{createCases, createEffect, deleteCases, deleteEffect, setPriorityCases, reprioritized, setPriorityEffect, lastResultCases};
 ghost use Rattle.rules.specs.Tasks.{createCall, deleteCall, setPriorityCall, lastResultCall};
@@ -57,24 +58,15 @@ pub fn create_effect(tasks: &mut Tasks, lines: &mut Lines, a: u32) -> Answer
 }
 
 // 00 create.
-pub fn create(
-    tasks: &mut Tasks,
-    lines: &mut Lines,
-    state: &State,
-    x: u32,
-    a: u32,
-    b: u32,
-    c: u32,
-    d: u32,
-) -> Answer
+pub fn create(tasks: &mut Tasks, lines: &mut Lines, state: &State, x: u32, q: Call) -> Answer
     ensures { λ r. ⌜ withAnswer r (taskQueuesNew tasks lines)
-        ≡ answered (taskQueuesOld tasks lines) (createCall (taskQueuesOld tasks lines) (old state) x a b c d) ⌝ }
+        ≡ answered (taskQueuesOld tasks lines) (createCall (taskQueuesOld tasks lines) (old state) x by q) ⌝ }
 {
-    let code = create_code(tasks, state, x, a, b, c, d);
+    let code = create_code(tasks, state, x, q.a, q.b, q.c, q.d);
     if code != 0 {
         return answers::refused(code);
     }
-    create_effect(tasks, lines, a)
+    create_effect(tasks, lines, q.a)
 }
 
 // ---- 01 delete (task; T)
@@ -108,45 +100,37 @@ pub fn delete_effect(tasks: &mut Tasks, a: u32) -> Answer
 }
 
 // 01 delete.
-pub fn delete(tasks: &mut Tasks, x: u32, a: u32, b: u32, c: u32, d: u32) -> Answer
+pub fn delete(tasks: &mut Tasks, x: u32, q: Call) -> Answer
     ensures { λ r. ⌜ ((ls : LineTable) → withAnswer r (taskQueues (new tasks) ls)
-        ≡ answered (taskQueues (old tasks) ls) (deleteCall (taskQueues (old tasks) ls) x a b c d)) ⌝ }
+        ≡ answered (taskQueues (old tasks) ls) (deleteCall (taskQueues (old tasks) ls) x by q)) ⌝ }
 {
-    let code = delete_code(tasks, x, a, b, c, d);
+    let code = delete_code(tasks, x, q.a, q.b, q.c, q.d);
     if code != 0 {
         return answers::refused(code);
     }
-    delete_effect(tasks, a)
+    delete_effect(tasks, q.a)
 }
 
 // ---- 02 set priority (task, priority; T S)
 
 // 5 for task 0, a terminated task, or -1 for the current or a blocked task.
-pub fn set_priority_code(
-    tasks: &Tasks,
-    state: &State,
-    x: u32,
-    a: u32,
-    b: u32,
-    c: u32,
-    d: u32,
-) -> u32
-    ensures { λ r. ⌜ r ≡ codeOf (setPriorityCases (old tasks) (old state) x a b c d) ⌝ }
+pub fn set_priority_code(tasks: &Tasks, state: &State, x: u32, q: Call) -> u32
+    ensures { λ r. ⌜ r ≡ codeOf (setPriorityCases (old tasks) (old state) x by q) ⌝ }
 {
     if x == I {
         return 2;
     }
-    let mode = rows::task_word(tasks, a as usize, MODE);
+    let mode = rows::task_word(tasks, q.a as usize, MODE);
     if mode == NOT_IN_USE {
-        return answers::absent_code(a, rules::numbers::TASK_COUNT);
+        return answers::absent_code(q.a, rules::numbers::TASK_COUNT);
     }
-    if !is_priority(rows::readings::levels(state), b) | answers::unused(0, 0, c, d) {
+    if !is_priority(rows::readings::levels(state), q.b) | answers::unused(0, 0, q.c, q.d) {
         return 4;
     }
-    if (a == 0) | (mode == TERMINATED) {
+    if (q.a == 0) | (mode == TERMINATED) {
         return 5;
     }
-    if (b == MINUS_ONE) & ((a == current(state)) | blocked(mode)) {
+    if (q.b == MINUS_ONE) & ((q.a == current(state)) | blocked(mode)) {
         return 5;
     }
     0
@@ -177,24 +161,15 @@ pub fn set_priority_effect(tasks: &mut Tasks, lines: &mut Lines, a: u32, b: u32)
 }
 
 // 02 set priority.
-pub fn set_priority(
-    tasks: &mut Tasks,
-    lines: &mut Lines,
-    state: &State,
-    x: u32,
-    a: u32,
-    b: u32,
-    c: u32,
-    d: u32,
-) -> Answer
+pub fn set_priority(tasks: &mut Tasks, lines: &mut Lines, state: &State, x: u32, q: Call) -> Answer
     ensures { λ r. ⌜ withAnswer r (taskQueuesNew tasks lines)
-        ≡ answered (taskQueuesOld tasks lines) (setPriorityCall (taskQueuesOld tasks lines) (old state) x a b c d) ⌝ }
+        ≡ answered (taskQueuesOld tasks lines) (setPriorityCall (taskQueuesOld tasks lines) (old state) x by q) ⌝ }
 {
-    let code = set_priority_code(tasks, state, x, a, b, c, d);
+    let code = set_priority_code(tasks, state, x, q);
     if code != 0 {
         return answers::refused(code);
     }
-    set_priority_effect(tasks, lines, a, b)
+    set_priority_effect(tasks, lines, q.a, q.b)
 }
 
 // ---- 06 last result (task; T S I)
@@ -213,14 +188,14 @@ pub fn last_result_code(tasks: &Tasks, a: u32, b: u32, c: u32, d: u32) -> u32
 }
 
 // 06 last result: outcome and value of its last ended wait or sleep. Nothing is changed.
-pub fn last_result(tasks: &Tasks, a: u32, b: u32, c: u32, d: u32) -> Answer
+pub fn last_result(tasks: &Tasks, q: Call) -> Answer
     ensures { λ r. ⌜ ((ls : LineTable) → withAnswer r (taskQueues (old tasks) ls)
-        ≡ answered (taskQueues (old tasks) ls) (lastResultCall (taskQueues (old tasks) ls) a b c d)) ⌝ }
+        ≡ answered (taskQueues (old tasks) ls) (lastResultCall (taskQueues (old tasks) ls) by q)) ⌝ }
 {
-    let code = last_result_code(tasks, a, b, c, d);
+    let code = last_result_code(tasks, q.a, q.b, q.c, q.d);
     if code != 0 {
         return answers::refused(code);
     }
-    let k = rows::task(tasks, a as usize);
+    let k = rows::task(tasks, q.a as usize);
     answers::accepted(k.outcome, k.value)
 }

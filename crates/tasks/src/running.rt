@@ -3,6 +3,7 @@
 use super::table::current;
 use super::table::ended;
 use rules::Answer;
+use rules::Call;
 use rules::Lines;
 use rules::State;
 use rules::Tasks;
@@ -12,7 +13,7 @@ use rules::numbers::NOW_WAITING;
 use rules::numbers::SLEEPING;
 use rules::numbers::T;
 ghost use mathlib.Core.Path.{_≡_};
-ghost use Rattle.rules.specs.Answer.{codeOf, withAnswer, answered};
+ghost use Rattle.rules.specs.Answer.{codeOf, withAnswer, answered, _by_};
 ghost use Rattle.rules.specs.Tasks.{yieldCases, yieldEffect, endCases, endEffect, sleepCases, sleepEffect, yieldCall, endCall, sleepCall};
 ghost use Rattle.tables.specs.Lent.{old, taskQueuesOld, taskQueuesNew};
 
@@ -45,20 +46,11 @@ pub fn yield_effect(tasks: &mut Tasks, lines: &mut Lines, state: &State) -> Answ
 }
 
 // 03 yield.
-pub fn yield_task(
-    tasks: &mut Tasks,
-    lines: &mut Lines,
-    state: &State,
-    x: u32,
-    a: u32,
-    b: u32,
-    c: u32,
-    d: u32,
-) -> Answer
+pub fn yield_task(tasks: &mut Tasks, lines: &mut Lines, state: &State, x: u32, q: Call) -> Answer
     ensures { λ r. ⌜ withAnswer r (taskQueuesNew tasks lines)
-        ≡ answered (taskQueuesOld tasks lines) (yieldCall (taskQueuesOld tasks lines) (old state) x a b c d) ⌝ }
+        ≡ answered (taskQueuesOld tasks lines) (yieldCall (taskQueuesOld tasks lines) (old state) x by q) ⌝ }
 {
-    let code = yield_code(state, x, a, b, c, d);
+    let code = yield_code(state, x, q.a, q.b, q.c, q.d);
     if code != 0 {
         return answers::refused(code);
     }
@@ -77,13 +69,7 @@ pub fn end_code(state: &State, x: u32, a: u32, b: u32, c: u32, d: u32) -> u32
     if answers::unused(a, b, c, d) {
         return 4;
     }
-    if moves::begins::idle(state) {
-        return 5;
-    }
-    if moves::begins::switch_off(state) {
-        return 9;
-    }
-    0
+    moves::begins::wait_code(state, true)
 }
 
 // The current task is terminated.
@@ -97,20 +83,11 @@ pub fn end_effect(tasks: &mut Tasks, lines: &mut Lines, state: &State) -> Answer
 }
 
 // 04 end.
-pub fn end(
-    tasks: &mut Tasks,
-    lines: &mut Lines,
-    state: &State,
-    x: u32,
-    a: u32,
-    b: u32,
-    c: u32,
-    d: u32,
-) -> Answer
+pub fn end(tasks: &mut Tasks, lines: &mut Lines, state: &State, x: u32, q: Call) -> Answer
     ensures { λ r. ⌜ withAnswer r (taskQueuesNew tasks lines)
-        ≡ answered (taskQueuesOld tasks lines) (endCall (taskQueuesOld tasks lines) (old state) x a b c d) ⌝ }
+        ≡ answered (taskQueuesOld tasks lines) (endCall (taskQueuesOld tasks lines) (old state) x by q) ⌝ }
 {
-    let code = end_code(state, x, a, b, c, d);
+    let code = end_code(state, x, q.a, q.b, q.c, q.d);
     if code != 0 {
         return answers::refused(code);
     }
@@ -129,13 +106,7 @@ pub fn sleep_code(state: &State, x: u32, n: u32, b: u32, c: u32, d: u32) -> u32
     if (n == FOREVER) | answers::unused(0, b, c, d) {
         return 4;
     }
-    if (0 < n) & moves::begins::idle(state) {
-        return 5;
-    }
-    if (0 < n) & moves::begins::switch_off(state) {
-        return 9;
-    }
-    0
+    moves::begins::wait_code(state, 0 < n)
 }
 
 // n = 0 does nothing; else the current task sleeps for n ticks: outcome 2.
@@ -150,22 +121,13 @@ pub fn sleep_effect(tasks: &mut Tasks, lines: &mut Lines, state: &State, n: u32)
 }
 
 // 05 sleep.
-pub fn sleep(
-    tasks: &mut Tasks,
-    lines: &mut Lines,
-    state: &State,
-    x: u32,
-    n: u32,
-    b: u32,
-    c: u32,
-    d: u32,
-) -> Answer
+pub fn sleep(tasks: &mut Tasks, lines: &mut Lines, state: &State, x: u32, q: Call) -> Answer
     ensures { λ r. ⌜ withAnswer r (taskQueuesNew tasks lines)
-        ≡ answered (taskQueuesOld tasks lines) (sleepCall (taskQueuesOld tasks lines) (old state) x n b c d) ⌝ }
+        ≡ answered (taskQueuesOld tasks lines) (sleepCall (taskQueuesOld tasks lines) (old state) x by q) ⌝ }
 {
-    let code = sleep_code(state, x, n, b, c, d);
+    let code = sleep_code(state, x, q.a, q.b, q.c, q.d);
     if code != 0 {
         return answers::refused(code);
     }
-    sleep_effect(tasks, lines, state, n)
+    sleep_effect(tasks, lines, state, q.a)
 }

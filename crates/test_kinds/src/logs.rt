@@ -3,17 +3,7 @@ use super::print::print_call;
 use super::print::print_heading;
 use super::print::print_word;
 use rules::Call;
-use rules::Clocks;
-use rules::Events;
-use rules::Heap;
-use rules::Lines;
-use rules::Mailboxes;
 use rules::Read;
-use rules::Semaphores;
-use rules::State;
-use rules::Swis;
-use rules::Tables;
-use rules::Tasks;
 use test_calls::trial::try_call;
 
 // The call of a record.
@@ -25,39 +15,6 @@ fn call_of(number: u8, bytes: &[u8]) -> Call {
         c: call_log::argument(bytes, 2),
         d: call_log::argument(bytes, 3),
     }
-}
-
-// The call of record n, and its line. Answers the next tables.
-fn try_record(
-    t: Tables,
-    tasks: &mut Tasks,
-    lines: &mut Lines,
-    semaphores: &mut Semaphores,
-    events: &mut Events,
-    mailboxes: &mut Mailboxes,
-    swis: &mut Swis,
-    clocks: &mut Clocks,
-    heap: &mut Heap,
-    state: &mut State,
-    n: u64,
-    k: Call,
-) -> Tables {
-    let tried = try_call(
-        t,
-        tasks,
-        lines,
-        semaphores,
-        events,
-        mailboxes,
-        swis,
-        clocks,
-        heap,
-        state,
-        k,
-    );
-    print_call(n, tried);
-    let step = tried.step;
-    step.tables
 }
 
 // The log's last line.
@@ -74,19 +31,11 @@ fn print_last(found: Read, n: u64) {
     }
 }
 
-// The records of a log, of which it has no more than bytes, and its last line.
+// The records of a log, of which it has no more than bytes, each by both entries, and its last line.
 fn try_records(log: &[u8]) {
     let levels = call_log::levels_for(call_log::version_of(log));
     let mut t = entries::fresh(levels).tables;
-    let mut tasks = t.tasks;
-    let mut lines = t.lines;
-    let mut semaphores = t.semaphores;
-    let mut events = t.events;
-    let mut mailboxes = t.mailboxes;
-    let mut swis = t.swis;
-    let mut clocks = t.clocks;
-    let mut heap = t.heap;
-    let mut state = t.state;
+    let mut u = t;
     let mut at = 0;
     let mut n = 0;
     let mut left = log.len();
@@ -96,20 +45,12 @@ fn try_records(log: &[u8]) {
             break;
         };
         n = std::num::wrapping_add_u64(n, 1);
-        t = try_record(
-            t,
-            &mut tasks,
-            &mut lines,
-            &mut semaphores,
-            &mut events,
-            &mut mailboxes,
-            &mut swis,
-            &mut clocks,
-            &mut heap,
-            &mut state,
-            n,
-            call_of(number, call_log::arguments(log, start)),
-        );
+        let tried = try_call(t, u, call_of(number, call_log::arguments(log, start)));
+        print_call(n, tried);
+        let step = tried.step;
+        let in_place = tried.in_place;
+        t = step.tables;
+        u = in_place.tables;
         at = call_log::move_to(found, at);
         left -= 1;
     }

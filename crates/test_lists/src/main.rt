@@ -1,17 +1,12 @@
 // Lists of calls by hand on one set of tables: good ones and bad ones, and at last on tables that are not sound. Each row has its line, how many words of
 // the answer room are filled, and a sum over these.
 use call_lists::front;
-use kernel::Said;
-use rules::Clocks;
-use rules::Events;
-use rules::Heap;
-use rules::Lines;
-use rules::Mailboxes;
-use rules::Semaphores;
-use rules::State;
-use rules::Swis;
-use rules::Tasks;
+use rules::Step;
+use rules::Tables;
+use rules::numbers::FEW_LEVELS;
+use rules::numbers::FOREVER;
 use rules::numbers::LEVELS;
+use test_calls::in_place::call_list;
 use text::Text;
 ghost use Prim.Native.Nat.{_≤_};
 
@@ -24,7 +19,7 @@ const SAMPLE_CALLS: usize = 5;
 const SAMPLE: [[u32; CALL_WORDS]; SAMPLE_CALLS] = [
     [0x00, 5, 0, 0, 0],
     [0x20, 0, 0, 0, 0],
-    [0x22, 0, 4294967295, 0, 0],
+    [0x22, 0, FOREVER, 0, 0],
     [0x23, 0, 0, 0, 0],
     [0x23, 7, 0, 0, 0],
 ];
@@ -132,9 +127,9 @@ fn sum_of(room: &Room) -> u32 {
 }
 
 // The lines of a row.
-fn put_row(out: &mut Text, n: u64, said: Said, room: &Room) -> usize {
-    let answer = said.answer;
-    let thread = said.thread;
+fn put_row(out: &mut Text, n: u64, step: Step, room: &Room) -> usize {
+    let answer = step.answer;
+    let thread = step.thread;
     let p = text::put_line(out, 0, n, answer, thread);
     let q = text::put_word(out, p, b"filled", filled(room) as u64);
     text::put_word(out, q, b"sum", sum_of(room) as u64)
@@ -145,78 +140,37 @@ fn write_text(out: &Text, len: usize) {
     io::write_all(libc::STDOUT_FILENO, text::front(out, len));
 }
 
-fn print_row(n: u64, said: Said, room: &Room) {
+fn print_row(n: u64, step: Step, room: &Room) {
     let mut out = [0u8; 16384];
-    let len = put_row(&mut out, n, said, room);
+    let len = put_row(&mut out, n, step, room);
     write_text(&out, len);
 }
 
 // From a row on the tables are not sound: they have 17 levels.
-fn prepare(state: &mut State, n: u64) {
+fn prepare(t: Tables, n: u64) -> Tables {
+    let mut u = t;
     if n == UNSOUND {
-        state[LEVELS] = 17;
+        u.state[LEVELS] = 17;
     }
+    u
 }
 
-// Hands the list of row n over, and prints what came of it.
-fn hand_over(
-    tasks: &mut Tasks,
-    lines: &mut Lines,
-    semaphores: &mut Semaphores,
-    events: &mut Events,
-    mailboxes: &mut Mailboxes,
-    swis: &mut Swis,
-    clocks: &mut Clocks,
-    heap: &mut Heap,
-    state: &mut State,
-    n: u64,
-) {
+// Hands the list of row n over, and prints what came of it. Answers the next tables.
+fn hand_over(t: Tables, n: u64) -> Tables {
     let lent = row_of(n);
     let words = words_of(n);
     let mut room = [UNTOUCHED; MOST_ROOM];
     let end = lent_room(lent.1);
-    let said = entries::call_list(
-        tasks,
-        lines,
-        semaphores,
-        events,
-        mailboxes,
-        swis,
-        clocks,
-        heap,
-        state,
-        front(&words, lent.0),
-        &mut room[..end],
-    );
-    print_row(n, said, &room);
+    let step = call_list(t, front(&words, lent.0), &mut room[..end]);
+    print_row(n, step, &room);
+    step.tables
 }
 
 fn main() {
-    let t = entries::fresh(rules::numbers::FEW_LEVELS).tables;
-    let mut tasks = t.tasks;
-    let mut lines = t.lines;
-    let mut semaphores = t.semaphores;
-    let mut events = t.events;
-    let mut mailboxes = t.mailboxes;
-    let mut swis = t.swis;
-    let mut clocks = t.clocks;
-    let mut heap = t.heap;
-    let mut state = t.state;
+    let mut t = entries::fresh(FEW_LEVELS).tables;
     let mut n = 1;
     while n <= ROWS {
-        prepare(&mut state, n);
-        hand_over(
-            &mut tasks,
-            &mut lines,
-            &mut semaphores,
-            &mut events,
-            &mut mailboxes,
-            &mut swis,
-            &mut clocks,
-            &mut heap,
-            &mut state,
-            n,
-        );
+        t = hand_over(prepare(t, n), n);
         n += 1;
     }
 }

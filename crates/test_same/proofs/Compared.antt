@@ -64,29 +64,25 @@ same-answers a b =
     (both (both (equal (a .code) (b .code)) (equal (a .outcome) (b .outcome))) (equal (a .value) (b .value)))
 
 -- ---- tables, one after the other
-pub same-all : (t : Tables) {ts ls ss es ms ws cs h st : List ℕ} {a b c d e f g i j : Bool}
-    → Tells a (t .tasks ≡ ts)
-    → Tells b (t .lines ≡ ls)
-    → Tells c (t .semaphores ≡ ss)
-    → Tells d (t .events ≡ es)
-    → Tells e (t .mailboxes ≡ ms)
-    → Tells f (t .swis ≡ ws)
-    → Tells g (t .clocks ≡ cs)
-    → Tells i (t .heap ≡ h)
-    → Tells j (t .state ≡ st)
-    → Tells (a && b && c && d && e && f && g && i && j) (t ≡ tables ts ls ss es ms ws cs h st)
-same-all t ts ls ss es ms ws cs h st =
+same-lists : (t : Tables) {ts ls ss es ms ws cs h st : List ℕ}
+    → (((((((((t .tasks ≡ ts) × (t .lines ≡ ls)) × (t .semaphores ≡ ss)) × (t .events ≡ es)) × (t .mailboxes ≡ ms)) × (t .swis ≡ ws)) × (t .clocks ≡ cs))
+    × (t .heap ≡ h)) × (t .state ≡ st))
+    → t ≡ tables ts ls ss es ms ws cs h st
+same-lists t ((((((((ts, ls), ss), es), ms), ws), cs), h), st) = rw (← ts, ← ls, ← ss, ← es, ← ms, ← ws, ← cs, ← h, ← st)
+
+pub same-all : (t u : Tables) {a b c d e f g i j : Bool}
+    → Tells a (t .tasks ≡ u .tasks)
+    → Tells b (t .lines ≡ u .lines)
+    → Tells c (t .semaphores ≡ u .semaphores)
+    → Tells d (t .events ≡ u .events)
+    → Tells e (t .mailboxes ≡ u .mailboxes)
+    → Tells f (t .swis ≡ u .swis)
+    → Tells g (t .clocks ≡ u .clocks)
+    → Tells i (t .heap ≡ u .heap)
+    → Tells j (t .state ≡ u .state)
+    → Tells (a && b && c && d && e && f && g && i && j) (t ≡ u)
+same-all t u ts ls ss es ms ws cs h st =
     said-as
-    (λ p. rw (
-      ← p .0 .0 .0 .0 .0 .0 .0 .0,
-      ← p .0 .0 .0 .0 .0 .0 .0 .1,
-      ← p .0 .0 .0 .0 .0 .0 .1,
-      ← p .0 .0 .0 .0 .0 .1,
-      ← p .0 .0 .0 .0 .1,
-      ← p .0 .0 .0 .1,
-      ← p .0 .0 .1,
-      ← p .0 .1,
-      ← p .1,
-    ))
+    (λ p. same-lists t p)
     (λ e. ((((((((cc, cc), cc), cc), cc), cc), cc), cc), cc))
     (both (both (both (both (both (both (both (both ts ls) ss) es) ms) ws) cs) h) st)

@@ -1,19 +1,10 @@
 // Whether two answers, two threads or two sets of tables are the same, to the last byte.
 use rules::Answer;
-use rules::Clocks;
-use rules::Events;
-use rules::Heap;
-use rules::Lines;
-use rules::Mailboxes;
-use rules::Semaphores;
-use rules::State;
-use rules::Swis;
 use rules::Tables;
-use rules::Tasks;
 use rules::Thread;
 ghost use mathlib.Core.Path.{_≡_};
 ghost use Rattle.test_same.specs.Tells.{Tells};
-ghost use Rattle.tables.specs.Lent.{old, tablesOld};
+ghost use Rattle.tables.specs.Lent.{old};
 
 // Whether two slices hold the same words.
 fn same_words(a: &[u32], b: &[u32]) -> bool
@@ -32,30 +23,19 @@ fn same_words(a: &[u32], b: &[u32]) -> bool
     true
 }
 
-// Whether each table of `t` is the lent one.
-pub fn same_tables(
-    t: Tables,
-    tasks: &Tasks,
-    lines: &Lines,
-    semaphores: &Semaphores,
-    events: &Events,
-    mailboxes: &Mailboxes,
-    swis: &Swis,
-    clocks: &Clocks,
-    heap: &Heap,
-    state: &State,
-) -> bool
-    ensures { λ r. ⌜ Tells r (t ≡ tablesOld tasks lines semaphores events mailboxes swis clocks heap state) ⌝ }
+// Whether each table of `t` is that of `u`.
+pub fn same_tables(t: Tables, u: Tables) -> bool
+    ensures { λ r. ⌜ Tells r (t ≡ u) ⌝ }
 {
-    same_words(&t.tasks, tasks)
-        & check::same(&t.lines, lines)
-        & same_words(&t.semaphores, semaphores)
-        & same_words(&t.events, events)
-        & same_words(&t.mailboxes, mailboxes)
-        & same_words(&t.swis, swis)
-        & same_words(&t.clocks, clocks)
-        & check::same(&t.heap, heap)
-        & same_words(&t.state, state)
+    same_words(&t.tasks, &u.tasks)
+        & check::same(&t.lines, &u.lines)
+        & same_words(&t.semaphores, &u.semaphores)
+        & same_words(&t.events, &u.events)
+        & same_words(&t.mailboxes, &u.mailboxes)
+        & same_words(&t.swis, &u.swis)
+        & same_words(&t.clocks, &u.clocks)
+        & check::same(&t.heap, &u.heap)
+        & same_words(&t.state, &u.state)
 }
 
 pub fn same_answer(a: Answer, b: Answer) -> bool

@@ -1,4 +1,4 @@
-// Changes of tables: a word, a byte, or who stands in a line.
+// Changes of tables: a word of a row, a whole row, and who stands in a line.
 use rows::set_event;
 use rows::set_mailbox;
 use rows::set_semaphore;
@@ -9,77 +9,102 @@ use rules::Heap;
 use rules::Lines;
 use rules::State;
 use rules::Tables;
+use rules::numbers::CLOCK_ROWS;
+use rules::numbers::CLOCK_WIDTH;
+use rules::numbers::HEAP_UNITS;
+use rules::numbers::LINE_COUNT;
+use rules::numbers::LINE_WIDTH;
+use rules::numbers::STATE_WIDTH;
 
-// One change of tables.
-pub(crate) enum Change {
-    Nothing,
-    // A row's number, a word of it, and what stands there now.
-    Task(usize, usize, u32),
-    Semaphore(usize, usize, u32),
-    Event(usize, usize, u32),
-    Mailbox(usize, usize, u32),
-    Swi(usize, usize, u32),
-    Clock(usize, usize, u32),
-    // A word of the state, or a unit of the heap, and what stands there now.
-    State(usize, u32),
-    Unit(usize, u8),
-    // A line's number, a byte of it, and what stands there now: byte 0 is how many stand in line, byte 1 the one at the front.
-    Byte(usize, usize, u8),
-    // A line's number, how many stand there now, and who: the first three.
-    Line(usize, u8, u8, u8, u8),
+// A row of a table: of a task, an object or a line by its number, the state, or all units of the heap. A line's first word is how many stand there.
+pub(crate) enum Row {
+    Task(usize),
+    Semaphore(usize),
+    Event(usize),
+    Mailbox(usize),
+    Swi(usize),
+    Clock(usize),
+    Line(usize),
+    State,
+    Units,
 }
 
 fn set_clock_word(clocks: &mut Clocks, i: usize, f: usize, x: u32) {
-    if i < 16 {
-        if f < 5 {
-            clocks[i * 5 + f] = x;
+    if i < CLOCK_ROWS {
+        if f < CLOCK_WIDTH {
+            clocks[i * CLOCK_WIDTH + f] = x;
+        }
+    }
+}
+
+fn set_byte(lines: &mut Lines, j: usize, f: usize, x: u8) {
+    if j < LINE_COUNT {
+        if f < LINE_WIDTH {
+            lines[j * LINE_WIDTH + f] = x;
         }
     }
 }
 
 fn set_state(state: &mut State, f: usize, x: u32) {
-    if f < 6 {
+    if f < STATE_WIDTH {
         state[f] = x;
     }
 }
 
-fn set_unit(heap: &mut Heap, u: usize, x: u8) {
-    if u < 256 {
-        heap[u] = x;
+fn set_unit(heap: &mut Heap, f: usize, x: u8) {
+    if f < HEAP_UNITS {
+        heap[f] = x;
     }
 }
 
-fn set_byte(lines: &mut Lines, j: usize, k: usize, x: u8) {
-    if j < 81 {
-        if k < 33 {
-            lines[j * 33 + k] = x;
-        }
-    }
-}
-
-// How many stand in line j, and the bytes of the first three.
-pub(crate) fn set_line(lines: &mut Lines, j: usize, n: u8, a: u8, b: u8, c: u8) {
-    set_byte(lines, j, 0, n);
-    set_byte(lines, j, 1, a);
-    set_byte(lines, j, 2, b);
-    set_byte(lines, j, 3, c);
-}
-
-// The tables after a change.
-pub(crate) fn changed(t: Tables, change: Change) -> Tables {
+// The tables with x at a word of a row.
+pub(crate) fn with_word(t: Tables, row: Row, f: usize, x: u32) -> Tables {
     let mut u = t;
-    match change {
-        Change::Nothing => {}
-        Change::Task(i, f, x) => set_task_word(&mut u.tasks, i, f, x),
-        Change::Semaphore(i, f, x) => set_semaphore(&mut u.semaphores, i, f, x),
-        Change::Event(i, f, x) => set_event(&mut u.events, i, f, x),
-        Change::Mailbox(i, f, x) => set_mailbox(&mut u.mailboxes, i, f, x),
-        Change::Swi(i, f, x) => set_swi(&mut u.swis, i, f, x),
-        Change::Clock(i, f, x) => set_clock_word(&mut u.clocks, i, f, x),
-        Change::State(f, x) => set_state(&mut u.state, f, x),
-        Change::Unit(i, x) => set_unit(&mut u.heap, i, x),
-        Change::Byte(j, k, x) => set_byte(&mut u.lines, j, k, x),
-        Change::Line(j, n, a, b, c) => set_line(&mut u.lines, j, n, a, b, c),
+    match row {
+        Row::Task(i) => set_task_word(&mut u.tasks, i, f, x),
+        Row::Semaphore(i) => set_semaphore(&mut u.semaphores, i, f, x),
+        Row::Event(i) => set_event(&mut u.events, i, f, x),
+        Row::Mailbox(i) => set_mailbox(&mut u.mailboxes, i, f, x),
+        Row::Swi(i) => set_swi(&mut u.swis, i, f, x),
+        Row::Clock(i) => set_clock_word(&mut u.clocks, i, f, x),
+        Row::Line(j) => set_byte(&mut u.lines, j, f, (x % 256) as u8),
+        Row::State => set_state(&mut u.state, f, x),
+        Row::Units => set_unit(&mut u.heap, f, (x % 256) as u8),
     }
     u
+}
+
+// The tables with these words in a row, from its first one on.
+pub(crate) fn with_row(t: Tables, row: Row, words: &[u32]) -> Tables {
+    let mut u = t;
+    let mut f = 0;
+    while f < words.len() {
+        u = with_word(u, row, f, words[f]);
+        f += 1;
+    }
+    u
+}
+
+// How many stand in line j.
+fn standing(lines: &Lines, j: usize) -> u8 {
+    if j < LINE_COUNT {
+        return lines[j * LINE_WIDTH];
+    }
+    0
+}
+
+// The tables with one more at the end of line j.
+pub(crate) fn joined(t: Tables, j: usize, who: u32) -> Tables {
+    let n = standing(&t.lines, j) as u32 + 1;
+    with_word(
+        with_word(t, Row::Line(j), 0, n),
+        Row::Line(j),
+        n as usize,
+        who,
+    )
+}
+
+// The tables with nobody in line j.
+pub(crate) fn emptied(t: Tables, j: usize) -> Tables {
+    with_row(t, Row::Line(j), &[0; LINE_WIDTH])
 }

@@ -1,21 +1,13 @@
 // The calls of a log by lists on lent tables, and the same calls one by one on tables by value: all that the two leave is compared.
 use call_lists::end_of;
 use call_lists::front;
-use kernel::Said;
 use rules::Answer;
 use rules::Call;
-use rules::Clocks;
-use rules::Events;
-use rules::Heap;
-use rules::Lines;
-use rules::Mailboxes;
 use rules::Read;
-use rules::Semaphores;
-use rules::State;
-use rules::Swis;
+use rules::Step;
 use rules::Tables;
-use rules::Tasks;
 use rules::Thread;
+use test_calls::in_place::call_list;
 use test_same::same_answer;
 use test_same::same_tables;
 use test_same::same_thread;
@@ -54,9 +46,11 @@ struct Singly {
     same: bool,
 }
 
-// What came of the lists so far: the tables that the single calls left, the sum over the lists' answers, and whether all was the same.
+// What came of the lists so far: the tables that the single calls left and those that the lists left, the sum over the lists' answers, and whether all was
+// the same.
 struct Compared {
     tables: Tables,
+    in_place: Tables,
     sum: u32,
     same: bool,
 }
@@ -160,8 +154,7 @@ fn make_singly(t: Tables, calls: &[u32], room: &Room) -> Singly {
     let mut same = true;
     let mut i = 0;
     while i < n {
-        let k = call_at(calls, i);
-        let step = entries::call(tables, k.number, k.a, k.b, k.c, k.d);
+        let step = entries::call(tables, call_at(calls, i));
         same = same & same_answer(step.answer, answer_at(room, i));
         tables = step.tables;
         thread = step.thread;
@@ -174,102 +167,43 @@ fn make_singly(t: Tables, calls: &[u32], room: &Room) -> Singly {
     }
 }
 
-// Whether the list was accepted, with the thread that runs after the single calls.
-fn is_accepted(said: Said, thread: Thread) -> bool {
+// Whether a list was accepted, and left what the single calls did: the tables and the thread.
+fn is_same(listed: Step, singly: Singly) -> bool {
     let accepted = Answer {
         code: 0,
         outcome: 0,
         value: 0,
     };
-    let in_place = said.thread;
-    same_answer(said.answer, accepted) & same_thread(in_place, thread)
+    let in_place = listed.thread;
+    let thread = singly.thread;
+    same_answer(listed.answer, accepted)
+        & same_thread(in_place, thread)
+        & same_tables(singly.tables, listed.tables)
 }
 
-// Makes the calls of a list one by one, and compares with what the list said and left.
-fn compare(
-    tasks: &Tasks,
-    lines: &Lines,
-    semaphores: &Semaphores,
-    events: &Events,
-    mailboxes: &Mailboxes,
-    swis: &Swis,
-    clocks: &Clocks,
-    heap: &Heap,
-    state: &State,
-    calls: &[u32],
-    room: &Room,
-    said: Said,
-    so_far: Compared,
-) -> Compared {
+// Makes the calls of a list one by one, and compares with what the list left.
+fn compare(so_far: Compared, calls: &[u32], room: &Room, listed: Step) -> Compared {
     let n = calls.len() / CALL_WORDS;
     let singly = make_singly(so_far.tables, calls, room);
+    let same = so_far.same & singly.same & is_same(listed, singly) & is_rest_untouched(room, n);
+    let thread = listed.thread;
+    let sum = add_answers(so_far.sum, room, n, thread);
     let tables = singly.tables;
-    let thread = singly.thread;
-    let same = so_far.same
-        & singly.same
-        & is_accepted(said, thread)
-        & is_rest_untouched(room, n)
-        & same_tables(
-            tables,
-            tasks,
-            lines,
-            semaphores,
-            events,
-            mailboxes,
-            swis,
-            clocks,
-            heap,
-            state,
-        );
-    let in_place = said.thread;
-    let sum = add_answers(so_far.sum, room, n, in_place);
-    Compared { tables, sum, same }
+    let in_place = listed.tables;
+    Compared {
+        tables,
+        in_place,
+        sum,
+        same,
+    }
 }
 
 // One list, and the same calls one by one.
-fn make_list(
-    tasks: &mut Tasks,
-    lines: &mut Lines,
-    semaphores: &mut Semaphores,
-    events: &mut Events,
-    mailboxes: &mut Mailboxes,
-    swis: &mut Swis,
-    clocks: &mut Clocks,
-    heap: &mut Heap,
-    state: &mut State,
-    calls: &[u32],
-    so_far: Compared,
-) -> Compared {
+fn make_list(so_far: Compared, calls: &[u32]) -> Compared {
     let mut room = [UNTOUCHED; MOST_ROOM];
     let end = room_for(calls.len());
-    let said = entries::call_list(
-        tasks,
-        lines,
-        semaphores,
-        events,
-        mailboxes,
-        swis,
-        clocks,
-        heap,
-        state,
-        calls,
-        &mut room[..end],
-    );
-    compare(
-        tasks,
-        lines,
-        semaphores,
-        events,
-        mailboxes,
-        swis,
-        clocks,
-        heap,
-        state,
-        calls,
-        &room,
-        said,
-        so_far,
-    )
+    let listed = call_list(so_far.in_place, calls, &mut room[..end]);
+    compare(so_far, calls, &room, listed)
 }
 
 // All calls, by lists of so many words, from fresh tables of so many levels.
@@ -277,36 +211,16 @@ fn make_lists(levels: u32, calls: &[u32], most: usize) -> Compared
     requires { ⌜ 0 < most ⌝ }
 {
     let t = entries::fresh(levels).tables;
-    let mut tasks = t.tasks;
-    let mut lines = t.lines;
-    let mut semaphores = t.semaphores;
-    let mut events = t.events;
-    let mut mailboxes = t.mailboxes;
-    let mut swis = t.swis;
-    let mut clocks = t.clocks;
-    let mut heap = t.heap;
-    let mut state = t.state;
     let mut so_far = Compared {
         tables: t,
+        in_place: t,
         sum: 0,
         same: true,
     };
     let mut at = 0;
     while at < calls.len() {
         let end = end_of(at, most, calls.len());
-        so_far = make_list(
-            &mut tasks,
-            &mut lines,
-            &mut semaphores,
-            &mut events,
-            &mut mailboxes,
-            &mut swis,
-            &mut clocks,
-            &mut heap,
-            &mut state,
-            &calls[at..end],
-            so_far,
-        );
+        so_far = make_list(so_far, &calls[at..end]);
         at = end;
     }
     so_far

@@ -1,22 +1,18 @@
 // For the desk's views: replays each log that an argument names, or standard input where there is none, and prints a line of numbers for each
 // record (docs/TRACE.md), last the line that ends every replay.
-// A record is read and its call made by the step that every replay stands on, `desk_reads::next`; the tables before it are copied.
+// A record is read and its call made by the step that every replay stands on, `desk_reads::next`; the tables before it are kept beside those after it.
 use desk::Part;
 use desk_reads::Replayed;
-use rules::Clocks;
-use rules::Events;
-use rules::Heap;
-use rules::Lines;
-use rules::Mailboxes;
 use rules::Read;
-use rules::Semaphores;
-use rules::State;
-use rules::Swis;
-use rules::Tasks;
+use rules::Tables;
 use text::Text;
 use trace_changes::Made;
-ghost use Rattle.tables.specs.Lent.{lent, tablesNew};
+ghost use mathlib.Core.Path.{_≡_};
+ghost use mathlib.Core.Bool.{cond as if};
+ghost use Prim.Native.Nat.{_+_, _/_, _≤_};
+ghost use lib.ListN.{length};
 ghost use Rattle.kernel.specs.Safe.{Safe};
+ghost use Rattle.tables.specs.Lent.{old};
 
 // No line has more than 13,292 bytes, whatever the tables are (`trace_line::put_trace` promises it), so that a whole one fits behind a text that is no
 // longer than this.
@@ -35,29 +31,7 @@ struct Carried {
 }
 
 // The line of what was read, by the tables before its call and after it: a record's, or the last one.
-fn put_read(
-    out: &mut Text,
-    c: Carried,
-    read: Replayed,
-    tasks_before: &Tasks,
-    lines_before: &Lines,
-    semaphores_before: &Semaphores,
-    events_before: &Events,
-    mailboxes_before: &Mailboxes,
-    swis_before: &Swis,
-    clocks_before: &Clocks,
-    heap_before: &Heap,
-    state_before: &State,
-    tasks: &Tasks,
-    lines: &Lines,
-    semaphores: &Semaphores,
-    events: &Events,
-    mailboxes: &Mailboxes,
-    swis: &Swis,
-    clocks: &Clocks,
-    heap: &Heap,
-    state: &State,
-) -> Carried {
+fn put_read(out: &mut Text, c: Carried, read: Replayed, before: Tables, after: Tables) -> Carried {
     let mut next = c;
     let found = read.found;
     let Read::Record {
@@ -73,34 +47,13 @@ fn put_read(
     let asked = read.asked;
     let answer = read.answer;
     let thread = read.thread;
-    next.len = trace_line::put_trace(
-        out,
-        c.len,
-        Made {
-            n,
-            asked,
-            answer,
-            thread,
-        },
-        tasks_before,
-        lines_before,
-        semaphores_before,
-        events_before,
-        mailboxes_before,
-        swis_before,
-        clocks_before,
-        heap_before,
-        state_before,
-        tasks,
-        lines,
-        semaphores,
-        events,
-        mailboxes,
-        swis,
-        clocks,
-        heap,
-        state,
-    );
+    let made = Made {
+        n,
+        asked,
+        answer,
+        thread,
+    };
+    next.len = trace_line::put_trace(out, c.len, made, before, after);
     next.count = n;
     next
 }
@@ -135,99 +88,57 @@ fn roomy(c: Carried, out: &Text) -> Carried {
     c
 }
 
-// What stands at a place of the part: a record's call is made, anything else ends the replay.
-fn read_one(
-    tasks: &mut Tasks,
-    lines: &mut Lines,
-    semaphores: &mut Semaphores,
-    events: &mut Events,
-    mailboxes: &mut Mailboxes,
-    swis: &mut Swis,
-    clocks: &mut Clocks,
-    heap: &mut Heap,
-    state: &mut State,
-    log: &[u8],
-    at: usize,
+// A replay between two parts: its tables, and what it carries beside them.
+struct Traced {
+    tables: Tables,
     carried: Carried,
-    out: &mut Text,
-) -> Carried
-    requires { ⌜ Safe (lent tasks lines semaphores events mailboxes swis clocks heap state) ⌝ }
-    ensures { λ _. ⌜ Safe (tablesNew tasks lines semaphores events mailboxes swis clocks heap state) ⌝ }
-{
-    let c = roomy(carried, out);
-    if !c.going {
-        return c;
-    }
-    let tasks_before = *tasks;
-    let lines_before = *lines;
-    let semaphores_before = *semaphores;
-    let events_before = *events;
-    let mailboxes_before = *mailboxes;
-    let swis_before = *swis;
-    let clocks_before = *clocks;
-    let heap_before = *heap;
-    let state_before = *state;
-    let read = desk_reads::next(
-        tasks,
-        lines,
-        semaphores,
-        events,
-        mailboxes,
-        swis,
-        clocks,
-        heap,
-        state,
-        log,
-        at,
-    );
-    put_read(
-        out,
-        c,
-        read,
-        &tasks_before,
-        &lines_before,
-        &semaphores_before,
-        &events_before,
-        &mailboxes_before,
-        &swis_before,
-        &clocks_before,
-        &heap_before,
-        &state_before,
-        tasks,
-        lines,
-        semaphores,
-        events,
-        mailboxes,
-        swis,
-        clocks,
-        heap,
-        state,
-    )
 }
 
-// The whole records of a part. The log may begin with it.
-fn read_whole(
-    tasks: &mut Tasks,
-    lines: &mut Lines,
-    semaphores: &mut Semaphores,
-    events: &mut Events,
-    mailboxes: &mut Mailboxes,
-    swis: &mut Swis,
-    clocks: &mut Clocks,
-    heap: &mut Heap,
-    state: &mut State,
-    log: &[u8],
-    carried: Carried,
-    out: &mut Text,
-) -> Carried
-    requires { ⌜ Safe (lent tasks lines semaphores events mailboxes swis clocks heap state) ⌝ }
-    ensures { λ _. ⌜ Safe (tablesNew tasks lines semaphores events mailboxes swis clocks heap state) ⌝ }
+// How many places of a part are read: that of each whole record, and where nothing follows that at which the log ends.
+fn places(log: &[u8], last: bool) -> usize
+    ensures { λ r. ⌜ r ≡ if last (length (old log) / 20 + 1) (length (old log) / 20) ⌝ }
+    ensures { λ r. ⌜ r ≤ length (old log) / 20 + 1 ⌝ }
 {
-    desk_reads::begin(state, log, carried.count);
-    let mut c = carried;
-    let mut at = 0;
-    while 20 <= log.len() - at {
-        c = read_one(
+    if last {
+        return log.len() / 20 + 1;
+    }
+    log.len() / 20
+}
+
+// What stands at the places of a part, with which the log may begin: a record's call is made, anything else ends the replay.
+fn read_part(traced: Traced, log: &[u8], last: bool, out: &mut Text) -> Traced
+    requires { ⌜ Safe (traced .tables) ⌝ }
+    ensures { λ r. ⌜ Safe (r .tables) ⌝ }
+{
+    let mut before = traced.tables;
+    let mut c = traced.carried;
+    desk_reads::begin(&mut before.state, log, c.count);
+    let n = places(log, last);
+    let mut i = 0;
+    while i < n && c.going {
+        let mut tasks = before.tasks;
+        let mut lines = before.lines;
+        let mut semaphores = before.semaphores;
+        let mut events = before.events;
+        let mut mailboxes = before.mailboxes;
+        let mut swis = before.swis;
+        let mut clocks = before.clocks;
+        let mut heap = before.heap;
+        let mut state = before.state;
+        let read = desk_reads::next(
+            &mut tasks,
+            &mut lines,
+            &mut semaphores,
+            &mut events,
+            &mut mailboxes,
+            &mut swis,
+            &mut clocks,
+            &mut heap,
+            &mut state,
+            log,
+            i * 20,
+        );
+        let after = Tables {
             tasks,
             lines,
             semaphores,
@@ -237,68 +148,15 @@ fn read_whole(
             clocks,
             heap,
             state,
-            log,
-            at,
-            c,
-            out,
-        );
-        at += 20;
+        };
+        c = roomy(put_read(out, c, read, before, after), out);
+        before = after;
+        i += 1;
     }
-    c
-}
-
-// Those, and what ends the log where nothing follows.
-fn read_part(
-    tasks: &mut Tasks,
-    lines: &mut Lines,
-    semaphores: &mut Semaphores,
-    events: &mut Events,
-    mailboxes: &mut Mailboxes,
-    swis: &mut Swis,
-    clocks: &mut Clocks,
-    heap: &mut Heap,
-    state: &mut State,
-    log: &[u8],
-    last: bool,
-    carried: Carried,
-    out: &mut Text,
-) -> Carried
-    requires { ⌜ Safe (lent tasks lines semaphores events mailboxes swis clocks heap state) ⌝ }
-    ensures { λ _. ⌜ Safe (tablesNew tasks lines semaphores events mailboxes swis clocks heap state) ⌝ }
-{
-    let c = read_whole(
-        tasks,
-        lines,
-        semaphores,
-        events,
-        mailboxes,
-        swis,
-        clocks,
-        heap,
-        state,
-        log,
-        carried,
-        out,
-    );
-    if !last {
-        return written(c, out);
+    Traced {
+        tables: before,
+        carried: written(c, out),
     }
-    let over = read_one(
-        tasks,
-        lines,
-        semaphores,
-        events,
-        mailboxes,
-        swis,
-        clocks,
-        heap,
-        state,
-        log,
-        log.len() - log.len() % 20,
-        c,
-        out,
-    );
-    written(over, out)
 }
 
 // ---- the parts of a log
@@ -332,66 +190,31 @@ fn read_behind(fd: i32, name: &[u8], part: &mut [u8], held: usize) -> Came {
 }
 
 // One turn: what came is told, and what is left of a record that is not whole yet is moved to the front of the part.
-fn turn(
-    tasks: &mut Tasks,
-    lines: &mut Lines,
-    semaphores: &mut Semaphores,
-    events: &mut Events,
-    mailboxes: &mut Mailboxes,
-    swis: &mut Swis,
-    clocks: &mut Clocks,
-    heap: &mut Heap,
-    state: &mut State,
-    fd: i32,
-    name: &[u8],
-    part: &mut Part,
-    carried: Carried,
-    out: &mut Text,
-) -> Carried
-    requires { ⌜ Safe (lent tasks lines semaphores events mailboxes swis clocks heap state) ⌝ }
-    ensures { λ _. ⌜ Safe (tablesNew tasks lines semaphores events mailboxes swis clocks heap state) ⌝ }
+fn turn(traced: Traced, fd: i32, name: &[u8], part: &mut Part, out: &mut Text) -> Traced
+    requires { ⌜ Safe (traced .tables) ⌝ }
+    ensures { λ r. ⌜ Safe (r .tables) ⌝ }
 {
-    let came = read_behind(fd, name, part, carried.held);
-    let mut c = carried;
+    let mut c = traced.carried;
+    let came = read_behind(fd, name, part, c.held);
     if came.failed {
         c.going = false;
-        return c;
+        let tables = traced.tables;
+        return Traced { tables, carried: c };
     }
-    c = read_part(
-        tasks,
-        lines,
-        semaphores,
-        events,
-        mailboxes,
-        swis,
-        clocks,
-        heap,
-        state,
-        text::front(part, came.n),
-        came.last,
-        carried,
-        out,
-    );
+    let told = read_part(traced, text::front(part, came.n), came.last, out);
+    c = told.carried;
     let whole = came.n - came.n % 20;
     c.offset = std::num::wrapping_add_u64(c.offset, whole as u64);
     c.held = desk::to_front(part, whole, came.n);
-    c
+    let tables = told.tables;
+    Traced { tables, carried: c }
 }
 
 // All turns. A loop has to end, and nothing says that a log does: the turns are counted down from a number that no run comes to.
 fn trace_all(fd: i32, name: &[u8]) {
     let mut part = [0u8; 2560];
     let mut out = [0u8; 16384];
-    let fresh = entries::fresh(rules::numbers::FEW_LEVELS).tables;
-    let mut tasks = fresh.tasks;
-    let mut lines = fresh.lines;
-    let mut semaphores = fresh.semaphores;
-    let mut events = fresh.events;
-    let mut mailboxes = fresh.mailboxes;
-    let mut swis = fresh.swis;
-    let mut clocks = fresh.clocks;
-    let mut heap = fresh.heap;
-    let mut state = fresh.state;
+    let tables = entries::fresh(rules::numbers::FEW_LEVELS).tables;
     let mut c = Carried {
         count: 0,
         offset: 0,
@@ -399,24 +222,11 @@ fn trace_all(fd: i32, name: &[u8]) {
         len: 0,
         going: true,
     };
+    let mut traced = Traced { tables, carried: c };
     let mut turns = u64::MAX;
     while 0 < turns && c.going {
-        c = turn(
-            &mut tasks,
-            &mut lines,
-            &mut semaphores,
-            &mut events,
-            &mut mailboxes,
-            &mut swis,
-            &mut clocks,
-            &mut heap,
-            &mut state,
-            fd,
-            name,
-            &mut part,
-            c,
-            &mut out,
-        );
+        traced = turn(traced, fd, name, &mut part, &mut out);
+        c = traced.carried;
         turns -= 1;
     }
 }

@@ -225,7 +225,9 @@ call-most : (q : Made) (ls st : List ℕ) → length (callText q ls st) ≤ 254
 unfolding callText
 call-most q ls st =
     let first = long (q .n) (state st TICK ∷ []) 21 (long _ [] 0 (omega (arith, columns-nil))) in
-    let asked : length (columns (q .asked .number ∷ q .asked .a ∷ q .asked .b ∷ q .asked .c ∷ q .asked .d ∷ q .answer .code ∷ q .answer .outcome ∷ q .answer .value ∷ [])) ≤ 168 =
+    let asked :
+    length
+    (columns (q .asked .number ∷ q .asked .a ∷ q .asked .b ∷ q .asked .c ∷ q .asked .d ∷ q .answer .code ∷ q .answer .outcome ∷ q .answer .value ∷ [])) ≤ 168 =
     long _ _ 147 (long _ _ 126 (long _ _ 105 (long _ _ 84 (long _ _ 63 (long _ _ 42 (long _ _ 21 (long _ [] 0 (omega (arith, columns-nil))))))))) in
     simp length-append (omega (arith, thread-most (running ls st), thread-most (q .thread)))
 

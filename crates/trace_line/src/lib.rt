@@ -1,15 +1,12 @@
 // The line of a record in the trace: its parts one after the other, in a lent text.
 use rules::Answer;
 use rules::Call;
-use rules::Clocks;
 use rules::Events;
-use rules::Heap;
 use rules::Lines;
 use rules::Mailboxes;
 use rules::Semaphores;
 use rules::State;
-use rules::Swis;
-use rules::Tasks;
+use rules::Tables;
 use rules::Thread;
 use rules::numbers::ACTIVE_LINE;
 use rules::numbers::EVENT_LINES_U8;
@@ -40,10 +37,9 @@ ghost use mathlib.Core.List.{[], _∷_, _++_};
 ghost use Rattle.rules.specs.Tables.{wordEnd};
 ghost use Rattle.rules.specs.Text.{space, threadText};
 ghost use Rattle.text.specs.Put.{Put};
-ghost use Rattle.tables.specs.Lent.{old, new, tablesOld};
+ghost use Rattle.tables.specs.Lent.{old, new};
 ghost use Rattle.trace_changes.specs.Numbers.{PutNumbers};
-ghost use Rattle.trace_changes.specs.Changes.{stateNow, changedTasks, postsMade, startedSwi, postedSwis, activeSwis, changedSemaphores, changedEvents};
-ghost use Rattle.trace_changes.specs.Changes.{changedMailboxes, changedSwis, changedClocks, changedHeap};
+ghost use Rattle.trace_changes.specs.Changes.{changedSemaphores, changedEvents, changedMailboxes};
 ghost use Rattle.trace_changes.specs.Line.{bar, barred, callText, traceLine, Under, Typical, Lined};
 
 // What stands between two parts.
@@ -82,7 +78,7 @@ fn put_answer(out: &mut Text, at: usize, answer: Answer) -> usize
 }
 
 // The call, by the tables before it.
-fn put_call(out: &mut Text, at: usize, made: Made, lines: &Lines, state: &State) -> usize
+fn put_call<'a>(out: &mut Text, at: usize, made: Made, lines: &'a Lines, state: &'a State) -> usize
     ensures { λ r. ⌜ Put (old out) at (callText made (old lines) (old state)) (new out) r ⌝ }
 {
     let tick = put_long(out, at, made.n);
@@ -96,56 +92,18 @@ fn put_call(out: &mut Text, at: usize, made: Made, lines: &Lines, state: &State)
     put_thread(out, now, thread)
 }
 
-// The state and the threads.
-fn put_threads(
-    out: &mut Text,
-    at: usize,
-    made: Made,
-    tasks_before: &Tasks,
-    lines_before: &Lines,
-    swis_before: &Swis,
-    clocks_before: &Clocks,
-    tasks: &Tasks,
-    lines: &Lines,
-    state: &State,
-) -> usize
-    ensures { λ r. ⌜ Put (old out) at
-        (barred
-        (stateNow (old state)
-        ∷ changedTasks (old «tasks_before») (old tasks)
-        ∷ postsMade made (old «clocks_before») (old «swis_before»)
-        ∷ startedSwi made (old «lines_before») (old lines)
-        ∷ postedSwis (old lines)
-        ∷ activeSwis (old lines)
-        ∷ []))
-        (new out) r ⌝ }
-{
-    let s = put_bar(out, at);
-    let after_s = put_state(out, s, state);
-    let t = put_bar(out, after_s);
-    let after_t = put_tasks(out, t, tasks_before, tasks);
-    let p = put_bar(out, after_t);
-    let after_p = put_posts(out, p, made, clocks_before, swis_before);
-    let d = put_bar(out, after_p);
-    let after_d = put_started(out, d, made, lines_before, lines);
-    let w = put_bar(out, after_d);
-    let after_w = put_posted(out, w, lines);
-    let a = put_bar(out, after_w);
-    put_line(out, a, lines, ACTIVE_LINE)
-}
-
 // The objects at which tasks wait.
-fn put_waited(
+fn put_waited<'a, 'b>(
     out: &mut Text,
     at: usize,
-    lines_before: &Lines,
-    semaphores_before: &Semaphores,
-    events_before: &Events,
-    mailboxes_before: &Mailboxes,
-    lines: &Lines,
-    semaphores: &Semaphores,
-    events: &Events,
-    mailboxes: &Mailboxes,
+    lines_before: &'a Lines,
+    semaphores_before: &'a Semaphores,
+    events_before: &'a Events,
+    mailboxes_before: &'a Mailboxes,
+    lines: &'b Lines,
+    semaphores: &'b Semaphores,
+    events: &'b Events,
+    mailboxes: &'b Mailboxes,
 ) -> usize
     ensures { λ r. ⌜ Put (old out) at
         (barred
@@ -183,34 +141,6 @@ fn put_waited(
     put_mailboxes(out, m, mailboxes_before, lines_before, mailboxes, lines)
 }
 
-// Swis, clocks and the heap.
-fn put_others(
-    out: &mut Text,
-    at: usize,
-    made: Made,
-    swis_before: &Swis,
-    clocks_before: &Clocks,
-    heap_before: &Heap,
-    swis: &Swis,
-    clocks: &Clocks,
-    heap: &Heap,
-) -> usize
-    ensures { λ r. ⌜ Put (old out) at
-        (barred
-        (changedSwis (old «swis_before») (old swis)
-        ∷ changedClocks made (old «clocks_before») (old clocks)
-        ∷ changedHeap (old «heap_before») (old heap)
-        ∷ []))
-        (new out) r ⌝ }
-{
-    let s = put_bar(out, at);
-    let after_s = put_rows(out, s, swis_before, swis, SWI_WIDTH_U8, SWI_ROWS_U8);
-    let c = put_bar(out, after_s);
-    let after_c = put_clocks(out, c, made, clocks_before, clocks);
-    let h = put_bar(out, after_c);
-    put_heap(out, h, heap_before, heap)
-}
-
 // ---- how long a line can be
 
 // A table's numbers are words: its type tells a proof so where one is read, and nothing is left of this in a compiled program.
@@ -232,93 +162,55 @@ fn are_bytes(t: &[u8])
 }
 
 // The tables from which a line is told.
-fn are_typical(
-    tasks: &Tasks,
-    lines: &Lines,
-    semaphores: &Semaphores,
-    events: &Events,
-    mailboxes: &Mailboxes,
-    swis: &Swis,
-    clocks: &Clocks,
-)
-    ensures { λ _. ⌜ Typical (old tasks) (old lines) (old semaphores) (old events) (old mailboxes) (old swis) (old clocks) ⌝ }
+fn are_typical(t: Tables)
+    ensures { λ _. ⌜ Typical (t .tasks) (t .lines) (t .semaphores) (t .events) (t .mailboxes) (t .swis) (t .clocks) ⌝ }
 {
-    are_words(tasks);
-    are_bytes(lines);
-    are_words(semaphores);
-    are_words(events);
-    are_words(mailboxes);
-    are_words(swis);
-    are_words(clocks);
+    are_words(&t.tasks);
+    are_bytes(&t.lines);
+    are_words(&t.semaphores);
+    are_words(&t.events);
+    are_words(&t.mailboxes);
+    are_words(&t.swis);
+    are_words(&t.clocks);
 }
 
 // The line of a record, by the tables before its call and after it.
-pub fn put_trace(
-    out: &mut Text,
-    at: usize,
-    made: Made,
-    tasks_before: &Tasks,
-    lines_before: &Lines,
-    semaphores_before: &Semaphores,
-    events_before: &Events,
-    mailboxes_before: &Mailboxes,
-    swis_before: &Swis,
-    clocks_before: &Clocks,
-    heap_before: &Heap,
-    state_before: &State,
-    tasks: &Tasks,
-    lines: &Lines,
-    semaphores: &Semaphores,
-    events: &Events,
-    mailboxes: &Mailboxes,
-    swis: &Swis,
-    clocks: &Clocks,
-    heap: &Heap,
-    state: &State,
-) -> usize
-    ensures { λ r. ⌜ Lined (old out) at
-        (traceLine made
-        (tablesOld «tasks_before» «lines_before» «semaphores_before» «events_before» «mailboxes_before» «swis_before» «clocks_before» «heap_before»
-        «state_before»)
-        (tablesOld tasks lines semaphores events mailboxes swis clocks heap state))
-        (new out) r ⌝ }
+pub fn put_trace(out: &mut Text, at: usize, made: Made, before: Tables, after: Tables) -> usize
+    ensures { λ r. ⌜ Lined (old out) at (traceLine made before after) (new out) r ⌝ }
 {
-    are_typical(tasks, lines, semaphores, events, mailboxes, swis, clocks);
-    let told = put_call(out, at, made, lines_before, state_before);
-    let threads = put_threads(
-        out,
-        told,
-        made,
-        tasks_before,
-        lines_before,
-        swis_before,
-        clocks_before,
-        tasks,
-        lines,
-        state,
-    );
+    are_typical(after);
+    let told = put_call(out, at, made, &before.lines, &before.state);
+    // the state and the threads
+    let s = put_bar(out, told);
+    let after_s = put_state(out, s, &after.state);
+    let t = put_bar(out, after_s);
+    let after_t = put_tasks(out, t, &before.tasks, &after.tasks);
+    let p = put_bar(out, after_t);
+    let after_p = put_posts(out, p, made, &before.clocks, &before.swis);
+    let d = put_bar(out, after_p);
+    let after_d = put_started(out, d, made, &before.lines, &after.lines);
+    let w = put_bar(out, after_d);
+    let after_w = put_posted(out, w, &after.lines);
+    let a = put_bar(out, after_w);
+    let threads = put_line(out, a, &after.lines, ACTIVE_LINE);
     let waited = put_waited(
         out,
         threads,
-        lines_before,
-        semaphores_before,
-        events_before,
-        mailboxes_before,
-        lines,
-        semaphores,
-        events,
-        mailboxes,
+        &before.lines,
+        &before.semaphores,
+        &before.events,
+        &before.mailboxes,
+        &after.lines,
+        &after.semaphores,
+        &after.events,
+        &after.mailboxes,
     );
-    let others = put_others(
-        out,
-        waited,
-        made,
-        swis_before,
-        clocks_before,
-        heap_before,
-        swis,
-        clocks,
-        heap,
-    );
+    // Swis, clocks and the heap
+    let r = put_bar(out, waited);
+    let after_r = put_rows(out, r, &before.swis, &after.swis, SWI_WIDTH_U8, SWI_ROWS_U8);
+    let c = put_bar(out, after_r);
+    let after_c = put_clocks(out, c, made, &before.clocks, &after.clocks);
+    let h = put_bar(out, after_c);
+    let others = put_heap(out, h, &before.heap, &after.heap);
     text::put_byte(out, others, b'\n')
 }

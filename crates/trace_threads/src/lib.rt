@@ -171,7 +171,13 @@ fn put_clock_posts(out: &mut Text, at: usize, clocks: &Clocks, swis: &Swis) -> u
 }
 
 // The posts of a call, by the tables before it.
-pub fn put_posts(out: &mut Text, at: usize, made: Made, clocks: &Clocks, swis: &Swis) -> usize
+pub fn put_posts<'a>(
+    out: &mut Text,
+    at: usize,
+    made: Made,
+    clocks: &'a Clocks,
+    swis: &'a Swis,
+) -> usize
     ensures { λ r. ⌜ PutNumbers out at (postsMade made (old clocks) (old swis)) r ⌝ }
 {
     let answer = made.answer;

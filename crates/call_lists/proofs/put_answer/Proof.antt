@@ -16,19 +16,44 @@ slice-write-answers-3 c = third-inside (c .before .args .answers .now) (c .befor
 returns-2 : tie.Need-returns-2
 returns-2 c = stored (c .before .args .answers .now) (c .before .args .i) (c .before .args .answer) (c .if1 .left)
 
+-- ---- what the steps ask, and what is known answers
+mul-k : tie.Need-mul-k
+mul-k c = search needs
+
+mul-answers : tie.Need-mul-answers
+mul-answers c = search needs
+
+slice-write-answers : tie.Need-slice-write-answers
+slice-write-answers c = search needs
+
+add-answers : tie.Need-add-answers
+add-answers c = search needs
+
+mul-answers-2 : tie.Need-mul-answers-2
+mul-answers-2 c = search needs
+
+add-answers-2 : tie.Need-add-answers-2
+add-answers-2 c = search needs
+
+mul-answers-3 : tie.Need-mul-answers-3
+mul-answers-3 c = search needs
+
+same-length : tie.Need-same-length
+same-length c = search needs
+
 pub put-answer-spec : {M : Type 1} → statement M
 put-answer-spec =
     tie.close
     (tie.spec
     returns
-    (λ c. search needs)
-    (λ c. search needs)
-    (λ c. search needs)
-    (λ c. search needs)
-    (λ c. search needs)
+    mul-k
+    mul-answers
+    slice-write-answers
+    add-answers
+    mul-answers-2
     slice-write-answers-2
-    (λ c. search needs)
-    (λ c. search needs)
+    add-answers-2
+    mul-answers-3
     slice-write-answers-3
-    (λ c. search needs)
+    same-length
     returns-2)

@@ -30,18 +30,43 @@ returns-3 : tie.Need-returns-3
 returns-3 c = let a = c .before .before .before .args in
     record { bytes = sixteen-is (a .log .now) (a .start) (c .before .if2 .left); place = λ there. refl }
 
+-- ---- what the steps ask, and what is known answers
+slice-aggregate-result : tie.Need-slice-aggregate-result
+slice-aggregate-result c = search needs
+
+sub-result : tie.Need-sub-result
+sub-result c = search needs
+
+part-result-start : tie.Need-part-result-start
+part-result-start c = search needs
+
+part-result-end : tie.Need-part-result-end
+part-result-end c = search needs
+
+add-end : tie.Need-add-end
+add-end c = search needs
+
+sub-result-2 : tie.Need-sub-result-2
+sub-result-2 c = search needs
+
+part-result-start-2 : tie.Need-part-result-start-2
+part-result-start-2 c = search needs
+
+part-result-end-2 : tie.Need-part-result-end-2
+part-result-end-2 c = search needs
+
 pub arguments-spec : {M : Type 1} → statement M
 arguments-spec =
     tie.close
     (tie.spec
-    (λ c. search needs)
+    slice-aggregate-result
     returns
-    (λ c. search needs)
-    (λ c. search needs)
-    (λ c. search needs)
+    sub-result
+    part-result-start
+    part-result-end
     returns-2
-    (λ c. search needs)
-    (λ c. search needs)
-    (λ c. search needs)
-    (λ c. search needs)
+    add-end
+    sub-result-2
+    part-result-start-2
+    part-result-end-2
     returns-3)

@@ -85,23 +85,51 @@ returns-7 c =
     record-is (a .version) (a .log .now) (a .at) (not-past some .if1 .left) (some .if2 .left) (more .if3 .left)
     (length-18 right) (whole .if5 .left) (rw (← (known .is-version .ensures)) (same .if6 .left))
 
+-- ---- what the steps ask, and what is known answers
+sub-if3 : tie.Need-sub-if3
+sub-if3 c = search needs
+
+half-at-requires : tie.Need-half-at-requires
+half-at-requires c κs = search needs
+
+sub-if5 : tie.Need-sub-if5
+sub-if5 c = search needs
+
+is-version-requires : tie.Need-is-version-requires
+is-version-requires c κs = search needs
+
+add-if6 : tie.Need-add-if6
+add-if6 c = search needs
+
+shared-slice-read-if6 : tie.Need-shared-slice-read-if6
+shared-slice-read-if6 c = search needs
+
+add-t6 : tie.Need-add-t6
+add-t6 c = search needs
+
+shared-slice-read-t10 : tie.Need-shared-slice-read-t10
+shared-slice-read-t10 c = search needs
+
+add-t4 : tie.Need-add-t4
+add-t4 c = search needs
+
 pub read-in-spec : {M : Type 1} → statement M
 read-in-spec =
     tie.close
     (tie.spec
     returns
     returns-2
-    (λ c. search needs)
+    sub-if3
     returns-3
-    (λ c κs. search needs)
+    half-at-requires
     returns-4
-    (λ c. search needs)
+    sub-if5
     returns-5
-    (λ c κs. search needs)
-    (λ c. search needs)
-    (λ c. search needs)
+    is-version-requires
+    add-if6
+    shared-slice-read-if6
     returns-6
-    (λ c. search needs)
-    (λ c. search needs)
-    (λ c. search needs)
+    add-t6
+    shared-slice-read-t10
+    add-t4
     returns-7)

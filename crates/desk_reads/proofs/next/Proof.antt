@@ -49,16 +49,38 @@ returns-2 c =
       made .safe,
     )
 
+-- ---- what the steps ask, and what is known answers
+version-by-requires : tie.Need-version-by-requires
+version-by-requires c κs = search needs
+
+step-in-requires : tie.Need-step-in-requires
+step-in-requires c κs = search needs
+
+enum-known-found : tie.Need-enum-known-found
+enum-known-found c = search needs
+
+not-called-requires : tie.Need-not-called-requires
+not-called-requires c κs = search needs
+
+record-call-requires : tie.Need-record-call-requires
+record-call-requires c κs = search needs
+
+step-requires : tie.Need-step-requires
+step-requires c κs = search needs
+
+called-requires : tie.Need-called-requires
+called-requires c κs = search needs
+
 pub next-spec : {M : Type 1} → statement M
 next-spec =
     tie.close
     (tie.spec
-    (λ c κs. search needs)
-    (λ c κs. search needs)
-    (λ c. search needs)
-    (λ c κs. search needs)
+    version-by-requires
+    step-in-requires
+    enum-known-found
+    not-called-requires
     returns
-    (λ c κs. search needs)
-    (λ c κs. search needs)
-    (λ c κs. search needs)
+    record-call-requires
+    step-requires
+    called-requires
     returns-2)

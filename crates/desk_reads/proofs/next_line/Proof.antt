@@ -36,15 +36,34 @@ returns-2 c =
       read .next .ensures .1,
     )
 
+-- ---- what the steps ask, and what is known answers
+next-requires : tie.Need-next-requires
+next-requires c κs = search needs
+
+enum-told : tie.Need-enum-told
+enum-told c = search needs
+
+ended-at-requires : tie.Need-ended-at-requires
+ended-at-requires c κs = search needs
+
+wrapping-add-u64-requires : tie.Need-wrapping-add-u64-requires
+wrapping-add-u64-requires c κs = search needs
+
+put-replayed-requires : tie.Need-put-replayed-requires
+put-replayed-requires c κs = search needs
+
+place-at-requires : tie.Need-place-at-requires
+place-at-requires c κs = search needs
+
 pub next-line-spec : {M : Type 1} → statement M
 next-line-spec =
     tie.close
     (tie.spec
-    (λ c κs. search needs)
-    (λ c. search needs)
-    (λ c κs. search needs)
+    next-requires
+    enum-told
+    ended-at-requires
     returns
-    (λ c κs. search needs)
-    (λ c κs. search needs)
-    (λ c κs. search needs)
+    wrapping-add-u64-requires
+    put-replayed-requires
+    place-at-requires
     returns-2)

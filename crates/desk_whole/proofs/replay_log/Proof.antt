@@ -15,12 +15,14 @@ use Rattle.desk_whole.proofs.replay_log.Statement.{statement}
 use Rattle.desk_whole.proofs.replay_log.Tie as tie
 
 abbrev Inv-loop : tie.InvT-loop
-Inv-loop log out₀ tasks₀ lines₀ semaphores₀ events₀ mailboxes₀ swis₀ clocks₀ heap₀ state₀ part₀ text₀ p₀ from₀ at₀ out tasks lines semaphores events mailboxes swis clocks heap state part text p from at =
+Inv-loop log out₀ tasks₀ lines₀ semaphores₀ events₀ mailboxes₀ swis₀ clocks₀ heap₀ state₀ part₀ text₀ p₀ from₀ at₀
+    out tasks lines semaphores events mailboxes swis clocks heap state part text p from at =
     Sofar log out₀ (tables tasks lines semaphores events mailboxes swis clocks heap state) part text p from at out
     × Safe (tables tasks lines semaphores events mailboxes swis clocks heap state)
 
 abbrev μ-loop : tie.MeasureT-loop
-μ-loop log out₀ tasks₀ lines₀ semaphores₀ events₀ mailboxes₀ swis₀ clocks₀ heap₀ state₀ part₀ text₀ p₀ from₀ at₀ out tasks lines semaphores events mailboxes swis clocks heap state part text p from at =
+μ-loop log out₀ tasks₀ lines₀ semaphores₀ events₀ mailboxes₀ swis₀ clocks₀ heap₀ state₀ part₀ text₀ p₀ from₀ at₀
+    out tasks lines semaphores events mailboxes swis clocks heap state part text p from at =
     length log - from + bit (not (p .ended))
 
 -- ---- the places of a turn
@@ -113,18 +115,30 @@ returns c =
     let l : tie.At-loop Inv-loop μ-loop = c .before .before in
     sofar-all (at-start l .args .log .now) (at-start l .args .out .now) (l .loop .inv .0) (not-false _ (c .if1 .left))
 
+fresh-requires : tie.Need-fresh-requires Inv-loop μ-loop
+fresh-requires c κs = tt
+
+begun-requires : tie.Need-begun-requires Inv-loop μ-loop
+begun-requires c κs = tt
+
+next-part-requires : tie.Need-next-part-requires Inv-loop μ-loop
+next-part-requires c κs = tt
+
+put-turn-requires : tie.Need-put-turn-requires Inv-loop μ-loop
+put-turn-requires c κs = tt
+
 pub replay-log-spec : {M : Type 1} → statement M
 replay-log-spec =
     tie.close
     (tie.spec
     Inv-loop
     μ-loop
-    (λ c κs. tt)
-    (λ c κs. tt)
+    fresh-requires
+    begun-requires
     loop-holds
-    (λ c κs. tt)
+    next-part-requires
     replay-part-requires
-    (λ c κs. tt)
+    put-turn-requires
     add-from
     loop-less
     loop-again

@@ -5,13 +5,20 @@ use borrow.Author.Needs.{needs}
 use Rattle.dispatch.proofs.context.Statement.{statement}
 use Rattle.dispatch.proofs.context.Tie as tie
 
+-- ---- what the steps ask, and what is known answers
+element-copy-out-if1 : tie.Need-element-copy-out-if1
+element-copy-out-if1 c = search needs
+
+anyone-requires : tie.Need-anyone-requires
+anyone-requires c κs = search needs
+
 pub context-spec : {M : Type 1} → statement M
 unfolding context
 context-spec =
     tie.close
     (tie.spec
-    (λ c. search needs)
+    element-copy-out-if1
     (λ c. rw (lt-ltb _ _ (c .if1 .taken)))
-    (λ c κs. search needs)
+    anyone-requires
     (λ c. rw (le-ltb _ _ (c .before .before .if1 .left), sym (c .before .anyone .ensures) ∙ c .if2 .taken))
     (λ c. rw (le-ltb _ _ (c .before .before .if1 .left), sym (c .before .anyone .ensures) ∙ c .if2 .left)))

@@ -59,19 +59,44 @@ returns-4 c =
     let a = entry at-level .args in
     no-swi (a .swis .now) (a .lines .now) (a .state .now) (due-is at-level) (le-ltb _ _ (c .if3 .left))
 
+-- ---- what the steps ask, and what is known answers
+element-copy-out-if1 : tie.Need-element-copy-out-if1
+element-copy-out-if1 c = search needs
+
+element-copy-out-if2 : tie.Need-element-copy-out-if2
+element-copy-out-if2 c = search needs
+
+highest-posted-requires : tie.Need-highest-posted-requires
+highest-posted-requires c κs = search needs
+
+active-level-requires : tie.Need-active-level-requires
+active-level-requires c κs = search needs
+
+one-less-requires : tie.Need-one-less-requires
+one-less-requires c κs = search needs
+
+add-j : tie.Need-add-j
+add-j c = search needs
+
+first-requires : tie.Need-first-requires
+first-requires c κs = search needs
+
+start-requires : tie.Need-start-requires
+start-requires c κs = search needs
+
 pub dispatch-swis-spec : {M : Type 1} → statement M
 dispatch-swis-spec =
     tie.close
     (tie.spec
-    (λ c. search needs)
+    element-copy-out-if1
     returns
-    (λ c. search needs)
+    element-copy-out-if2
     returns-2
-    (λ c κs. search needs)
-    (λ c κs. search needs)
-    (λ c κs. search needs)
-    (λ c. search needs)
-    (λ c κs. search needs)
-    (λ c κs. search needs)
+    highest-posted-requires
+    active-level-requires
+    one-less-requires
+    add-j
+    first-requires
+    start-requires
     returns-3
     returns-4)

@@ -4,20 +4,51 @@ use Rattle.dispatch_after.proofs.ByParts.{tasks-part, swis-part, semaph
 use Rattle.dispatch_after.proofs.left_by.Statement.{statement}
 use Rattle.dispatch_after.proofs.left_by.Tie as tie
 
+-- ---- what the steps ask, and what is known answers
+tasks-only-requires : tie.Need-tasks-only-requires
+tasks-only-requires c κs = search needs
+
+both-parts-requires : tie.Need-both-parts-requires
+both-parts-requires c κs = search needs
+
+waits-or-wakes-requires : tie.Need-waits-or-wakes-requires
+waits-or-wakes-requires c κs = search needs
+
+tasks-only-requires-2 : tie.Need-tasks-only-requires-2
+tasks-only-requires-2 c κs = search needs
+
+waits-or-wakes-requires-2 : tie.Need-waits-or-wakes-requires-2
+waits-or-wakes-requires-2 c κs = search needs
+
+tasks-only-requires-3 : tie.Need-tasks-only-requires-3
+tasks-only-requires-3 c κs = search needs
+
+mailbox-moves-requires : tie.Need-mailbox-moves-requires
+mailbox-moves-requires c κs = search needs
+
+tasks-only-requires-4 : tie.Need-tasks-only-requires-4
+tasks-only-requires-4 c κs = search needs
+
+tasks-only-requires-5 : tie.Need-tasks-only-requires-5
+tasks-only-requires-5 c κs = search needs
+
+both-parts-requires-2 : tie.Need-both-parts-requires-2
+both-parts-requires-2 c κs = search needs
+
 pub left-by-spec : {M : Type 1} → statement M
 left-by-spec =
     tie.close
     (tie.spec
-    (λ c κs. search needs)
-    (λ c κs. search needs)
-    (λ c κs. search needs)
-    (λ c κs. search needs)
-    (λ c κs. search needs)
-    (λ c κs. search needs)
-    (λ c κs. search needs)
-    (λ c κs. search needs)
-    (λ c κs. search needs)
-    (λ c κs. search needs)
+    tasks-only-requires
+    both-parts-requires
+    waits-or-wakes-requires
+    tasks-only-requires-2
+    waits-or-wakes-requires-2
+    tasks-only-requires-3
+    mailbox-moves-requires
+    tasks-only-requires-4
+    tasks-only-requires-5
+    both-parts-requires-2
     (λ c. tasks-part _ _ _ (c .before .if1 .taken) (c .tasks-only .ensures))
     (λ c. swis-part _ _ _ (c .before .before .if1 .left) (c .before .if2 .taken) (c .both-parts .ensures))
     (λ c.

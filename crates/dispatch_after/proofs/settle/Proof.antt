@@ -4,14 +4,24 @@ use Rattle.dispatch_after.proofs.ByParts.{settled-refused, settled-acce
 use Rattle.dispatch_after.proofs.settle.Statement.{statement}
 use Rattle.dispatch_after.proofs.settle.Tie as tie
 
+-- ---- what the steps ask, and what is known answers
+left-by-requires : tie.Need-left-by-requires
+left-by-requires c κs = search needs
+
+settle-swis-requires : tie.Need-settle-swis-requires
+settle-swis-requires c κs = search needs
+
+settle-tasks-requires : tie.Need-settle-tasks-requires
+settle-tasks-requires c κs = search needs
+
 pub settle-spec : {M : Type 1} → statement M
 settle-spec =
     tie.close
     (tie.spec
     (λ c. settled-refused _ _ _ _ _ (c .if1 .taken))
-    (λ c κs. search needs)
-    (λ c κs. search needs)
-    (λ c κs. search needs)
+    left-by-requires
+    settle-swis-requires
+    settle-tasks-requires
     (λ c.
     let at-swis = c .before .before .before in
     let at-left = at-swis .before .before .before .before in

@@ -70,6 +70,16 @@ returns c =
     let (n-is, making) = c .before .loop .inv in
     list-made _ _ _ _ _ _ making (omega (arith, c .loop-test .left, n-is))
 
+-- ---- what the steps ask, and what is known answers
+call-at-requires : tie.Need-call-at-requires Inv-loop μ-loop
+call-at-requires c κs = search needs
+
+step-requires : tie.Need-step-requires Inv-loop μ-loop
+step-requires c κs = search needs
+
+put-answer-requires : tie.Need-put-answer-requires Inv-loop μ-loop
+put-answer-requires c κs = search needs
+
 pub make-calls-spec : {M : Type 1} → statement M
 make-calls-spec =
     tie.close
@@ -77,9 +87,9 @@ make-calls-spec =
     Inv-loop
     μ-loop
     loop-holds
-    (λ c κs. search needs)
-    (λ c κs. search needs)
-    (λ c κs. search needs)
+    call-at-requires
+    step-requires
+    put-answer-requires
     add-i
     loop-less
     loop-again

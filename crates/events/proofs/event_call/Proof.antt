@@ -27,19 +27,35 @@ returns-5 c =
     let n = at-match .match .rest in
     let q = waitTables (args .tasks .now) (args .lines .now) (args .events .now) in
     unknown-is q _
-    (no-call q (args .state .now) (args .x) (args .number) (args .a) (args .b) (args .c) (args .d) (n .0 .0 .0 .1) (n .0 .0 .1) (n .0 .1) (n .1))
+    (no-call q (args .state .now) (args .x) (args .q .number) (args .q .a) (args .q .b) (args .q .c) (args .q .d) (n .0 .0 .0 .1) (n .0 .0 .1) (n .0 .1) (n .1))
     (c .refused .ensures)
+
+-- ---- what the steps ask, and what is known answers
+create-requires : tie.Need-create-requires
+create-requires c κs = search needs
+
+delete-requires : tie.Need-delete-requires
+delete-requires c κs = search needs
+
+pend-requires : tie.Need-pend-requires
+pend-requires c κs = search needs
+
+post-requires : tie.Need-post-requires
+post-requires c κs = search needs
+
+refused-requires : tie.Need-refused-requires
+refused-requires c κs = search needs
 
 pub event-call-spec : {M : Type 1} → statement M
 unfolding eventCall
 event-call-spec =
     tie.close
     (tie.spec
-    (λ c κs. search needs)
-    (λ c κs. search needs)
-    (λ c κs. search needs)
-    (λ c κs. search needs)
-    (λ c κs. search needs)
+    create-requires
+    delete-requires
+    pend-requires
+    post-requires
+    refused-requires
     (λ c. rw (c .before .before .match .keys1) (c .create .ensures _ _))
     returns-2
     returns-3

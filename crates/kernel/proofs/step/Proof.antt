@@ -20,14 +20,33 @@ returns c =
     let e = quick-is _ q (at-any-call .any-call .ensures) (at-settle .settle .ensures) (c .running .ensures) (at-named .named .ensures) in
     (e, stepped _ q (at-typed .typed .ensures) (at-words .words .ensures) e)
 
+-- ---- what the steps ask, and what is known answers
+words-requires : tie.Need-words-requires
+words-requires c κs = search needs
+
+typed-requires : tie.Need-typed-requires
+typed-requires c κs = search needs
+
+any-call-requires : tie.Need-any-call-requires
+any-call-requires c κs = search needs
+
+named-requires : tie.Need-named-requires
+named-requires c κs = search needs
+
+settle-requires : tie.Need-settle-requires
+settle-requires c κs = search needs
+
+running-requires : tie.Need-running-requires
+running-requires c κs = search needs
+
 pub step-spec : {M : Type 1} → statement M
 step-spec =
     tie.close
     (tie.spec
-    (λ c κs. search needs)
-    (λ c κs. search needs)
-    (λ c κs. search needs)
-    (λ c κs. search needs)
-    (λ c κs. search needs)
-    (λ c κs. search needs)
+    words-requires
+    typed-requires
+    any-call-requires
+    named-requires
+    settle-requires
+    running-requires
     returns)

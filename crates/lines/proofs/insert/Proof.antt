@@ -60,31 +60,83 @@ returns-3 c =
     let a = c .before .args in
     entered-past (a .lines .now) (a .j) (λ xs. a .place) (a .x) (c .if1 .left)
 
+-- ---- what the steps ask, and what is known answers
+mul-at : tie.Need-mul-at Inv-loop μ-loop
+mul-at c = search needs
+
+element-copy-out-n : tie.Need-element-copy-out-n Inv-loop μ-loop
+element-copy-out-n c = search needs
+
+wide-requires : tie.Need-wide-requires Inv-loop μ-loop
+wide-requires c κs = search needs
+
+least-requires : tie.Need-least-requires Inv-loop μ-loop
+least-requires c κs = search needs
+
+add-y : tie.Need-add-y Inv-loop μ-loop
+add-y c = search needs
+
+add-y-2 : tie.Need-add-y-2 Inv-loop μ-loop
+add-y-2 c = search needs
+
+element-copy-out-y : tie.Need-element-copy-out-y Inv-loop μ-loop
+element-copy-out-y c = search needs
+
+add-lines : tie.Need-add-lines Inv-loop μ-loop
+add-lines c = search needs
+
+add-lines-2 : tie.Need-add-lines-2 Inv-loop μ-loop
+add-lines-2 c = search needs
+
+element-write-lines : tie.Need-element-write-lines Inv-loop μ-loop
+element-write-lines c = search needs
+
+add-k : tie.Need-add-k Inv-loop μ-loop
+add-k c = search needs
+
+loop-less : tie.Need-loop-less Inv-loop μ-loop
+loop-less c = search needs
+
+add-lines-3 : tie.Need-add-lines-3 Inv-loop μ-loop
+add-lines-3 c = search needs
+
+add-lines-4 : tie.Need-add-lines-4 Inv-loop μ-loop
+add-lines-4 c = search needs
+
+element-write-lines-2 : tie.Need-element-write-lines-2 Inv-loop μ-loop
+element-write-lines-2 c = search needs
+
+add-lines-5 : tie.Need-add-lines-5 Inv-loop μ-loop
+add-lines-5 c = search needs
+
+element-write-lines-3 : tie.Need-element-write-lines-3 Inv-loop μ-loop
+element-write-lines-3 c = search needs
+
 pub insert-spec : {M : Type 1} → statement M
 insert-spec =
     tie.close
     (tie.spec
     Inv-loop
     μ-loop
-    (λ c. search needs)
-    (λ c. search needs)
-    (λ c κs. search needs)
-    (λ c κs. search needs)
+    mul-at
+    element-copy-out-n
+    wide-requires
+    least-requires
     loop-holds
-    (λ c. search needs)
-    (λ c. search needs)
-    (λ c. search needs)
-    (λ c. search needs)
-    (λ c. search needs)
-    (λ c. search needs)
-    (λ c. search needs)
-    (λ c. search needs)
+    add-y
+    add-y-2
+    element-copy-out-y
+    add-lines
+    add-lines-2
+    element-write-lines
+    add-k
+    loop-less
     loop-again
-    (λ c. search needs)
-    (λ c. search needs)
-    (λ c. search needs)
-    (λ c. search needs)
-    (λ c. search needs)
+    add-lines-3
+    add-lines-4
+    element-write-lines-2
+    add-lines-5
+    element-write-lines-3
     returns
     returns-2
     returns-3)

@@ -19,18 +19,43 @@ returns-2 c =
     let a = at-row .before .args in
     full-is (a .lines .now) (a .j) (at-row .if1 .taken) refl atBack (a .x) (c .if2 .left)
 
+-- ---- what the steps ask, and what is known answers
+mul-at : tie.Need-mul-at
+mul-at c = search needs
+
+element-copy-out-n : tie.Need-element-copy-out-n
+element-copy-out-n c = search needs
+
+add-lines : tie.Need-add-lines
+add-lines c = search needs
+
+wide-requires : tie.Need-wide-requires
+wide-requires c κs = search needs
+
+add-lines-2 : tie.Need-add-lines-2
+add-lines-2 c = search needs
+
+element-write-lines : tie.Need-element-write-lines
+element-write-lines c = search needs
+
+add-lines-3 : tie.Need-add-lines-3
+add-lines-3 c = search needs
+
+element-write-lines-2 : tie.Need-element-write-lines-2
+element-write-lines-2 c = search needs
+
 pub join-spec : {M : Type 1} → statement M
 join-spec =
     tie.close
     (tie.spec
-    (λ c. search needs)
-    (λ c. search needs)
-    (λ c. search needs)
-    (λ c κs. search needs)
-    (λ c. search needs)
-    (λ c. search needs)
-    (λ c. search needs)
-    (λ c. search needs)
+    mul-at
+    element-copy-out-n
+    add-lines
+    wide-requires
+    add-lines-2
+    element-write-lines
+    add-lines-3
+    element-write-lines-2
     returns
     returns-2
     (λ c. entered-past _ _ atBack _ (c .if1 .left)))

@@ -21,11 +21,15 @@ returns-2 c =
     let a = at-len .before .args in
     sym (List·getD-eq-default (line (a .lines .now) (a .j)) 0 {n = a .k} (omega (arith, at-len .len .ensures)))
 
+-- ---- what the steps ask, and what is known answers
+len-requires : tie.Need-len-requires
+len-requires c κs = search needs
+
 pub member-spec : {M : Type 1} → statement M
 member-spec =
     tie.close
     (tie.spec
-    (λ c κs. search needs)
+    len-requires
     (λ c. let h = in-row _ _ (c .before .len .ensures) (c .if1 .taken) in omega arith)
     (λ c. let h = in-row _ _ (c .before .len .ensures) (c .if1 .taken) in omega arith)
     (λ c. let h = in-row _ _ (c .before .len .ensures) (c .if1 .taken) in omega arith)

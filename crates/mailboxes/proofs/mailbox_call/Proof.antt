@@ -41,18 +41,34 @@ returns-5 c =
     let m = at-match .match .rest in
     let q = waitTables (args .tasks .now) (args .lines .now) (args .mailboxes .now) in
     unknown-is q _
-    (no-call q (args .state .now) (args .x) (args .number) (args .a) (args .b) (args .c) (args .d) (m .0 .0 .0 .1) (m .0 .0 .1) (m .0 .1) (m .1))
+    (no-call q (args .state .now) (args .x) (args .q .number) (args .q .a) (args .q .b) (args .q .c) (args .q .d) (m .0 .0 .0 .1) (m .0 .0 .1) (m .0 .1) (m .1))
     (c .refused .ensures)
+
+-- ---- what the steps ask, and what is known answers
+create-requires : tie.Need-create-requires
+create-requires c κs = search needs
+
+delete-requires : tie.Need-delete-requires
+delete-requires c κs = search needs
+
+post-requires : tie.Need-post-requires
+post-requires c κs = search needs
+
+pend-requires : tie.Need-pend-requires
+pend-requires c κs = search needs
+
+refused-requires : tie.Need-refused-requires
+refused-requires c κs = search needs
 
 pub mailbox-call-spec : {M : Type 1} → statement M
 mailbox-call-spec =
     tie.close
     (tie.spec
-    (λ c κs. search needs)
-    (λ c κs. search needs)
-    (λ c κs. search needs)
-    (λ c κs. search needs)
-    (λ c κs. search needs)
+    create-requires
+    delete-requires
+    post-requires
+    pend-requires
+    refused-requires
     returns
     returns-2
     returns-3

@@ -53,19 +53,38 @@ returns-2 c =
     let l = at-loop .loop in
     sym (ended (isLower (a .tasks .now) (a .p)) (line (a .lines .now) (a .j)) (l .k) (l .inv .2) (omega (arith, l .inv .0)))
 
+-- ---- what the steps ask, and what is known answers
+len-requires : tie.Need-len-requires Inv-loop μ-loop
+len-requires c κs = search needs
+
+member-requires : tie.Need-member-requires Inv-loop μ-loop
+member-requires c κs = search needs
+
+wide-requires : tie.Need-wide-requires Inv-loop μ-loop
+wide-requires c κs = search needs
+
+task-word-requires : tie.Need-task-word-requires Inv-loop μ-loop
+task-word-requires c κs = search needs
+
+add-k : tie.Need-add-k Inv-loop μ-loop
+add-k c = search needs
+
+loop-less : tie.Need-loop-less Inv-loop μ-loop
+loop-less c = search needs
+
 pub place-spec : {M : Type 1} → statement M
 place-spec =
     tie.close
     (tie.spec
     Inv-loop
     μ-loop
-    (λ c κs. search needs)
+    len-requires
     (λ c. (c .len .ensures, omega arith, omega arith))
-    (λ c κs. search needs)
-    (λ c κs. search needs)
-    (λ c κs. search needs)
+    member-requires
+    wide-requires
+    task-word-requires
     returns
-    (λ c. search needs)
-    (λ c. search needs)
+    add-k
+    loop-less
     loop-again
     returns-2)

@@ -1,13 +1,49 @@
+-- `in_place` is safe and ends: an entry asks nothing of its tables, and each turn is one of the n.
 use Prim.Native.Nat.{_-_, _≤_}
+use native.Mathlib.Omega.{arith}
 use borrow.Author.Needs.{needs}
 use Rattle.pace_entries.proofs.in_place.Statement.{statement}
 use Rattle.pace_entries.proofs.in_place.Tie as tie
 
 abbrev Inv-loop : tie.InvT-loop
-Inv-loop levels calls n from tasks₀ lines₀ semaphores₀ events₀ mailboxes₀ swis₀ clocks₀ heap₀ state₀ sum₀ k₀ tasks lines semaphores events mailboxes swis clocks heap state sum k = k ≤ 3276
+Inv-loop _ _ n _ _ _ _ _ _ _ _ _ _ _ _ _ _ _ _ _ _ _ _ _ _ k = k ≤ n
 
 abbrev μ-loop : tie.MeasureT-loop
-μ-loop levels calls n from tasks₀ lines₀ semaphores₀ events₀ mailboxes₀ swis₀ clocks₀ heap₀ state₀ sum₀ k₀ tasks lines semaphores events mailboxes swis clocks heap state sum k = 3276 - k
+μ-loop _ _ n _ _ _ _ _ _ _ _ _ _ _ _ _ _ _ _ _ _ _ _ _ _ k = n - k
+
+fresh-requires : tie.Need-fresh-requires Inv-loop μ-loop
+fresh-requires c κs = search needs
+
+loop-holds : tie.Need-loop-holds Inv-loop μ-loop
+loop-holds c = search needs
+
+call-at-requires : tie.Need-call-at-requires Inv-loop μ-loop
+call-at-requires c κs = search needs
+
+call-in-place-requires : tie.Need-call-in-place-requires Inv-loop μ-loop
+call-in-place-requires c κs = search needs
+
+add-requires : tie.Need-add-requires Inv-loop μ-loop
+add-requires c κs = search needs
+
+add-k : tie.Need-add-k Inv-loop μ-loop
+add-k c =
+    let at-call = c .before .before .before .before in
+    -- past the nine tables that are lent, and past their fresh values
+    let half-lent = at-call .before .before .before .before .before in
+    let at-test = half-lent .before .before .before .before .before in
+    let half-made = at-test .before .before .before .before .before .before in
+    let start = half-made .before .before .before .before .before .before .before in
+    omega (arith, at-test .loop-test .taken, start .fits .n .fits)
+
+loop-less : tie.Need-loop-less Inv-loop μ-loop
+loop-less c = search needs
+
+loop-again : tie.Need-loop-again Inv-loop μ-loop
+loop-again c = search needs
+
+returns : tie.Need-returns Inv-loop μ-loop
+returns c = search needs
 
 pub in-place-spec : {M : Type 1} → statement M
 in-place-spec =
@@ -15,31 +51,12 @@ in-place-spec =
     (tie.spec
     Inv-loop
     μ-loop
-    (λ c κs. search needs)
-    (λ c. search needs)
-    (λ c. search needs)
-    (λ c. search needs)
-    (λ c. search needs)
-    (λ c. search needs)
-    (λ c. search needs)
-    (λ c. search needs)
-    (λ c. search needs)
-    (λ c. search needs)
-    (λ c. search needs)
-    (λ c. search needs)
-    (λ c. search needs)
-    (λ c. search needs)
-    (λ c. search needs)
-    (λ c. search needs)
-    (λ c. search needs)
-    (λ c. search needs)
-    (λ c. search needs)
-    (λ c. search needs)
-    (λ c. search needs)
-    (λ c. search needs)
-    (λ c κs. search needs)
-    (λ c κs. search needs)
-    (λ c. search needs)
-    (λ c. search needs)
-    (λ c. search needs)
-    (λ c. search needs))
+    fresh-requires
+    loop-holds
+    call-at-requires
+    call-in-place-requires
+    add-requires
+    add-k
+    loop-less
+    loop-again
+    returns)

@@ -45,19 +45,49 @@ returns-2 c =
       came = rw (toZ-ofZ {w = w64} (record { sfits = read .read .ok }), room (a .held) (part read)) at (at-brought c .brought .ensures);
     }
 
+sub-read : tie.Need-sub-read
+sub-read c = search needs
+
+part-read-start : tie.Need-part-read-start
+part-read-start c = search needs
+
+part-read-end : tie.Need-part-read-end
+part-read-end c = search needs
+
+read-requires : tie.Need-read-requires
+read-requires c κs = search needs
+
+sub-brought : tie.Need-sub-brought
+sub-brought c = search needs
+
+part-brought-start : tie.Need-part-brought-start
+part-brought-start c = search needs
+
+part-brought-end : tie.Need-part-brought-end
+part-brought-end c = search needs
+
+brought-requires : tie.Need-brought-requires
+brought-requires c κs = search needs
+
+tell-failed-requires : tie.Need-tell-failed-requires
+tell-failed-requires c κs = search needs
+
+same-length : tie.Need-same-length
+same-length c = search needs
+
 pub read-behind-spec : {M : Type 1} → statement M
 read-behind-spec =
     tie.close
     (tie.spec
     returns
-    (λ c. search needs)
-    (λ c. search needs)
-    (λ c. search needs)
-    (λ c κs. search needs)
-    (λ c. search needs)
-    (λ c. search needs)
-    (λ c. search needs)
-    (λ c κs. search needs)
-    (λ c κs. search needs)
-    (λ c. search needs)
+    sub-read
+    part-read-start
+    part-read-end
+    read-requires
+    sub-brought
+    part-brought-start
+    part-brought-end
+    brought-requires
+    tell-failed-requires
+    same-length
     returns-2)

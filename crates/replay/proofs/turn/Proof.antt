@@ -48,12 +48,22 @@ returns-2 c =
       turned .ensures .1,
     )
 
+-- ---- what the steps ask, and what is known answers
+stopped-requires : tie.Need-stopped-requires
+stopped-requires c κs = search needs
+
+replay-part-requires : tie.Need-replay-part-requires
+replay-part-requires c κs = search needs
+
+written-requires : tie.Need-written-requires
+written-requires c κs = search needs
+
 pub turn-spec : {M : Type 1} → statement M
 turn-spec =
     tie.close
     (tie.spec
-    (λ c κs. search needs)
+    stopped-requires
     returns
-    (λ c κs. search needs)
-    (λ c κs. search needs)
+    replay-part-requires
+    written-requires
     returns-2)

@@ -13,34 +13,107 @@ returns c =
     row-put taskWidth taskCount _ _ (k .mode)
     (k .priority ∷ k .object ∷ k .left ∷ k .held ∷ k .mask ∷ k .outcome ∷ k .value ∷ []) (c .if1 .taken)
 
+-- ---- what the steps ask, and what is known answers
+mul-at : tie.Need-mul-at
+mul-at c = search needs
+
+mul-tasks : tie.Need-mul-tasks
+mul-tasks c = search needs
+
+element-write-tasks : tie.Need-element-write-tasks
+element-write-tasks c = search needs
+
+add-tasks : tie.Need-add-tasks
+add-tasks c = search needs
+
+mul-tasks-2 : tie.Need-mul-tasks-2
+mul-tasks-2 c = search needs
+
+element-write-tasks-2 : tie.Need-element-write-tasks-2
+element-write-tasks-2 c = search needs
+
+add-tasks-2 : tie.Need-add-tasks-2
+add-tasks-2 c = search needs
+
+mul-tasks-3 : tie.Need-mul-tasks-3
+mul-tasks-3 c = search needs
+
+element-write-tasks-3 : tie.Need-element-write-tasks-3
+element-write-tasks-3 c = search needs
+
+add-tasks-3 : tie.Need-add-tasks-3
+add-tasks-3 c = search needs
+
+mul-tasks-4 : tie.Need-mul-tasks-4
+mul-tasks-4 c = search needs
+
+element-write-tasks-4 : tie.Need-element-write-tasks-4
+element-write-tasks-4 c = search needs
+
+add-tasks-4 : tie.Need-add-tasks-4
+add-tasks-4 c = search needs
+
+mul-tasks-5 : tie.Need-mul-tasks-5
+mul-tasks-5 c = search needs
+
+element-write-tasks-5 : tie.Need-element-write-tasks-5
+element-write-tasks-5 c = search needs
+
+add-tasks-5 : tie.Need-add-tasks-5
+add-tasks-5 c = search needs
+
+mul-tasks-6 : tie.Need-mul-tasks-6
+mul-tasks-6 c = search needs
+
+element-write-tasks-6 : tie.Need-element-write-tasks-6
+element-write-tasks-6 c = search needs
+
+add-tasks-6 : tie.Need-add-tasks-6
+add-tasks-6 c = search needs
+
+mul-tasks-7 : tie.Need-mul-tasks-7
+mul-tasks-7 c = search needs
+
+element-write-tasks-7 : tie.Need-element-write-tasks-7
+element-write-tasks-7 c = search needs
+
+add-tasks-7 : tie.Need-add-tasks-7
+add-tasks-7 c = search needs
+
+mul-tasks-8 : tie.Need-mul-tasks-8
+mul-tasks-8 c = search needs
+
+element-write-tasks-8 : tie.Need-element-write-tasks-8
+element-write-tasks-8 c = search needs
+
 pub set-task-spec : {M : Type 1} → statement M
 unfolding withTask
 set-task-spec =
     tie.close
     (tie.spec
-    (λ c. search needs)
-    (λ c. search needs)
-    (λ c. search needs)
-    (λ c. search needs)
-    (λ c. search needs)
-    (λ c. search needs)
-    (λ c. search needs)
-    (λ c. search needs)
-    (λ c. search needs)
-    (λ c. search needs)
-    (λ c. search needs)
-    (λ c. search needs)
-    (λ c. search needs)
-    (λ c. search needs)
-    (λ c. search needs)
-    (λ c. search needs)
-    (λ c. search needs)
-    (λ c. search needs)
-    (λ c. search needs)
-    (λ c. search needs)
-    (λ c. search needs)
-    (λ c. search needs)
-    (λ c. search needs)
-    (λ c. search needs)
+    mul-at
+    mul-tasks
+    element-write-tasks
+    add-tasks
+    mul-tasks-2
+    element-write-tasks-2
+    add-tasks-2
+    mul-tasks-3
+    element-write-tasks-3
+    add-tasks-3
+    mul-tasks-4
+    element-write-tasks-4
+    add-tasks-4
+    mul-tasks-5
+    element-write-tasks-5
+    add-tasks-5
+    mul-tasks-6
+    element-write-tasks-6
+    add-tasks-6
+    mul-tasks-7
+    element-write-tasks-7
+    add-tasks-7
+    mul-tasks-8
+    element-write-tasks-8
     returns
     (λ c. row-none _ _ _ _ _ _ (c .if1 .left)))

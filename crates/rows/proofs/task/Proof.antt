@@ -18,16 +18,41 @@ returns c =
     (at-task-word4 .task-word4 .ensures) (at-task-word5 .task-word5 .ensures) (at-task-word6 .task-word6 .ensures)
     (at-task-word7 .task-word7 .ensures) (c .task-word8 .ensures)
 
+-- ---- what the steps ask, and what is known answers
+task-word-requires : tie.Need-task-word-requires
+task-word-requires c κs = search needs
+
+task-word-requires-2 : tie.Need-task-word-requires-2
+task-word-requires-2 c κs = search needs
+
+task-word-requires-3 : tie.Need-task-word-requires-3
+task-word-requires-3 c κs = search needs
+
+task-word-requires-4 : tie.Need-task-word-requires-4
+task-word-requires-4 c κs = search needs
+
+task-word-requires-5 : tie.Need-task-word-requires-5
+task-word-requires-5 c κs = search needs
+
+task-word-requires-6 : tie.Need-task-word-requires-6
+task-word-requires-6 c κs = search needs
+
+task-word-requires-7 : tie.Need-task-word-requires-7
+task-word-requires-7 c κs = search needs
+
+task-word-requires-8 : tie.Need-task-word-requires-8
+task-word-requires-8 c κs = search needs
+
 pub task-spec : {M : Type 1} → statement M
 task-spec =
     tie.close
     (tie.spec
-    (λ c κs. search needs)
-    (λ c κs. search needs)
-    (λ c κs. search needs)
-    (λ c κs. search needs)
-    (λ c κs. search needs)
-    (λ c κs. search needs)
-    (λ c κs. search needs)
-    (λ c κs. search needs)
+    task-word-requires
+    task-word-requires-2
+    task-word-requires-3
+    task-word-requires-4
+    task-word-requires-5
+    task-word-requires-6
+    task-word-requires-7
+    task-word-requires-8
     returns)

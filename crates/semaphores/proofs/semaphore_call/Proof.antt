@@ -39,21 +39,40 @@ returns-6 c =
     let n = at-match .match .rest in
     let q = waitTables (args .tasks .now) (args .lines .now) (args .semaphores .now) in
     unknown-is q _
-    (no-call q (args .state .now) (args .x) (args .number) (args .a) (args .b) (args .c) (args .d) (n .0 .0 .0 .0 .1) (n .0 .0 .0 .1) (n .0 .0 .1)
+    (no-call q (args .state .now) (args .x) (args .q .number) (args .q .a) (args .q .b) (args .q .c) (args .q .d) (n .0 .0 .0 .0 .1) (n .0 .0 .0 .1) (n .0 .0 .1)
     (n .0 .1) (n .1))
     (c .refused .ensures)
+
+-- ---- what the steps ask, and what is known answers
+create-requires : tie.Need-create-requires
+create-requires c κs = search needs
+
+delete-requires : tie.Need-delete-requires
+delete-requires c κs = search needs
+
+pend-requires : tie.Need-pend-requires
+pend-requires c κs = search needs
+
+post-requires : tie.Need-post-requires
+post-requires c κs = search needs
+
+reset-requires : tie.Need-reset-requires
+reset-requires c κs = search needs
+
+refused-requires : tie.Need-refused-requires
+refused-requires c κs = search needs
 
 pub semaphore-call-spec : {M : Type 1} → statement M
 unfolding semaphoreCall
 semaphore-call-spec =
     tie.close
     (tie.spec
-    (λ c κs. search needs)
-    (λ c κs. search needs)
-    (λ c κs. search needs)
-    (λ c κs. search needs)
-    (λ c κs. search needs)
-    (λ c κs. search needs)
+    create-requires
+    delete-requires
+    pend-requires
+    post-requires
+    reset-requires
+    refused-requires
     (λ c. rw (c .before .before .match .keys1) (c .create .ensures _ _))
     returns-2
     returns-3

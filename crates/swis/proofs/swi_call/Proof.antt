@@ -52,20 +52,51 @@ returns-10 c =
     (n .0 .0 .0 .0 .1) (n .0 .0 .0 .1) (n .0 .0 .1) (n .0 .1) (n .1))
     (c .refused .ensures)
 
+-- ---- what the steps ask, and what is known answers
+create-requires : tie.Need-create-requires
+create-requires c κs = search needs
+
+delete-requires : tie.Need-delete-requires
+delete-requires c κs = search needs
+
+post-requires : tie.Need-post-requires
+post-requires c κs = search needs
+
+add-requires : tie.Need-add-requires
+add-requires c κs = search needs
+
+take-requires : tie.Need-take-requires
+take-requires c κs = search needs
+
+set-bits-requires : tie.Need-set-bits-requires
+set-bits-requires c κs = search needs
+
+clear-bits-requires : tie.Need-clear-bits-requires
+clear-bits-requires c κs = search needs
+
+end-requires : tie.Need-end-requires
+end-requires c κs = search needs
+
+taken-requires : tie.Need-taken-requires
+taken-requires c κs = search needs
+
+refused-requires : tie.Need-refused-requires
+refused-requires c κs = search needs
+
 pub swi-call-spec : {M : Type 1} → statement M
 swi-call-spec =
     tie.close
     (tie.spec
-    (λ c κs. search needs)
-    (λ c κs. search needs)
-    (λ c κs. search needs)
-    (λ c κs. search needs)
-    (λ c κs. search needs)
-    (λ c κs. search needs)
-    (λ c κs. search needs)
-    (λ c κs. search needs)
-    (λ c κs. search needs)
-    (λ c κs. search needs)
+    create-requires
+    delete-requires
+    post-requires
+    add-requires
+    take-requires
+    set-bits-requires
+    clear-bits-requires
+    end-requires
+    taken-requires
+    refused-requires
     returns
     returns-2
     returns-3

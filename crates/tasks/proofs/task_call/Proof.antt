@@ -39,21 +39,46 @@ returns-8 c =
     let at-match = c .before in
     let args = at-match .before .args in
     let n = at-match .match .rest in
-    no-number (args .tasks .now) (args .lines .now) (args .state .now) (args .x) (args .number) (args .a) (args .b) (args .c) (args .d)
+    no-number (args .tasks .now) (args .lines .now) (args .state .now) (args .x) (args .q .number) (args .q .a) (args .q .b) (args .q .c) (args .q .d)
     (n .0 .0 .0 .0 .0 .0 .1) (n .0 .0 .0 .0 .0 .1) (n .0 .0 .0 .0 .1) (n .0 .0 .0 .1) (n .0 .0 .1) (n .0 .1) (n .1) (c .refused .ensures)
+
+-- ---- what the steps ask, and what is known answers
+create-requires : tie.Need-create-requires
+create-requires c κs = search needs
+
+delete-requires : tie.Need-delete-requires
+delete-requires c κs = search needs
+
+set-priority-requires : tie.Need-set-priority-requires
+set-priority-requires c κs = search needs
+
+yield-task-requires : tie.Need-yield-task-requires
+yield-task-requires c κs = search needs
+
+end-requires : tie.Need-end-requires
+end-requires c κs = search needs
+
+sleep-requires : tie.Need-sleep-requires
+sleep-requires c κs = search needs
+
+last-result-requires : tie.Need-last-result-requires
+last-result-requires c κs = search needs
+
+refused-requires : tie.Need-refused-requires
+refused-requires c κs = search needs
 
 pub task-call-spec : {M : Type 1} → statement M
 task-call-spec =
     tie.close
     (tie.spec
-    (λ c κs. search needs)
-    (λ c κs. search needs)
-    (λ c κs. search needs)
-    (λ c κs. search needs)
-    (λ c κs. search needs)
-    (λ c κs. search needs)
-    (λ c κs. search needs)
-    (λ c κs. search needs)
+    create-requires
+    delete-requires
+    set-priority-requires
+    yield-task-requires
+    end-requires
+    sleep-requires
+    last-result-requires
+    refused-requires
     returns
     returns-2
     returns-3

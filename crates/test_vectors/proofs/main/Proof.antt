@@ -10,16 +10,37 @@ Inv-loop words i₀ i = Unit {0}
 abbrev μ-loop : tie.MeasureT-loop
 μ-loop words i₀ i = words - i
 
+arg-count-requires : tie.Need-arg-count-requires Inv-loop μ-loop
+arg-count-requires c κs = search needs
+
+loop-holds : tie.Need-loop-holds Inv-loop μ-loop
+loop-holds c = search needs
+
+replay-named-requires : tie.Need-replay-named-requires Inv-loop μ-loop
+replay-named-requires c κs = search needs
+
+add-i : tie.Need-add-i Inv-loop μ-loop
+add-i c = search needs
+
+loop-less : tie.Need-loop-less Inv-loop μ-loop
+loop-less c = search needs
+
+loop-again : tie.Need-loop-again Inv-loop μ-loop
+loop-again c = search needs
+
+returns : tie.Need-returns Inv-loop μ-loop
+returns c = search needs
+
 pub main-spec : {M : Type 1} → statement M
 main-spec =
     tie.close
     (tie.spec
     Inv-loop
     μ-loop
-    (λ c κs. tt)
-    (λ c. tt)
-    (λ c κs. tt)
-    (λ c. search needs)
-    (λ c. search needs)
-    (λ c. tt)
-    (λ c. tt))
+    arg-count-requires
+    loop-holds
+    replay-named-requires
+    add-i
+    loop-less
+    loop-again
+    returns)

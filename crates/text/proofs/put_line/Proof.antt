@@ -4,19 +4,47 @@ use borrow.Author.Needs.{needs}
 use Rattle.text.proofs.put_line.Statement.{statement}
 use Rattle.text.proofs.put_line.Tie as tie
 
+-- ---- what the steps ask, and what is known answers
+put-column-requires : tie.Need-put-column-requires
+put-column-requires c κs = search needs
+
+cast-put-column : tie.Need-cast-put-column
+cast-put-column c = search needs
+
+put-column-requires-2 : tie.Need-put-column-requires-2
+put-column-requires-2 c κs = search needs
+
+cast-put-column-2 : tie.Need-cast-put-column-2
+cast-put-column-2 c = search needs
+
+put-column-requires-3 : tie.Need-put-column-requires-3
+put-column-requires-3 c κs = search needs
+
+cast-put-column-3 : tie.Need-cast-put-column-3
+cast-put-column-3 c = search needs
+
+put-column-requires-4 : tie.Need-put-column-requires-4
+put-column-requires-4 c κs = search needs
+
+put-thread-requires : tie.Need-put-thread-requires
+put-thread-requires c κs = search needs
+
+put-byte-requires : tie.Need-put-byte-requires
+put-byte-requires c κs = search needs
+
 pub put-line-spec : {M : Type 1} → statement M
 put-line-spec =
     tie.close
     (tie.spec
-    (λ c κs. search needs)
-    (λ c. search needs)
-    (λ c κs. search needs)
-    (λ c. search needs)
-    (λ c κs. search needs)
-    (λ c. search needs)
-    (λ c κs. search needs)
-    (λ c κs. search needs)
-    (λ c κs. search needs)
+    put-column-requires
+    cast-put-column
+    put-column-requires-2
+    cast-put-column-2
+    put-column-requires-3
+    cast-put-column-3
+    put-column-requires-4
+    put-thread-requires
+    put-byte-requires
     (λ c.
     let at-thread = c .before .before in
     let at-value = at-thread .before .before in

@@ -13,6 +13,19 @@ Inv-loop out₀ at text p₀ i₀ out p i = (i ≤ length text) × Put out₀ at
 abbrev μ-loop : tie.MeasureT-loop
 μ-loop out₀ at text p₀ i₀ out p i = length text - i
 
+-- ---- what the steps ask, and what is known answers
+shared-slice-read-put-byte : tie.Need-shared-slice-read-put-byte Inv-loop μ-loop
+shared-slice-read-put-byte c = search needs
+
+put-byte-requires : tie.Need-put-byte-requires Inv-loop μ-loop
+put-byte-requires c κs = search needs
+
+add-i : tie.Need-add-i Inv-loop μ-loop
+add-i c = search needs
+
+loop-less : tie.Need-loop-less Inv-loop μ-loop
+loop-less c = search needs
+
 pub put-text-spec : {M : Type 1} → statement M
 put-text-spec =
     tie.close
@@ -20,10 +33,10 @@ put-text-spec =
     Inv-loop
     μ-loop
     (λ c. let b = c .before in (search needs, put-none 16384 (b .args .out .now) (b .args .at)))
-    (λ c. search needs)
-    (λ c κs. search needs)
-    (λ c. search needs)
-    (λ c. search needs)
+    shared-slice-read-put-byte
+    put-byte-requires
+    add-i
+    loop-less
     (λ c.
     let at-test = c .before .before .before in
     let at-loop = at-test .before in

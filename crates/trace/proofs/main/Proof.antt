@@ -10,8 +10,26 @@ Inv-loop words k₀ k = Unit {0}
 abbrev μ-loop : tie.MeasureT-loop
 μ-loop words k₀ k = words - k
 
+arg-count-requires : tie.Need-arg-count-requires Inv-loop μ-loop
+arg-count-requires c κs = search needs
+
+slice-aggregate-trace-all : tie.Need-slice-aggregate-trace-all Inv-loop μ-loop
+slice-aggregate-trace-all c = search needs
+
+trace-all-requires : tie.Need-trace-all-requires Inv-loop μ-loop
+trace-all-requires c κs = search needs
+
 loop-holds : tie.Need-loop-holds Inv-loop μ-loop
 loop-holds c = tt
+
+trace-named-requires : tie.Need-trace-named-requires Inv-loop μ-loop
+trace-named-requires c κs = search needs
+
+add-k : tie.Need-add-k Inv-loop μ-loop
+add-k c = search needs
+
+loop-less : tie.Need-loop-less Inv-loop μ-loop
+loop-less c = search needs
 
 loop-again : tie.Need-loop-again Inv-loop μ-loop
 loop-again c = tt
@@ -25,12 +43,12 @@ main-spec =
     (tie.spec
     Inv-loop
     μ-loop
-    (λ c κs. search needs)
-    (λ c. search needs)
-    (λ c κs. search needs)
+    arg-count-requires
+    slice-aggregate-trace-all
+    trace-all-requires
     loop-holds
-    (λ c κs. search needs)
-    (λ c. search needs)
-    (λ c. search needs)
+    trace-named-requires
+    add-k
+    loop-less
     loop-again
     returns)

@@ -13,13 +13,29 @@ returns c =
     tells-more _ _ (at-put .put .ensures) (tells-more _ _ (at-put2 .put2 .ensures)
     (tells-more _ _ (at-put3 .put3 .ensures) (tells-more _ _ (at-put4 .put4 .ensures) (c .put5 .ensures))))
 
+-- ---- what the steps ask, and what is known answers
+put-requires : tie.Need-put-requires
+put-requires c κs = search needs
+
+put-requires-2 : tie.Need-put-requires-2
+put-requires-2 c κs = search needs
+
+put-requires-3 : tie.Need-put-requires-3
+put-requires-3 c κs = search needs
+
+put-requires-4 : tie.Need-put-requires-4
+put-requires-4 c κs = search needs
+
+put-requires-5 : tie.Need-put-requires-5
+put-requires-5 c κs = search needs
+
 pub put-asked-spec : {M : Type 1} → statement M
 put-asked-spec =
     tie.close
     (tie.spec
-    (λ c κs. search needs)
-    (λ c κs. search needs)
-    (λ c κs. search needs)
-    (λ c κs. search needs)
-    (λ c κs. search needs)
+    put-requires
+    put-requires-2
+    put-requires-3
+    put-requires-4
+    put-requires-5
     returns)

@@ -6,6 +6,30 @@ use Rattle.trace_changes.proofs.Telling.{tells-more}
 use Rattle.trace_line.proofs.put_call.Statement.{statement}
 use Rattle.trace_line.proofs.put_call.Tie as tie
 
+put-long-requires : tie.Need-put-long-requires
+put-long-requires c κs = search needs
+
+element-copy-out-put : tie.Need-element-copy-out-put
+element-copy-out-put c = search needs
+
+put-requires : tie.Need-put-requires
+put-requires c κs = search needs
+
+running-requires : tie.Need-running-requires
+running-requires c κs = search needs
+
+put-thread-requires : tie.Need-put-thread-requires
+put-thread-requires c κs = search needs
+
+put-asked-requires : tie.Need-put-asked-requires
+put-asked-requires c κs = search needs
+
+put-answer-requires : tie.Need-put-answer-requires
+put-answer-requires c κs = search needs
+
+put-thread-requires-2 : tie.Need-put-thread-requires-2
+put-thread-requires-2 c κs = search needs
+
 returns : tie.Need-returns
 unfolding callText
 returns c =
@@ -24,12 +48,12 @@ pub put-call-spec : {M : Type 1} → statement M
 put-call-spec =
     tie.close
     (tie.spec
-    (λ c κs. search needs)
-    (λ c. search needs)
-    (λ c κs. search needs)
-    (λ c κs. search needs)
-    (λ c κs. search needs)
-    (λ c κs. search needs)
-    (λ c κs. search needs)
-    (λ c κs. search needs)
+    put-long-requires
+    element-copy-out-put
+    put-requires
+    running-requires
+    put-thread-requires
+    put-asked-requires
+    put-answer-requires
+    put-thread-requires-2
     returns)

@@ -52,6 +52,22 @@ returns c =
     let all = count-end (λ k. eqb (unit (start .args .heap .now) k) (start .args .e)) (l .u) (l .inv .1) heapUnits (l .inv .0) (c .loop-test .left) in
     (all, omega (arith, all, count-most (λ k. eqb (unit (start .args .heap .now) k) (start .args .e)) heapUnits))
 
+-- ---- what the steps ask, and what is known answers
+unit-requires : tie.Need-unit-requires Inv-loop μ-loop
+unit-requires c κs = search needs
+
+bit-requires : tie.Need-bit-requires Inv-loop μ-loop
+bit-requires c κs = search needs
+
+index-requires : tie.Need-index-requires Inv-loop μ-loop
+index-requires c κs = search needs
+
+add-u : tie.Need-add-u Inv-loop μ-loop
+add-u c = search needs
+
+loop-less : tie.Need-loop-less Inv-loop μ-loop
+loop-less c = search needs
+
 pub count-units-spec : {M : Type 1} → statement M
 count-units-spec =
     tie.close
@@ -59,11 +75,11 @@ count-units-spec =
     Inv-loop
     μ-loop
     loop-holds
-    (λ c κs. search needs)
-    (λ c κs. search needs)
-    (λ c κs. search needs)
+    unit-requires
+    bit-requires
+    index-requires
     add-n
-    (λ c. search needs)
-    (λ c. search needs)
+    add-u
+    loop-less
     loop-again
     returns)

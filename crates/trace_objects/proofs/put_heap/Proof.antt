@@ -22,15 +22,34 @@ returns-2 c =
     (tells-more _ _ (rw (at-count-units .count-units .ensures .0) at (at-put-long .put-long .ensures))
     (rw (at-count-units .count-units .ensures .0, at-count-units2 .count-units2 .ensures .0) at (c .put-long2 .ensures)))
 
+-- ---- what the steps ask, and what is known answers
+same-heap-requires : tie.Need-same-heap-requires
+same-heap-requires c κs = search needs
+
+count-units-requires : tie.Need-count-units-requires
+count-units-requires c κs = search needs
+
+count-units-requires-2 : tie.Need-count-units-requires-2
+count-units-requires-2 c κs = search needs
+
+add-taken : tie.Need-add-taken
+add-taken c = search needs
+
+put-long-requires : tie.Need-put-long-requires
+put-long-requires c κs = search needs
+
+put-long-requires-2 : tie.Need-put-long-requires-2
+put-long-requires-2 c κs = search needs
+
 pub put-heap-spec : {M : Type 1} → statement M
 put-heap-spec =
     tie.close
     (tie.spec
-    (λ c κs. search needs)
+    same-heap-requires
     returns
-    (λ c κs. search needs)
-    (λ c κs. search needs)
-    (λ c. search needs)
-    (λ c κs. search needs)
-    (λ c κs. search needs)
+    count-units-requires
+    count-units-requires-2
+    add-taken
+    put-long-requires
+    put-long-requires-2
     returns-2)

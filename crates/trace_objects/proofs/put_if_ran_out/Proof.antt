@@ -20,13 +20,26 @@ returns-2 c =
     let at-wide = at-clock .before in
     told-no (rw (at-clock .clock .ensures, at-wide .wide .ensures .0) at (at-runs-out .runs-out .ensures)) _ (c .if1 .left)
 
+-- ---- what the steps ask, and what is known answers
+wide-requires : tie.Need-wide-requires
+wide-requires c κs = search needs
+
+clock-requires : tie.Need-clock-requires
+clock-requires c κs = search needs
+
+runs-out-requires : tie.Need-runs-out-requires
+runs-out-requires c κs = search needs
+
+put-object-requires : tie.Need-put-object-requires
+put-object-requires c κs = search needs
+
 pub put-if-ran-out-spec : {M : Type 1} → statement M
 put-if-ran-out-spec =
     tie.close
     (tie.spec
-    (λ c κs. search needs)
-    (λ c κs. search needs)
-    (λ c κs. search needs)
-    (λ c κs. search needs)
+    wide-requires
+    clock-requires
+    runs-out-requires
+    put-object-requires
     returns
     returns-2)

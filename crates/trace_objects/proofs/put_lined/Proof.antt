@@ -36,6 +36,16 @@ returns c =
     let l = at-loop .loop in
     each-end _ (l .i) (l .inv .1) (a .n) (l .inv .0) (c .loop-test .left)
 
+-- ---- what the steps ask, and what is known answers
+put-lined-if-changed-requires : tie.Need-put-lined-if-changed-requires Inv-loop μ-loop
+put-lined-if-changed-requires c κs = search needs
+
+add-i : tie.Need-add-i Inv-loop μ-loop
+add-i c = search needs
+
+loop-less : tie.Need-loop-less Inv-loop μ-loop
+loop-less c = search needs
+
 pub put-lined-spec : {M : Type 1} → statement M
 put-lined-spec =
     tie.close
@@ -43,8 +53,8 @@ put-lined-spec =
     Inv-loop
     μ-loop
     loop-holds
-    (λ c κs. search needs)
-    (λ c. search needs)
-    (λ c. search needs)
+    put-lined-if-changed-requires
+    add-i
+    loop-less
     loop-again
     returns)

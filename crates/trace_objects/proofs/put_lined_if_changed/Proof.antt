@@ -26,16 +26,38 @@ returns-2 c =
     (rw (at-wide .wide .ensures .0, at-wide2 .wide2 .ensures .0) at (at-same-line .same-line .ensures))) _ (at-if1 .if1 .left)
     (tells-more _ _ (at-put-object .put-object .ensures) (rw (at-wide .wide .ensures .0, at-wide2 .wide2 .ensures .0) at (c .put-waiting .ensures)))
 
+-- ---- what the steps ask, and what is known answers
+wide-requires : tie.Need-wide-requires
+wide-requires c κs = search needs
+
+wide-requires-2 : tie.Need-wide-requires-2
+wide-requires-2 c κs = search needs
+
+add-j : tie.Need-add-j
+add-j c = search needs
+
+same-row-requires : tie.Need-same-row-requires
+same-row-requires c κs = search needs
+
+same-line-requires : tie.Need-same-line-requires
+same-line-requires c κs = search needs
+
+put-object-requires : tie.Need-put-object-requires
+put-object-requires c κs = search needs
+
+put-waiting-requires : tie.Need-put-waiting-requires
+put-waiting-requires c κs = search needs
+
 pub put-lined-if-changed-spec : {M : Type 1} → statement M
 put-lined-if-changed-spec =
     tie.close
     (tie.spec
-    (λ c κs. search needs)
-    (λ c κs. search needs)
-    (λ c. search needs)
-    (λ c κs. search needs)
-    (λ c κs. search needs)
+    wide-requires
+    wide-requires-2
+    add-j
+    same-row-requires
+    same-line-requires
     returns
-    (λ c κs. search needs)
-    (λ c κs. search needs)
+    put-object-requires
+    put-waiting-requires
     returns-2)

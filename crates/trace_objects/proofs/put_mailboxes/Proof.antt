@@ -30,6 +30,16 @@ returns : tie.Need-returns Inv-loop μ-loop
 unfolding changedMailboxes
 returns c = let l = c .before .loop in each-end _ (l .i) (l .inv .1) mailboxCount (l .inv .0) (c .loop-test .left)
 
+-- ---- what the steps ask, and what is known answers
+put-mailbox-if-changed-requires : tie.Need-put-mailbox-if-changed-requires Inv-loop μ-loop
+put-mailbox-if-changed-requires c κs = search needs
+
+add-i : tie.Need-add-i Inv-loop μ-loop
+add-i c = search needs
+
+loop-less : tie.Need-loop-less Inv-loop μ-loop
+loop-less c = search needs
+
 pub put-mailboxes-spec : {M : Type 1} → statement M
 put-mailboxes-spec =
     tie.close
@@ -37,8 +47,8 @@ put-mailboxes-spec =
     Inv-loop
     μ-loop
     loop-holds
-    (λ c κs. search needs)
-    (λ c. search needs)
-    (λ c. search needs)
+    put-mailbox-if-changed-requires
+    add-i
+    loop-less
     loop-again
     returns)

@@ -53,18 +53,34 @@ returns c =
     let told = each-end _ (l .k) (l .inv .1) _ (l .inv .0 .1) (c .loop-test .left) in
     rw (l .inv .0 .0, each-member (messages (a .mailboxes .now) (a .i))) at told
 
+-- ---- what the steps ask, and what is known answers
+count-requires : tie.Need-count-requires Inv-loop μ-loop
+count-requires c κs = search needs
+
+mailbox-requires : tie.Need-mailbox-requires Inv-loop μ-loop
+mailbox-requires c κs = search needs
+
+put-requires : tie.Need-put-requires Inv-loop μ-loop
+put-requires c κs = search needs
+
+add-k : tie.Need-add-k Inv-loop μ-loop
+add-k c = search needs
+
+loop-less : tie.Need-loop-less Inv-loop μ-loop
+loop-less c = search needs
+
 pub put-messages-spec : {M : Type 1} → statement M
 put-messages-spec =
     tie.close
     (tie.spec
     Inv-loop
     μ-loop
-    (λ c κs. search needs)
+    count-requires
     loop-holds
     add-mailbox
-    (λ c κs. search needs)
-    (λ c κs. search needs)
-    (λ c. search needs)
-    (λ c. search needs)
+    mailbox-requires
+    put-requires
+    add-k
+    loop-less
     loop-again
     returns)

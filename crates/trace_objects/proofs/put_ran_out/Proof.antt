@@ -29,6 +29,16 @@ returns : tie.Need-returns Inv-loop μ-loop
 unfolding ranOut
 returns c = let l = c .before .loop in each-end _ (l .i) (l .inv .1) clockCount (l .inv .0) (c .loop-test .left)
 
+-- ---- what the steps ask, and what is known answers
+put-if-ran-out-requires : tie.Need-put-if-ran-out-requires Inv-loop μ-loop
+put-if-ran-out-requires c κs = search needs
+
+add-i : tie.Need-add-i Inv-loop μ-loop
+add-i c = search needs
+
+loop-less : tie.Need-loop-less Inv-loop μ-loop
+loop-less c = search needs
+
 pub put-ran-out-spec : {M : Type 1} → statement M
 put-ran-out-spec =
     tie.close
@@ -36,8 +46,8 @@ put-ran-out-spec =
     Inv-loop
     μ-loop
     loop-holds
-    (λ c κs. search needs)
-    (λ c. search needs)
-    (λ c. search needs)
+    put-if-ran-out-requires
+    add-i
+    loop-less
     loop-again
     returns)

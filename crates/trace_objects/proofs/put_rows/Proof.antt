@@ -32,6 +32,16 @@ returns c =
     let l = at-loop .loop in
     each-end _ (l .i) (l .inv .1) (a .n) (l .inv .0) (c .loop-test .left)
 
+-- ---- what the steps ask, and what is known answers
+put-if-changed-requires : tie.Need-put-if-changed-requires Inv-loop μ-loop
+put-if-changed-requires c κs = search needs
+
+add-i : tie.Need-add-i Inv-loop μ-loop
+add-i c = search needs
+
+loop-less : tie.Need-loop-less Inv-loop μ-loop
+loop-less c = search needs
+
 pub put-rows-spec : {M : Type 1} → statement M
 put-rows-spec =
     tie.close
@@ -39,8 +49,8 @@ put-rows-spec =
     Inv-loop
     μ-loop
     loop-holds
-    (λ c κs. search needs)
-    (λ c. search needs)
-    (λ c. search needs)
+    put-if-changed-requires
+    add-i
+    loop-less
     loop-again
     returns)

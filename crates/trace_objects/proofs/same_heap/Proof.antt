@@ -31,6 +31,19 @@ returns : tie.Need-returns Inv-loop μ-loop
 unfolding sameHeap
 returns c = let l = c .before .loop in all-end _ (l .u) heapUnits (l .inv .0) (c .loop-test .left) (l .inv .1)
 
+-- ---- what the steps ask, and what is known answers
+unit-requires : tie.Need-unit-requires Inv-loop μ-loop
+unit-requires c κs = search needs
+
+unit-requires-2 : tie.Need-unit-requires-2 Inv-loop μ-loop
+unit-requires-2 c κs = search needs
+
+add-u : tie.Need-add-u Inv-loop μ-loop
+add-u c = search needs
+
+loop-less : tie.Need-loop-less Inv-loop μ-loop
+loop-less c = search needs
+
 pub same-heap-spec : {M : Type 1} → statement M
 same-heap-spec =
     tie.close
@@ -38,9 +51,9 @@ same-heap-spec =
     Inv-loop
     μ-loop
     loop-holds
-    (λ c κs. search needs)
-    (λ c κs. search needs)
-    (λ c. search needs)
-    (λ c. search needs)
+    unit-requires
+    unit-requires-2
+    add-u
+    loop-less
     loop-again
     returns)

@@ -34,16 +34,29 @@ returns-3 c =
     let start = c .before .before in
     sym (field-out (start .args .w) (start .args .n) (start .args .t .now) (start .args .i) (start .args .f) (c .if1 .left))
 
+-- ---- what the steps ask, and what is known answers
+wide-requires : tie.Need-wide-requires
+wide-requires c κs = search needs
+
+wide-requires-2 : tie.Need-wide-requires-2
+wide-requires-2 c κs = search needs
+
+wide-requires-3 : tie.Need-wide-requires-3
+wide-requires-3 c κs = search needs
+
+word-requires : tie.Need-word-requires
+word-requires c κs = search needs
+
 pub field-spec : {M : Type 1} → statement M
 field-spec =
     tie.close
     (tie.spec
-    (λ c κs. search needs)
-    (λ c κs. search needs)
+    wide-requires
+    wide-requires-2
     mul-word
-    (λ c κs. search needs)
+    wide-requires-3
     add-word
-    (λ c κs. search needs)
+    word-requires
     returns
     returns-2
     returns-3)

@@ -35,17 +35,33 @@ returns c =
     let told = each-end _ (l .k) (l .inv .1) _ (l .inv .0 .1) (c .loop-test .left) in
     rw (l .inv .0 .0, each-member (line (a .lines .now) (a .j))) at told
 
+-- ---- what the steps ask, and what is known answers
+len-requires : tie.Need-len-requires Inv-loop μ-loop
+len-requires c κs = search needs
+
+member-requires : tie.Need-member-requires Inv-loop μ-loop
+member-requires c κs = search needs
+
+put-small-requires : tie.Need-put-small-requires Inv-loop μ-loop
+put-small-requires c κs = search needs
+
+add-k : tie.Need-add-k Inv-loop μ-loop
+add-k c = search needs
+
+loop-less : tie.Need-loop-less Inv-loop μ-loop
+loop-less c = search needs
+
 pub put-line-spec : {M : Type 1} → statement M
 put-line-spec =
     tie.close
     (tie.spec
     Inv-loop
     μ-loop
-    (λ c κs. search needs)
+    len-requires
     loop-holds
-    (λ c κs. search needs)
-    (λ c κs. search needs)
-    (λ c. search needs)
-    (λ c. search needs)
+    member-requires
+    put-small-requires
+    add-k
+    loop-less
     loop-again
     returns)

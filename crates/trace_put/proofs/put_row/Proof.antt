@@ -33,6 +33,19 @@ returns c =
     let l = at-loop .loop in
     each-end _ (l .f) (l .inv .1) (a .w) (l .inv .0) (c .loop-test .left)
 
+-- ---- what the steps ask, and what is known answers
+field-requires : tie.Need-field-requires Inv-loop μ-loop
+field-requires c κs = search needs
+
+put-requires : tie.Need-put-requires Inv-loop μ-loop
+put-requires c κs = search needs
+
+add-f : tie.Need-add-f Inv-loop μ-loop
+add-f c = search needs
+
+loop-less : tie.Need-loop-less Inv-loop μ-loop
+loop-less c = search needs
+
 pub put-row-spec : {M : Type 1} → statement M
 put-row-spec =
     tie.close
@@ -40,9 +53,9 @@ put-row-spec =
     Inv-loop
     μ-loop
     loop-holds
-    (λ c κs. search needs)
-    (λ c κs. search needs)
-    (λ c. search needs)
-    (λ c. search needs)
+    field-requires
+    put-requires
+    add-f
+    loop-less
     loop-again
     returns)

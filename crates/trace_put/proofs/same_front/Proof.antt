@@ -32,6 +32,19 @@ returns c =
     let l = c .before .loop in
     all-end _ (l .k) (start .args .n) (l .inv .0) (c .loop-test .left) (l .inv .1)
 
+-- ---- what the steps ask, and what is known answers
+member-requires : tie.Need-member-requires Inv-loop μ-loop
+member-requires c κs = search needs
+
+member-requires-2 : tie.Need-member-requires-2 Inv-loop μ-loop
+member-requires-2 c κs = search needs
+
+add-k : tie.Need-add-k Inv-loop μ-loop
+add-k c = search needs
+
+loop-less : tie.Need-loop-less Inv-loop μ-loop
+loop-less c = search needs
+
 pub same-front-spec : {M : Type 1} → statement M
 same-front-spec =
     tie.close
@@ -39,9 +52,9 @@ same-front-spec =
     Inv-loop
     μ-loop
     loop-holds
-    (λ c κs. search needs)
-    (λ c κs. search needs)
-    (λ c. search needs)
-    (λ c. search needs)
+    member-requires
+    member-requires-2
+    add-k
+    loop-less
     loop-again
     returns)

@@ -33,6 +33,19 @@ returns c =
     let l = at-loop .loop in
     all-end _ (l .f) (a .w) (l .inv .0) (c .loop-test .left) (l .inv .1)
 
+-- ---- what the steps ask, and what is known answers
+field-requires : tie.Need-field-requires Inv-loop μ-loop
+field-requires c κs = search needs
+
+field-requires-2 : tie.Need-field-requires-2 Inv-loop μ-loop
+field-requires-2 c κs = search needs
+
+add-f : tie.Need-add-f Inv-loop μ-loop
+add-f c = search needs
+
+loop-less : tie.Need-loop-less Inv-loop μ-loop
+loop-less c = search needs
+
 pub same-row-spec : {M : Type 1} → statement M
 same-row-spec =
     tie.close
@@ -40,9 +53,9 @@ same-row-spec =
     Inv-loop
     μ-loop
     loop-holds
-    (λ c κs. search needs)
-    (λ c κs. search needs)
-    (λ c. search needs)
-    (λ c. search needs)
+    field-requires
+    field-requires-2
+    add-f
+    loop-less
     loop-again
     returns)

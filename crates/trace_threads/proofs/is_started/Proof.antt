@@ -25,13 +25,26 @@ returns c =
     let at-bit = at-index .before in
     rw (at-len .len .ensures, c .len2 .ensures, at-index .index .ensures, at-bit .bit .ensures)
 
+-- ---- what the steps ask, and what is known answers
+bit-requires : tie.Need-bit-requires
+bit-requires c κs = search needs
+
+index-requires : tie.Need-index-requires
+index-requires c κs = search needs
+
+len-requires : tie.Need-len-requires
+len-requires c κs = search needs
+
+len-requires-2 : tie.Need-len-requires-2
+len-requires-2 c κs = search needs
+
 pub is-started-spec : {M : Type 1} → statement M
 is-started-spec =
     tie.close
     (tie.spec
-    (λ c κs. search needs)
-    (λ c κs. search needs)
-    (λ c κs. search needs)
-    (λ c κs. search needs)
+    bit-requires
+    index-requires
+    len-requires
+    len-requires-2
     add-result
     returns)

@@ -36,6 +36,22 @@ returns c =
     let l = c .before .loop in
     ap not (all-end _ (l .n) (start .args .c) (l .inv .0) (c .loop-test .left) (l .inv .1))
 
+-- ---- what the steps ask, and what is known answers
+index-requires : tie.Need-index-requires Inv-loop μ-loop
+index-requires c κs = search needs
+
+clock-requires : tie.Need-clock-requires Inv-loop μ-loop
+clock-requires c κs = search needs
+
+runs-out-requires : tie.Need-runs-out-requires Inv-loop μ-loop
+runs-out-requires c κs = search needs
+
+add-n : tie.Need-add-n Inv-loop μ-loop
+add-n c = search needs
+
+loop-less : tie.Need-loop-less Inv-loop μ-loop
+loop-less c = search needs
+
 pub posted-below-spec : {M : Type 1} → statement M
 posted-below-spec =
     tie.close
@@ -43,10 +59,10 @@ posted-below-spec =
     Inv-loop
     μ-loop
     loop-holds
-    (λ c κs. search needs)
-    (λ c κs. search needs)
-    (λ c κs. search needs)
-    (λ c. search needs)
-    (λ c. search needs)
+    index-requires
+    clock-requires
+    runs-out-requires
+    add-n
+    loop-less
     loop-again
     returns)

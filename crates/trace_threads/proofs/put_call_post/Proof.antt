@@ -17,12 +17,22 @@ returns-2 : tie.Need-returns-2
 unfolding callPost
 returns-2 c = told-no (c .before .call-posts .ensures) _ (c .if1 .left)
 
+-- ---- what the steps ask, and what is known answers
+call-posts-requires : tie.Need-call-posts-requires
+call-posts-requires c κs = search needs
+
+is-posted-requires : tie.Need-is-posted-requires
+is-posted-requires c κs = search needs
+
+put-post-requires : tie.Need-put-post-requires
+put-post-requires c κs = search needs
+
 pub put-call-post-spec : {M : Type 1} → statement M
 put-call-post-spec =
     tie.close
     (tie.spec
-    (λ c κs. search needs)
-    (λ c κs. search needs)
-    (λ c κs. search needs)
+    call-posts-requires
+    is-posted-requires
+    put-post-requires
     returns
     returns-2)

@@ -27,15 +27,34 @@ returns-2 c =
     let at-index = at-clock .before in
     told-no (rw (at-clock .clock .ensures, at-index .index .ensures) at (at-runs-out .runs-out .ensures)) _ (c .if1 .left)
 
+-- ---- what the steps ask, and what is known answers
+index-requires : tie.Need-index-requires
+index-requires c κs = search needs
+
+clock-requires : tie.Need-clock-requires
+clock-requires c κs = search needs
+
+runs-out-requires : tie.Need-runs-out-requires
+runs-out-requires c κs = search needs
+
+is-posted-requires : tie.Need-is-posted-requires
+is-posted-requires c κs = search needs
+
+posted-below-requires : tie.Need-posted-below-requires
+posted-below-requires c κs = search needs
+
+put-post-requires : tie.Need-put-post-requires
+put-post-requires c κs = search needs
+
 pub put-clock-post-spec : {M : Type 1} → statement M
 put-clock-post-spec =
     tie.close
     (tie.spec
-    (λ c κs. search needs)
-    (λ c κs. search needs)
-    (λ c κs. search needs)
-    (λ c κs. search needs)
-    (λ c κs. search needs)
-    (λ c κs. search needs)
+    index-requires
+    clock-requires
+    runs-out-requires
+    is-posted-requires
+    posted-below-requires
+    put-post-requires
     returns
     returns-2)

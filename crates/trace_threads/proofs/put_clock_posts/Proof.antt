@@ -27,6 +27,16 @@ returns : tie.Need-returns Inv-loop μ-loop
 unfolding clockPosts
 returns c = let l = c .before .loop in each-end _ (l .c) (l .inv .1) clockCount (l .inv .0) (c .loop-test .left)
 
+-- ---- what the steps ask, and what is known answers
+put-clock-post-requires : tie.Need-put-clock-post-requires Inv-loop μ-loop
+put-clock-post-requires c κs = search needs
+
+add-c : tie.Need-add-c Inv-loop μ-loop
+add-c c = search needs
+
+loop-less : tie.Need-loop-less Inv-loop μ-loop
+loop-less c = search needs
+
 pub put-clock-posts-spec : {M : Type 1} → statement M
 put-clock-posts-spec =
     tie.close
@@ -34,8 +44,8 @@ put-clock-posts-spec =
     Inv-loop
     μ-loop
     loop-holds
-    (λ c κs. search needs)
-    (λ c. search needs)
-    (λ c. search needs)
+    put-clock-post-requires
+    add-c
+    loop-less
     loop-again
     returns)

@@ -20,13 +20,26 @@ returns-2 c =
     told-changed (rw (at-task2 .task2 .ensures, at-task .task .ensures) at (at-same-task .same-task .ensures)) _ (at-if1 .if1 .left)
     (rw (at-task .task .ensures) at (c .put-task .ensures))
 
+-- ---- what the steps ask, and what is known answers
+task-requires : tie.Need-task-requires
+task-requires c κs = search needs
+
+task-requires-2 : tie.Need-task-requires-2
+task-requires-2 c κs = search needs
+
+same-task-requires : tie.Need-same-task-requires
+same-task-requires c κs = search needs
+
+put-task-requires : tie.Need-put-task-requires
+put-task-requires c κs = search needs
+
 pub put-if-changed-spec : {M : Type 1} → statement M
 put-if-changed-spec =
     tie.close
     (tie.spec
-    (λ c κs. search needs)
-    (λ c κs. search needs)
-    (λ c κs. search needs)
+    task-requires
+    task-requires-2
+    same-task-requires
     returns
-    (λ c κs. search needs)
+    put-task-requires
     returns-2)

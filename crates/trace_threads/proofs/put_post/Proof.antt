@@ -11,12 +11,25 @@ returns c =
     let at-put = at-put2 .before .before in
     tells-more _ _ (at-put .put .ensures) (tells-more _ _ (at-put2 .put2 .ensures) (rw (at-bit .bit .ensures) at (c .put3 .ensures)))
 
+-- ---- what the steps ask, and what is known answers
+put-requires : tie.Need-put-requires
+put-requires c κs = search needs
+
+put-requires-2 : tie.Need-put-requires-2
+put-requires-2 c κs = search needs
+
+bit-requires : tie.Need-bit-requires
+bit-requires c κs = search needs
+
+put-requires-3 : tie.Need-put-requires-3
+put-requires-3 c κs = search needs
+
 pub put-post-spec : {M : Type 1} → statement M
 put-post-spec =
     tie.close
     (tie.spec
-    (λ c κs. search needs)
-    (λ c κs. search needs)
-    (λ c κs. search needs)
-    (λ c κs. search needs)
+    put-requires
+    put-requires-2
+    bit-requires
+    put-requires-3
     returns)

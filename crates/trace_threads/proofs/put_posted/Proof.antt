@@ -28,6 +28,22 @@ returns : tie.Need-returns Inv-loop μ-loop
 unfolding postedSwis
 returns c = let l = c .before .loop in each-end _ (l .k) (l .inv .1) swiLevels (l .inv .0) (c .loop-test .left)
 
+-- ---- what the steps ask, and what is known answers
+sub-put-line : tie.Need-sub-put-line Inv-loop μ-loop
+sub-put-line c = search needs
+
+add-put-line : tie.Need-add-put-line Inv-loop μ-loop
+add-put-line c = search needs
+
+put-line-requires : tie.Need-put-line-requires Inv-loop μ-loop
+put-line-requires c κs = search needs
+
+add-k : tie.Need-add-k Inv-loop μ-loop
+add-k c = search needs
+
+loop-less : tie.Need-loop-less Inv-loop μ-loop
+loop-less c = search needs
+
 pub put-posted-spec : {M : Type 1} → statement M
 put-posted-spec =
     tie.close
@@ -35,10 +51,10 @@ put-posted-spec =
     Inv-loop
     μ-loop
     loop-holds
-    (λ c. search needs)
-    (λ c. search needs)
-    (λ c κs. search needs)
-    (λ c. search needs)
-    (λ c. search needs)
+    sub-put-line
+    add-put-line
+    put-line-requires
+    add-k
+    loop-less
     loop-again
     returns)

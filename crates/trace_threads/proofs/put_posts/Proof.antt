@@ -24,12 +24,19 @@ returns-3 c =
     let at-if1 = at-if2 .before .before .before in
     rw (eq-eqb _ 0 (at-if1 .if1 .left), ne-eqb _ 0x76 (at-if2 .if2 .left)) (c .put-call-post .ensures)
 
+-- ---- what the steps ask, and what is known answers
+put-clock-posts-requires : tie.Need-put-clock-posts-requires
+put-clock-posts-requires c κs = search needs
+
+put-call-post-requires : tie.Need-put-call-post-requires
+put-call-post-requires c κs = search needs
+
 pub put-posts-spec : {M : Type 1} → statement M
 put-posts-spec =
     tie.close
     (tie.spec
     returns
-    (λ c κs. search needs)
+    put-clock-posts-requires
     returns-2
-    (λ c κs. search needs)
+    put-call-post-requires
     returns-3)

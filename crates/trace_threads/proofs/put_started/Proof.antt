@@ -17,12 +17,22 @@ returns-2 : tie.Need-returns-2
 unfolding startedSwi
 returns-2 c = told-no (c .before .is-started .ensures) _ (c .if1 .left)
 
+-- ---- what the steps ask, and what is known answers
+is-started-requires : tie.Need-is-started-requires
+is-started-requires c κs = search needs
+
+top-requires : tie.Need-top-requires
+top-requires c κs = search needs
+
+put-small-requires : tie.Need-put-small-requires
+put-small-requires c κs = search needs
+
 pub put-started-spec : {M : Type 1} → statement M
 put-started-spec =
     tie.close
     (tie.spec
-    (λ c κs. search needs)
-    (λ c κs. search needs)
-    (λ c κs. search needs)
+    is-started-requires
+    top-requires
+    put-small-requires
     returns
     returns-2)

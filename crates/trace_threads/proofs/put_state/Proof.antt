@@ -16,20 +16,57 @@ returns c =
     tells-more _ _ (at-put .put .ensures) (tells-more _ _ (at-put2 .put2 .ensures)
     (tells-more _ _ (at-put3 .put3 .ensures) (tells-more _ _ (at-put4 .put4 .ensures) (tells-more _ _ (at-put5 .put5 .ensures) (c .put6 .ensures)))))
 
+-- ---- what the steps ask, and what is known answers
+element-copy-out-put : tie.Need-element-copy-out-put
+element-copy-out-put c = search needs
+
+put-requires : tie.Need-put-requires
+put-requires c κs = search needs
+
+element-copy-out-put-2 : tie.Need-element-copy-out-put-2
+element-copy-out-put-2 c = search needs
+
+put-requires-2 : tie.Need-put-requires-2
+put-requires-2 c κs = search needs
+
+element-copy-out-put-3 : tie.Need-element-copy-out-put-3
+element-copy-out-put-3 c = search needs
+
+put-requires-3 : tie.Need-put-requires-3
+put-requires-3 c κs = search needs
+
+element-copy-out-put-4 : tie.Need-element-copy-out-put-4
+element-copy-out-put-4 c = search needs
+
+put-requires-4 : tie.Need-put-requires-4
+put-requires-4 c κs = search needs
+
+element-copy-out-put-5 : tie.Need-element-copy-out-put-5
+element-copy-out-put-5 c = search needs
+
+put-requires-5 : tie.Need-put-requires-5
+put-requires-5 c κs = search needs
+
+element-copy-out-put-6 : tie.Need-element-copy-out-put-6
+element-copy-out-put-6 c = search needs
+
+put-requires-6 : tie.Need-put-requires-6
+put-requires-6 c κs = search needs
+
 pub put-state-spec : {M : Type 1} → statement M
 put-state-spec =
     tie.close
     (tie.spec
-    (λ c. search needs)
-    (λ c κs. search needs)
-    (λ c. search needs)
-    (λ c κs. search needs)
-    (λ c. search needs)
-    (λ c κs. search needs)
-    (λ c. search needs)
-    (λ c κs. search needs)
-    (λ c. search needs)
-    (λ c κs. search needs)
-    (λ c. search needs)
-    (λ c κs. search needs)
+    element-copy-out-put
+    put-requires
+    element-copy-out-put-2
+    put-requires-2
+    element-copy-out-put-3
+    put-requires-3
+    element-copy-out-put-4
+    put-requires-4
+    element-copy-out-put-5
+    put-requires-5
+    element-copy-out-put-6
+    put-requires-6
     returns)

@@ -29,6 +29,16 @@ returns : tie.Need-returns Inv-loop μ-loop
 unfolding changedTasks
 returns c = let l = c .before .loop in each-end _ (l .i) (l .inv .1) taskCount (l .inv .0) (c .loop-test .left)
 
+-- ---- what the steps ask, and what is known answers
+put-if-changed-requires : tie.Need-put-if-changed-requires Inv-loop μ-loop
+put-if-changed-requires c κs = search needs
+
+add-i : tie.Need-add-i Inv-loop μ-loop
+add-i c = search needs
+
+loop-less : tie.Need-loop-less Inv-loop μ-loop
+loop-less c = search needs
+
 pub put-tasks-spec : {M : Type 1} → statement M
 put-tasks-spec =
     tie.close
@@ -36,8 +46,8 @@ put-tasks-spec =
     Inv-loop
     μ-loop
     loop-holds
-    (λ c κs. search needs)
-    (λ c. search needs)
-    (λ c. search needs)
+    put-if-changed-requires
+    add-i
+    loop-less
     loop-again
     returns)

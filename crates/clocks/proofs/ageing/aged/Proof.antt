@@ -19,14 +19,24 @@ returns-3 c =
     let at-running = at-last .before .before in
     rw (ne-eqb _ 0 (at-running .if1 .left), ne-eqb _ 1 (at-last .if2 .left), c .with-left2 .ensures)
 
+-- ---- what the steps ask, and what is known answers
+with-left-requires : tie.Need-with-left-requires
+with-left-requires c κs = search needs
+
+sub-with-left : tie.Need-sub-with-left
+sub-with-left c = search needs
+
+with-left-requires-2 : tie.Need-with-left-requires-2
+with-left-requires-2 c κs = search needs
+
 pub aged-spec : {M : Type 1} → statement M
 unfolding aged
 aged-spec =
     tie.close
     (tie.spec
     (λ c. rw (eq-eqb _ 0 (c .if1 .taken)))
-    (λ c κs. search needs)
+    with-left-requires
     returns-2
-    (λ c. search needs)
-    (λ c κs. search needs)
+    sub-with-left
+    with-left-requires-2
     returns-3)

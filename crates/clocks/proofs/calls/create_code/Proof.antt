@@ -70,16 +70,29 @@ accepted c =
       ne-eqb _ 16 (rw (c .before .free-clock .ensures .0) at (c .if4 .left)),
     )
 
+-- ---- what the steps ask, and what is known answers
+swi-requires : tie.Need-swi-requires
+swi-requires c κs = search needs
+
+absent-code-requires : tie.Need-absent-code-requires
+absent-code-requires c κs = search needs
+
+unused-requires : tie.Need-unused-requires
+unused-requires c κs = search needs
+
+free-clock-requires : tie.Need-free-clock-requires
+free-clock-requires c κs = search needs
+
 pub create-code-spec : {M : Type 1} → statement M
 create-code-spec =
     tie.close
     (tie.spec
     code-2
-    (λ c κs. search needs)
-    (λ c κs. search needs)
+    swi-requires
+    absent-code-requires
     code-3
-    (λ c κs. search needs)
+    unused-requires
     code-4
-    (λ c κs. search needs)
+    free-clock-requires
     code-6
     accepted)

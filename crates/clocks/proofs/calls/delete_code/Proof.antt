@@ -49,14 +49,24 @@ accepted c =
     let past = c .before .before in
     rw (may-call (from-2 past), in-use past, sym (c .before .unused .ensures) ∙ c .if3 .left)
 
+-- ---- what the steps ask, and what is known answers
+clock-requires : tie.Need-clock-requires
+clock-requires c κs = search needs
+
+absent-code-requires : tie.Need-absent-code-requires
+absent-code-requires c κs = search needs
+
+unused-requires : tie.Need-unused-requires
+unused-requires c κs = search needs
+
 pub delete-code-spec : {M : Type 1} → statement M
 delete-code-spec =
     tie.close
     (tie.spec
     code-2
-    (λ c κs. search needs)
-    (λ c κs. search needs)
+    clock-requires
+    absent-code-requires
     code-3
-    (λ c κs. search needs)
+    unused-requires
     code-4
     accepted)

@@ -1,3 +1,4 @@
+-- `start_effect` meets its contract: the clock's row is read, gets its first ticks, and is stored.
 use mathlib.Core.Path.{_∙_, ap}
 use Rattle.rules.specs.Clocks.{startEffect, withLeft}
 use Rattle.rules.specs.declared.Clock.{Clock}
@@ -15,12 +16,25 @@ returns c =
     stored _ _ (at-set-clock .set-clock .ensures) (c .accepted .ensures)
     (at-with-left .with-left .ensures ∙ ap (λ (k : Clock). withLeft k (k .first)) (at-clock .clock .ensures))
 
+-- ---- what the steps ask, and what is known answers
+clock-requires : tie.Need-clock-requires
+clock-requires c κs = search needs
+
+with-left-requires : tie.Need-with-left-requires
+with-left-requires c κs = search needs
+
+set-clock-requires : tie.Need-set-clock-requires
+set-clock-requires c κs = search needs
+
+accepted-requires : tie.Need-accepted-requires
+accepted-requires c κs = search needs
+
 pub start-effect-spec : {M : Type 1} → statement M
 start-effect-spec =
     tie.close
     (tie.spec
-    (λ c κs. search needs)
-    (λ c κs. search needs)
-    (λ c κs. search needs)
-    (λ c κs. search needs)
+    clock-requires
+    with-left-requires
+    set-clock-requires
+    accepted-requires
     returns)

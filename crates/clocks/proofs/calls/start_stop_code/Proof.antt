@@ -36,13 +36,23 @@ accepted c =
     let past = c .before .before in
     rw (in-use past, sym (c .before .unused .ensures) ∙ c .if2 .left)
 
+-- ---- what the steps ask, and what is known answers
+clock-requires : tie.Need-clock-requires
+clock-requires c κs = search needs
+
+absent-code-requires : tie.Need-absent-code-requires
+absent-code-requires c κs = search needs
+
+unused-requires : tie.Need-unused-requires
+unused-requires c κs = search needs
+
 pub start-stop-code-spec : {M : Type 1} → statement M
 start-stop-code-spec =
     tie.close
     (tie.spec
-    (λ c κs. search needs)
-    (λ c κs. search needs)
+    clock-requires
+    absent-code-requires
     code-3
-    (λ c κs. search needs)
+    unused-requires
     code-4
     accepted)

@@ -1,3 +1,4 @@
+-- `stop_effect` meets its contract: the clock's row is read, has no ticks left, and is stored.
 use mathlib.Core.Path.{_∙_, ap}
 use Rattle.rules.specs.Clocks.{stopEffect, withLeft}
 use Rattle.rules.specs.declared.Clock.{Clock}
@@ -15,12 +16,25 @@ returns c =
     stored _ _ (at-set-clock .set-clock .ensures) (c .accepted .ensures)
     (at-with-left .with-left .ensures ∙ ap (λ (k : Clock). withLeft k 0) (at-clock .clock .ensures))
 
+-- ---- what the steps ask, and what is known answers
+clock-requires : tie.Need-clock-requires
+clock-requires c κs = search needs
+
+with-left-requires : tie.Need-with-left-requires
+with-left-requires c κs = search needs
+
+set-clock-requires : tie.Need-set-clock-requires
+set-clock-requires c κs = search needs
+
+accepted-requires : tie.Need-accepted-requires
+accepted-requires c κs = search needs
+
 pub stop-effect-spec : {M : Type 1} → statement M
 stop-effect-spec =
     tie.close
     (tie.spec
-    (λ c κs. search needs)
-    (λ c κs. search needs)
-    (λ c κs. search needs)
-    (λ c κs. search needs)
+    clock-requires
+    with-left-requires
+    set-clock-requires
+    accepted-requires
     returns)

@@ -33,6 +33,16 @@ loop-again c =
     let at-loop = at-loop-test .before in
     (search needs, first-goes _ _ _ _ (at-loop-test .loop-test .taken) (ne-eqb _ 0 (rw (at-clock .clock .ensures) at (c .if1 .left))) (at-loop .loop .inv .1))
 
+-- ---- what the steps ask, and what is known answers
+clock-requires : tie.Need-clock-requires Inv-loop μ-loop
+clock-requires c κs = search needs
+
+add-i : tie.Need-add-i Inv-loop μ-loop
+add-i c = search needs
+
+loop-less : tie.Need-loop-less Inv-loop μ-loop
+loop-less c = search needs
+
 pub free-clock-spec : {M : Type 1} → statement M
 unfolding freeClock
 free-clock-spec =
@@ -41,9 +51,9 @@ free-clock-spec =
     Inv-loop
     μ-loop
     (λ c. (search needs, first-starts _ _))
-    (λ c κs. search needs)
+    clock-requires
     returns
-    (λ c. search needs)
-    (λ c. search needs)
+    add-i
+    loop-less
     loop-again
     (λ c. (first-none _ _ _ _ (c .loop-test .left) (c .before .loop .inv .0) (c .before .loop .inv .1), search needs)))

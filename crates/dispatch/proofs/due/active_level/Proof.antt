@@ -6,17 +6,36 @@ use borrow.Author.Needs.{needs}
 use Rattle.dispatch.proofs.due.active_level.Statement.{statement}
 use Rattle.dispatch.proofs.due.active_level.Tie as tie
 
+-- ---- what the steps ask, and what is known answers
+anyone-requires : tie.Need-anyone-requires
+anyone-requires c κs = search needs
+
+top-requires : tie.Need-top-requires
+top-requires c κs = search needs
+
+wide-requires : tie.Need-wide-requires
+wide-requires c κs = search needs
+
+swi-requires : tie.Need-swi-requires
+swi-requires c κs = search needs
+
+cast-result : tie.Need-cast-result
+cast-result c = search needs
+
+add-result : tie.Need-add-result
+add-result c = search needs
+
 pub active-level-spec : {M : Type 1} → statement M
 unfolding activeLevel
 active-level-spec =
     tie.close
     (tie.spec
-    (λ c κs. search needs)
-    (λ c κs. search needs)
-    (λ c κs. search needs)
-    (λ c κs. search needs)
-    (λ c. search needs)
-    (λ c. search needs)
+    anyone-requires
+    top-requires
+    wide-requires
+    swi-requires
+    cast-result
+    add-result
     (λ c.
     let at-wide = c .before in
     let at-top = at-wide .before in

@@ -20,14 +20,24 @@ nobody n ls some none =
     let empty = high-is n (λ p. anyone ls (readyLine p)) .after 0 (rw none (lit≤ tt)) some in
     rw none (sym (List·getD-eq-default (line ls (readyLine 0)) 0 (ltb-false _ _ empty)))
 
+-- ---- what the steps ask, and what is known answers
+highest-ready-requires : tie.Need-highest-ready-requires
+highest-ready-requires c κs = search needs
+
+sub-first : tie.Need-sub-first
+sub-first c = search needs
+
+first-requires : tie.Need-first-requires
+first-requires c κs = search needs
+
 pub front-spec : {M : Type 1} → statement M
 unfolding front
 front-spec =
     tie.close
     (tie.spec
-    (λ c κs. search needs)
+    highest-ready-requires
     (λ c. nobody _ _ (omega (arith, levels-some (c .before .before .args .state .now))) (sym (c .before .highest-ready .ensures .0) ∙ c .if1 .taken))
-    (λ c. search needs)
+    sub-first
     (λ c. omega (arith, c .before .highest-ready .ensures .1))
-    (λ c κs. search needs)
+    first-requires
     (λ c. rw (c .first .ensures, c .before .before .highest-ready .ensures .0)))

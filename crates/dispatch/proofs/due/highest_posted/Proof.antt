@@ -18,6 +18,22 @@ Inv-loop lines level₀ level =
 abbrev μ-loop : tie.MeasureT-loop
 μ-loop lines level₀ level = level
 
+-- ---- what the steps ask, and what is known answers
+sub-anyone : tie.Need-sub-anyone Inv-loop μ-loop
+sub-anyone c = search needs
+
+add-anyone : tie.Need-add-anyone Inv-loop μ-loop
+add-anyone c = search needs
+
+anyone-requires : tie.Need-anyone-requires Inv-loop μ-loop
+anyone-requires c κs = search needs
+
+sub-level : tie.Need-sub-level Inv-loop μ-loop
+sub-level c = search needs
+
+loop-less : tie.Need-loop-less Inv-loop μ-loop
+loop-less c = search needs
+
 pub highest-posted-spec : {M : Type 1} → statement M
 unfolding highestPosted
 highest-posted-spec =
@@ -26,16 +42,16 @@ highest-posted-spec =
     Inv-loop
     μ-loop
     (λ c. (search needs, refl))
-    (λ c. search needs)
-    (λ c. search needs)
-    (λ c κs. search needs)
+    sub-anyone
+    add-anyone
+    anyone-requires
     (λ c.
     let some = sym (c .before .anyone .ensures) ∙ c .if1 .taken in
     let at-test = c .before .before in
     let at-loop = at-test .before .loop in
     (high-here _ (at-loop .level) _ (omega (arith, at-test .loop-test .taken)) some (at-loop .inv .1), at-loop .inv .0))
-    (λ c. search needs)
-    (λ c. search needs)
+    sub-level
+    loop-less
     (λ c.
     let nobody = sym (c .before .anyone .ensures) ∙ c .if1 .left in
     let at-test = c .before .before in

@@ -11,12 +11,19 @@ use Rattle.dispatch.proofs.due.ones.Tie as tie
 shifted : (n : ℕ) → n < 32 → (1 * 2 ^ n) % 4294967296 ≡ 1 * 2 ^ n
 shifted n l = shl-exact 1 n 32 (lit< tt) (omega arith)
 
+-- ---- what the steps ask, and what is known answers
+cast-result : tie.Need-cast-result
+cast-result c = search needs
+
+shl-result : tie.Need-shl-result
+shl-result c = search needs
+
 pub ones-spec : {M : Type 1} → statement M
 ones-spec =
     tie.close
     (tie.spec
-    (λ c. search needs)
-    (λ c. search needs)
+    cast-result
+    shl-result
     (λ c.
     let few : c .before .args .n < 32 = omega (arith, c .if1 .taken) in
     rw (shifted _ few) (omega (arith, suc-ones (c .before .args .n))))

@@ -46,13 +46,20 @@ accepted c =
     let past = c .before .before in
     rw (may-call (from-2 past), good-arguments past, is-other 8 (c .before .free-event .ensures .0) (c .if3 .left))
 
+-- ---- what the steps ask, and what is known answers
+unused-requires : tie.Need-unused-requires
+unused-requires c κs = search needs
+
+free-event-requires : tie.Need-free-event-requires
+free-event-requires c κs = search needs
+
 pub create-code-spec : {M : Type 1} → statement M
 create-code-spec =
     tie.close
     (tie.spec
     code-2
-    (λ c κs. search needs)
+    unused-requires
     code-4
-    (λ c κs. search needs)
+    free-event-requires
     code-6
     accepted)

@@ -1,3 +1,4 @@
+-- `create_effect` meets its contract: the lowest free event is found, and its row is stored, in use and with no bits.
 use Rattle.moves.proofs.Served.{made-is}
 use Rattle.rules.specs.Events.{freeEvent, createEffect}
 use Rattle.rules.specs.Waits.{waitTables}
@@ -18,12 +19,25 @@ returns c =
     λ ts ls. made-is (waitTables ts ls ss) (λ (i : ℕ). eventRow ss i (1 ∷ 0 ∷ [])) (freeEvent ss) (at-free-event .free-event .ensures .0)
     (at-put-event .put-event .ensures) (c .accepted .ensures)
 
+-- ---- what the steps ask, and what is known answers
+free-event-requires : tie.Need-free-event-requires
+free-event-requires c κs = search needs
+
+put-event-requires : tie.Need-put-event-requires
+put-event-requires c κs = search needs
+
+cast-accepted : tie.Need-cast-accepted
+cast-accepted c = search needs
+
+accepted-requires : tie.Need-accepted-requires
+accepted-requires c κs = search needs
+
 pub create-effect-spec : {M : Type 1} → statement M
 create-effect-spec =
     tie.close
     (tie.spec
-    (λ c κs. search needs)
-    (λ c κs. search needs)
-    (λ c. search needs)
-    (λ c κs. search needs)
+    free-event-requires
+    put-event-requires
+    cast-accepted
+    accepted-requires
     returns)

@@ -61,17 +61,33 @@ accepted c =
     let past = c .before .before in
     rw (may-call (from-2 (from-3 past)), in-use (from-3 past), good-arguments past, is-within 0 (c .before .len .ensures) (c .if4 .left))
 
+-- ---- what the steps ask, and what is known answers
+event-requires : tie.Need-event-requires
+event-requires c κs = search needs
+
+absent-code-requires : tie.Need-absent-code-requires
+absent-code-requires c κs = search needs
+
+unused-requires : tie.Need-unused-requires
+unused-requires c κs = search needs
+
+add-len : tie.Need-add-len
+add-len c = search needs
+
+len-requires : tie.Need-len-requires
+len-requires c κs = search needs
+
 pub delete-code-spec : {M : Type 1} → statement M
 delete-code-spec =
     tie.close
     (tie.spec
     code-2
-    (λ c κs. search needs)
-    (λ c κs. search needs)
+    event-requires
+    absent-code-requires
     code-3
-    (λ c κs. search needs)
+    unused-requires
     code-4
-    (λ c. search needs)
-    (λ c κs. search needs)
+    add-len
+    len-requires
     code-5
     accepted)

@@ -35,19 +35,47 @@ returns-3 c =
     (at-event-match .event-match .ensures) (at-matched .if1 .left) (at-limit .if2 .left) (at-current .current .ensures) (at-wait .wait .ensures)
     (c .accepted3 .ensures)
 
+-- ---- what the steps ask, and what is known answers
+event-match-requires : tie.Need-event-match-requires
+event-match-requires c κs = search needs
+
+event-requires : tie.Need-event-requires
+event-requires c κs = search needs
+
+set-event-requires : tie.Need-set-event-requires
+set-event-requires c κs = search needs
+
+accepted-requires : tie.Need-accepted-requires
+accepted-requires c κs = search needs
+
+accepted-requires-2 : tie.Need-accepted-requires-2
+accepted-requires-2 c κs = search needs
+
+current-requires : tie.Need-current-requires
+current-requires c κs = search needs
+
+cast-i : tie.Need-cast-i
+cast-i c = search needs
+
+wait-requires : tie.Need-wait-requires
+wait-requires c κs = search needs
+
+accepted-requires-3 : tie.Need-accepted-requires-3
+accepted-requires-3 c κs = search needs
+
 pub pend-effect-spec : {M : Type 1} → statement M
 pend-effect-spec =
     tie.close
     (tie.spec
-    (λ c κs. search needs)
-    (λ c κs. search needs)
-    (λ c κs. search needs)
-    (λ c κs. search needs)
+    event-match-requires
+    event-requires
+    set-event-requires
+    accepted-requires
     returns
-    (λ c κs. search needs)
+    accepted-requires-2
     returns-2
-    (λ c κs. search needs)
-    (λ c. search needs)
-    (λ c κs. search needs)
-    (λ c κs. search needs)
+    current-requires
+    cast-i
+    wait-requires
+    accepted-requires-3
     returns-3)

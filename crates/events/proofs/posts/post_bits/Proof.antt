@@ -22,15 +22,34 @@ returns-2 c =
     posted-serves (args .tasks .now) (args .lines .now) (args .events .now) (args .a) (args .bits) (at-waiter-match .waiter-match .ensures)
     (at-test .if1 .left) (at-set-event2 .set-event2 .ensures) (c .wake-first .ensures _)
 
+-- ---- what the steps ask, and what is known answers
+waiter-match-requires : tie.Need-waiter-match-requires
+waiter-match-requires c κs = search needs
+
+set-event-requires : tie.Need-set-event-requires
+set-event-requires c κs = search needs
+
+accepted-requires : tie.Need-accepted-requires
+accepted-requires c κs = search needs
+
+set-event-requires-2 : tie.Need-set-event-requires-2
+set-event-requires-2 c κs = search needs
+
+add-wake-first : tie.Need-add-wake-first
+add-wake-first c = search needs
+
+wake-first-requires : tie.Need-wake-first-requires
+wake-first-requires c κs = search needs
+
 pub post-bits-spec : {M : Type 1} → statement M
 post-bits-spec =
     tie.close
     (tie.spec
-    (λ c κs. search needs)
-    (λ c κs. search needs)
-    (λ c κs. search needs)
+    waiter-match-requires
+    set-event-requires
+    accepted-requires
     returns
-    (λ c κs. search needs)
-    (λ c. search needs)
-    (λ c κs. search needs)
+    set-event-requires-2
+    add-wake-first
+    wake-first-requires
     returns-2)

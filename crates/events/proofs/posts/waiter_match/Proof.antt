@@ -21,15 +21,34 @@ returns-2 c =
     let args = at-len .before .args in
     waiter-none (args .tasks .now) (args .lines .now) (args .a) (args .bits) (at-len .len .ensures) (c .if1 .left)
 
+-- ---- what the steps ask, and what is known answers
+add-j : tie.Need-add-j
+add-j c = search needs
+
+len-requires : tie.Need-len-requires
+len-requires c κs = search needs
+
+first-requires : tie.Need-first-requires
+first-requires c κs = search needs
+
+wide-requires : tie.Need-wide-requires
+wide-requires c κs = search needs
+
+task-requires : tie.Need-task-requires
+task-requires c κs = search needs
+
+matched-requires : tie.Need-matched-requires
+matched-requires c κs = search needs
+
 pub waiter-match-spec : {M : Type 1} → statement M
 waiter-match-spec =
     tie.close
     (tie.spec
-    (λ c. search needs)
-    (λ c κs. search needs)
-    (λ c κs. search needs)
-    (λ c κs. search needs)
-    (λ c κs. search needs)
-    (λ c κs. search needs)
+    add-j
+    len-requires
+    first-requires
+    wide-requires
+    task-requires
+    matched-requires
     returns
     returns-2)

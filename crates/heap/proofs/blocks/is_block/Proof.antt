@@ -19,15 +19,28 @@ returns-3 c =
       c .block-size .ensures,
     )
 
+-- ---- what the steps ask, and what is known answers
+cast-u : tie.Need-cast-u
+cast-u c = search needs
+
+unit-requires : tie.Need-unit-requires
+unit-requires c κs = search needs
+
+units-requires : tie.Need-units-requires
+units-requires c κs = search needs
+
+block-size-requires : tie.Need-block-size-requires
+block-size-requires c κs = search needs
+
 pub is-block-spec : {M : Type 1} → statement M
 unfolding isBlock
 is-block-spec =
     tie.close
     (tie.spec
     (λ c. rw (ne-eqb _ 0 (c .if1 .taken)))
-    (λ c. search needs)
-    (λ c κs. search needs)
+    cast-u
+    unit-requires
     (λ c. rw (eq-eqb _ 0 (c .before .before .if1 .left), ne-eqb _ 1 (rw (c .before .unit .ensures) at (c .if2 .taken))))
-    (λ c κs. search needs)
-    (λ c κs. search needs)
+    units-requires
+    block-size-requires
     returns-3)

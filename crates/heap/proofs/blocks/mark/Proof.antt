@@ -27,19 +27,38 @@ returns-2 c = let a = c .before .before .args in marked-out (a .u) (a .n) (a .la
 returns-3 : tie.Need-returns-3 Inv-loop μ-loop
 returns-3 c = let a = c .before .args in marked-out (a .u) (a .n) (a .later) (a .heap .now) (a .first) (omega arith)
 
+-- ---- what the steps ask, and what is known answers
+sub-if2 : tie.Need-sub-if2 Inv-loop μ-loop
+sub-if2 c = search needs
+
+element-write-heap : tie.Need-element-write-heap Inv-loop μ-loop
+element-write-heap c = search needs
+
+add-heap : tie.Need-add-heap Inv-loop μ-loop
+add-heap c = search needs
+
+element-write-heap-2 : tie.Need-element-write-heap-2 Inv-loop μ-loop
+element-write-heap-2 c = search needs
+
+add-k : tie.Need-add-k Inv-loop μ-loop
+add-k c = search needs
+
+loop-less : tie.Need-loop-less Inv-loop μ-loop
+loop-less c = search needs
+
 pub mark-spec : {M : Type 1} → statement M
 mark-spec =
     tie.close
     (tie.spec
     Inv-loop
     μ-loop
-    (λ c. search needs)
-    (λ c. search needs)
+    sub-if2
+    element-write-heap
     (λ c. (search needs, search needs, marked-none _ _ _ _))
-    (λ c. search needs)
-    (λ c. search needs)
-    (λ c. search needs)
-    (λ c. search needs)
+    add-heap
+    element-write-heap-2
+    add-k
+    loop-less
     (λ c. (search needs, search needs, marked-more _ _ _ _ _ (c .loop-test .taken) (c .before .loop .inv .2)))
     returns
     returns-2

@@ -34,19 +34,44 @@ returns-3 c =
     let n = at-units .units .ensures ∙ block-is _ _ _ _ t in
     rw (eq-eqb _ 0 (at-task .if1 .left), t) (give-is _ _ n (at-mark .mark .ensures) (c .accepted .ensures))
 
+-- ---- what the steps ask, and what is known answers
+refused-requires : tie.Need-refused-requires
+refused-requires c κs = search needs
+
+is-block-requires : tie.Need-is-block-requires
+is-block-requires c κs = search needs
+
+unused-requires : tie.Need-unused-requires
+unused-requires c κs = search needs
+
+refused-requires-2 : tie.Need-refused-requires-2
+refused-requires-2 c κs = search needs
+
+cast-mark : tie.Need-cast-mark
+cast-mark c = search needs
+
+units-requires : tie.Need-units-requires
+units-requires c κs = search needs
+
+mark-requires : tie.Need-mark-requires
+mark-requires c κs = search needs
+
+accepted-requires : tie.Need-accepted-requires
+accepted-requires c κs = search needs
+
 pub give-back-spec : {M : Type 1} → statement M
 unfolding firstGiven giveCases
 give-back-spec =
     tie.close
     (tie.spec
-    (λ c κs. search needs)
+    refused-requires
     (λ c. rw (c .refused .ensures, ne-eqb _ 0 (c .before .if1 .taken)))
-    (λ c κs. search needs)
-    (λ c κs. search needs)
-    (λ c κs. search needs)
+    is-block-requires
+    unused-requires
+    refused-requires-2
     returns-2
-    (λ c. search needs)
-    (λ c κs. search needs)
-    (λ c κs. search needs)
-    (λ c κs. search needs)
+    cast-mark
+    units-requires
+    mark-requires
+    accepted-requires
     returns-3)

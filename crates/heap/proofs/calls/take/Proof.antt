@@ -45,22 +45,53 @@ returns-4 c =
     let some = rw (u, n) at (at-run .if3 .left) in
     rw (eq-eqb _ 0 (at-task .if1 .left), t, ne-eqb _ heapUnits some) (take-is _ _ n u (at-mark .mark .ensures) (c .accepted .ensures))
 
+-- ---- what the steps ask, and what is known answers
+refused-requires : tie.Need-refused-requires
+refused-requires c κs = search needs
+
+unused-requires : tie.Need-unused-requires
+unused-requires c κs = search needs
+
+refused-requires-2 : tie.Need-refused-requires-2
+refused-requires-2 c κs = search needs
+
+units-requires : tie.Need-units-requires
+units-requires c κs = search needs
+
+lowest-run-requires : tie.Need-lowest-run-requires
+lowest-run-requires c κs = search needs
+
+refused-requires-3 : tie.Need-refused-requires-3
+refused-requires-3 c κs = search needs
+
+mark-requires : tie.Need-mark-requires
+mark-requires c κs = search needs
+
+mul-accepted : tie.Need-mul-accepted
+mul-accepted c = search needs
+
+cast-accepted : tie.Need-cast-accepted
+cast-accepted c = search needs
+
+accepted-requires : tie.Need-accepted-requires
+accepted-requires c κs = search needs
+
 pub take-spec : {M : Type 1} → statement M
 unfolding firstGiven takeCases
 take-spec =
     tie.close
     (tie.spec
-    (λ c κs. search needs)
+    refused-requires
     (λ c. rw (c .refused .ensures, ne-eqb _ 0 (c .before .if1 .taken)))
-    (λ c κs. search needs)
-    (λ c κs. search needs)
+    unused-requires
+    refused-requires-2
     returns-2
-    (λ c κs. search needs)
-    (λ c κs. search needs)
-    (λ c κs. search needs)
+    units-requires
+    lowest-run-requires
+    refused-requires-3
     returns-3
-    (λ c κs. search needs)
-    (λ c. search needs)
-    (λ c. search needs)
-    (λ c κs. search needs)
+    mark-requires
+    mul-accepted
+    cast-accepted
+    accepted-requires
     returns-4)

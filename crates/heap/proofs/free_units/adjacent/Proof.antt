@@ -21,6 +21,25 @@ loop-again c =
     let at-loop = c .before .before .before in
     (search needs, search needs, search needs, counted-more _ _ _ _ _ (at-loop .loop .inv .3) (search needs) (c .if2 .left))
 
+-- ---- what the steps ask, and what is known answers
+sub-least : tie.Need-sub-least Inv-loop μ-loop
+sub-least c = search needs
+
+least-requires : tie.Need-least-requires Inv-loop μ-loop
+least-requires c κs = search needs
+
+add-if2 : tie.Need-add-if2 Inv-loop μ-loop
+add-if2 c = search needs
+
+element-copy-out-if2 : tie.Need-element-copy-out-if2 Inv-loop μ-loop
+element-copy-out-if2 c = search needs
+
+add-k : tie.Need-add-k Inv-loop μ-loop
+add-k c = search needs
+
+loop-less : tie.Need-loop-less Inv-loop μ-loop
+loop-less c = search needs
+
 pub adjacent-spec : {M : Type 1} → statement M
 adjacent-spec =
     tie.close
@@ -28,13 +47,13 @@ adjacent-spec =
     Inv-loop
     μ-loop
     (λ c. counted-past _ _ _ _ (c .if1 .taken))
-    (λ c. search needs)
-    (λ c κs. search needs)
+    sub-least
+    least-requires
     (λ c. (search needs, search needs, search needs, counted-none _ _ _ _))
-    (λ c. search needs)
-    (λ c. search needs)
+    add-if2
+    element-copy-out-if2
     returns-2
-    (λ c. search needs)
-    (λ c. search needs)
+    add-k
+    loop-less
     loop-again
     (λ c. counted-all _ _ _ _ _ (c .before .loop .inv .3) (search needs) (search needs)))

@@ -54,30 +54,73 @@ loop-again c =
     let at-loop = at-loop-test .before in
     past-4 _ _ (at-loop-test .loop-test .taken) (at-first .if1 .left) (at-second .if2 .left) (at-third .if3 .left) (c .if4 .left) ∙ at-loop .loop .inv
 
+-- ---- what the steps ask, and what is known answers
+past-full-requires : tie.Need-past-full-requires Inv-loop μ-loop
+past-full-requires c κs = search needs
+
+element-copy-out-if1 : tie.Need-element-copy-out-if1 Inv-loop μ-loop
+element-copy-out-if1 c = search needs
+
+add-if2 : tie.Need-add-if2 Inv-loop μ-loop
+add-if2 c = search needs
+
+element-copy-out-if2 : tie.Need-element-copy-out-if2 Inv-loop μ-loop
+element-copy-out-if2 c = search needs
+
+add-result : tie.Need-add-result Inv-loop μ-loop
+add-result c = search needs
+
+add-if3 : tie.Need-add-if3 Inv-loop μ-loop
+add-if3 c = search needs
+
+element-copy-out-if3 : tie.Need-element-copy-out-if3 Inv-loop μ-loop
+element-copy-out-if3 c = search needs
+
+add-result-2 : tie.Need-add-result-2 Inv-loop μ-loop
+add-result-2 c = search needs
+
+add-if4 : tie.Need-add-if4 Inv-loop μ-loop
+add-if4 c = search needs
+
+element-copy-out-if4 : tie.Need-element-copy-out-if4 Inv-loop μ-loop
+element-copy-out-if4 c = search needs
+
+add-result-3 : tie.Need-add-result-3 Inv-loop μ-loop
+add-result-3 c = search needs
+
+add-u : tie.Need-add-u Inv-loop μ-loop
+add-u c = search needs
+
+loop-less : tie.Need-loop-less Inv-loop μ-loop
+loop-less c = search needs
+
+next-free-requires : tie.Need-next-free-requires Inv-loop μ-loop
+next-free-requires c κs = search needs
+
 pub first-free-spec : {M : Type 1} → statement M
 first-free-spec =
     tie.close
     (tie.spec
     Inv-loop
     μ-loop
-    (λ c κs. search needs)
+    past-full-requires
     (λ c. c .past-full .ensures)
-    (λ c. search needs)
+    element-copy-out-if1
     returns
-    (λ c. search needs)
-    (λ c. search needs)
-    (λ c. search needs)
+    add-if2
+    element-copy-out-if2
+    add-result
     returns-2
-    (λ c. search needs)
-    (λ c. search needs)
-    (λ c. search needs)
+    add-if3
+    element-copy-out-if3
+    add-result-2
     returns-3
-    (λ c. search needs)
-    (λ c. search needs)
-    (λ c. search needs)
+    add-if4
+    element-copy-out-if4
+    add-result-3
     returns-4
-    (λ c. search needs)
-    (λ c. search needs)
+    add-u
+    loop-less
     loop-again
-    (λ c κs. search needs)
+    next-free-requires
     (λ c. c .next-free .ensures ∙ c .before .before .loop .inv))

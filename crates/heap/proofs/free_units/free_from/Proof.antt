@@ -22,18 +22,34 @@ loop-again c =
     let at-loop = at-loop-test .before in
     from-on _ _ _ _ (at-loop .loop .inv) (at-loop-test .loop-test .taken) (c .if1 .left)
 
+-- ---- what the steps ask, and what is known answers
+least-requires : tie.Need-least-requires Inv-loop μ-loop
+least-requires c κs = search needs
+
+sub-if1 : tie.Need-sub-if1 Inv-loop μ-loop
+sub-if1 c = search needs
+
+element-copy-out-if1 : tie.Need-element-copy-out-if1 Inv-loop μ-loop
+element-copy-out-if1 c = search needs
+
+sub-p : tie.Need-sub-p Inv-loop μ-loop
+sub-p c = search needs
+
+loop-less : tie.Need-loop-less Inv-loop μ-loop
+loop-less c = search needs
+
 pub free-from-spec : {M : Type 1} → statement M
 free-from-spec =
     tie.close
     (tie.spec
     Inv-loop
     μ-loop
-    (λ c κs. search needs)
+    least-requires
     (λ c. from-start _ _ (c .least .ensures))
-    (λ c. search needs)
-    (λ c. search needs)
+    sub-if1
+    element-copy-out-if1
     returns
-    (λ c. search needs)
-    (λ c. search needs)
+    sub-p
+    loop-less
     loop-again
     (λ c. from-none _ _ _ _ (c .before .loop .inv) (c .loop-test .left)))

@@ -37,6 +37,16 @@ loop-again c =
     run-next _ _ _ (at-loop .loop .inv) _ (at-loop-test .loop-test .taken) (at-free-from .free-from .ensures) (at-test-2 .if2 .left)
     (c .first-free .ensures)
 
+-- ---- what the steps ask, and what is known answers
+add-free-from : tie.Need-add-free-from Inv-loop μ-loop
+add-free-from c = search needs
+
+free-from-requires : tie.Need-free-from-requires Inv-loop μ-loop
+free-from-requires c κs = search needs
+
+first-free-requires : tie.Need-first-free-requires Inv-loop μ-loop
+first-free-requires c κs = search needs
+
 pub lowest-run-spec : {M : Type 1} → statement M
 lowest-run-spec =
     tie.close
@@ -45,10 +55,10 @@ lowest-run-spec =
     μ-loop
     (λ c. (run-never _ _ (c .if1 .taken), search needs))
     (λ c. run-start _ _ (c .if1 .left))
-    (λ c. search needs)
-    (λ c κs. search needs)
+    add-free-from
+    free-from-requires
     returns-2
-    (λ c κs. search needs)
+    first-free-requires
     loop-less
     loop-again
     (λ c. (run-end _ _ _ (c .before .loop .inv) (c .loop-test .left), search needs)))

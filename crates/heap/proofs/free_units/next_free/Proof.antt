@@ -26,6 +26,16 @@ loop-again c =
     let at-loop = at-loop-test .before in
     free-on _ _ (at-loop-test .loop-test .taken) (c .if1 .left) ∙ at-loop .loop .inv
 
+-- ---- what the steps ask, and what is known answers
+element-copy-out-if1 : tie.Need-element-copy-out-if1 Inv-loop μ-loop
+element-copy-out-if1 c = search needs
+
+add-u : tie.Need-add-u Inv-loop μ-loop
+add-u c = search needs
+
+loop-less : tie.Need-loop-less Inv-loop μ-loop
+loop-less c = search needs
+
 pub next-free-spec : {M : Type 1} → statement M
 next-free-spec =
     tie.close
@@ -33,9 +43,9 @@ next-free-spec =
     Inv-loop
     μ-loop
     (λ c. refl)
-    (λ c. search needs)
+    element-copy-out-if1
     returns
-    (λ c. search needs)
-    (λ c. search needs)
+    add-u
+    loop-less
     loop-again
     (λ c. sym (free-end _ _ (c .loop-test .left)) ∙ c .before .loop .inv))

@@ -1,3 +1,4 @@
+-- `past_full` meets its contract: sixteen units that are all taken hold no free one, so the first free one from behind them is the same.
 use Rattle.rules.specs.Tables.{heapUnits}
 use Prim.Native.Nat.{_-_}
 use mathlib.Core.Path.{_≡_, refl, sym, _∙_}
@@ -14,6 +15,10 @@ Inv-loop heap from u₀ u = firstFree heap u ≡ firstFree heap from
 abbrev μ-loop : tie.MeasureT-loop
 μ-loop heap from u₀ u = heapUnits - u
 
+-- ---- what the steps ask, and what is known answers
+none-free-requires : tie.Need-none-free-requires Inv-loop μ-loop
+none-free-requires c κs = search needs
+
 pub past-full-spec : {M : Type 1} → statement M
 past-full-spec =
     tie.close
@@ -21,7 +26,7 @@ past-full-spec =
     Inv-loop
     μ-loop
     (λ c. refl)
-    (λ c κs. search needs)
+    none-free-requires
     (λ c. omega (arith, none-low _ _ (sym (c .before .none-free .ensures) ∙ c .if1 .taken)))
     (λ c. omega (arith, none-low _ _ (sym (c .before .none-free .ensures) ∙ c .if1 .taken)))
     (λ c. free-on16 _ _ (sym (c .before .none-free .ensures) ∙ c .if1 .taken) ∙ c .before .before .loop .inv)

@@ -82,20 +82,51 @@ returns-unknown c =
     let past : tie.Else8 = c .before in
     no-range _ (past-8 past .context .ensures) _ _ _ _ _ (past .if8 .left) (c .refused .ensures)
 
+-- ---- what the steps ask, and what is known answers
+context-requires : tie.Need-context-requires
+context-requires c κs = search needs
+
+task-call-requires : tie.Need-task-call-requires
+task-call-requires c κs = search needs
+
+swi-call-requires : tie.Need-swi-call-requires
+swi-call-requires c κs = search needs
+
+semaphore-call-requires : tie.Need-semaphore-call-requires
+semaphore-call-requires c κs = search needs
+
+event-call-requires : tie.Need-event-call-requires
+event-call-requires c κs = search needs
+
+mailbox-call-requires : tie.Need-mailbox-call-requires
+mailbox-call-requires c κs = search needs
+
+clock-call-requires : tie.Need-clock-call-requires
+clock-call-requires c κs = search needs
+
+heap-call-requires : tie.Need-heap-call-requires
+heap-call-requires c κs = search needs
+
+switch-call-requires : tie.Need-switch-call-requires
+switch-call-requires c κs = search needs
+
+refused-requires : tie.Need-refused-requires
+refused-requires c κs = search needs
+
 pub any-call-spec : {M : Type 1} → statement M
 any-call-spec =
     tie.close
     (tie.spec
-    (λ c κs. search needs)
-    (λ c κs. search needs)
-    (λ c κs. search needs)
-    (λ c κs. search needs)
-    (λ c κs. search needs)
-    (λ c κs. search needs)
-    (λ c κs. search needs)
-    (λ c κs. search needs)
-    (λ c κs. search needs)
-    (λ c κs. search needs)
+    context-requires
+    task-call-requires
+    swi-call-requires
+    semaphore-call-requires
+    event-call-requires
+    mailbox-call-requires
+    clock-call-requires
+    heap-call-requires
+    switch-call-requires
+    refused-requires
     returns-task
     returns-swi
     returns-semaphore

@@ -49,13 +49,20 @@ accepted c =
     let past = c .before .before in
     rw (may-call (from-2 past), good-arguments past, ne-eqb _ 8 (λ e. c .if3 .left (c .before .free-mailbox .ensures .0 ∙ e)))
 
+-- ---- what the steps ask, and what is known answers
+unused-requires : tie.Need-unused-requires
+unused-requires c κs = search needs
+
+free-mailbox-requires : tie.Need-free-mailbox-requires
+free-mailbox-requires c κs = search needs
+
 pub create-code-spec : {M : Type 1} → statement M
 create-code-spec =
     tie.close
     (tie.spec
     code-2
-    (λ c κs. search needs)
+    unused-requires
     code-4
-    (λ c κs. search needs)
+    free-mailbox-requires
     code-6
     accepted)

@@ -50,34 +50,98 @@ returns-2 : tie.Need-returns-2 Inv-loop μ-loop
 returns-2 c =
     sym (with-out _ _ _ (c .if1 .left))
 
+-- ---- what the steps ask, and what is known answers
+mul-at : tie.Need-mul-at Inv-loop μ-loop
+mul-at c = search needs
+
+add-at : tie.Need-add-at Inv-loop μ-loop
+add-at c = search needs
+
+count-behind-requires : tie.Need-count-behind-requires Inv-loop μ-loop
+count-behind-requires c κs = search needs
+
+add-mailboxes : tie.Need-add-mailboxes Inv-loop μ-loop
+add-mailboxes c = search needs
+
+add-mailboxes-2 : tie.Need-add-mailboxes-2 Inv-loop μ-loop
+add-mailboxes-2 c = search needs
+
+mul-mailboxes : tie.Need-mul-mailboxes Inv-loop μ-loop
+mul-mailboxes c = search needs
+
+element-copy-out-mailboxes : tie.Need-element-copy-out-mailboxes Inv-loop μ-loop
+element-copy-out-mailboxes c = search needs
+
+add-mailboxes-3 : tie.Need-add-mailboxes-3 Inv-loop μ-loop
+add-mailboxes-3 c = search needs
+
+add-mailboxes-4 : tie.Need-add-mailboxes-4 Inv-loop μ-loop
+add-mailboxes-4 c = search needs
+
+mul-mailboxes-2 : tie.Need-mul-mailboxes-2 Inv-loop μ-loop
+mul-mailboxes-2 c = search needs
+
+element-write-mailboxes : tie.Need-element-write-mailboxes Inv-loop μ-loop
+element-write-mailboxes c = search needs
+
+add-k : tie.Need-add-k Inv-loop μ-loop
+add-k c = search needs
+
+loop-less : tie.Need-loop-less Inv-loop μ-loop
+loop-less c = search needs
+
+add-mailboxes-5 : tie.Need-add-mailboxes-5 Inv-loop μ-loop
+add-mailboxes-5 c = search needs
+
+add-mailboxes-6 : tie.Need-add-mailboxes-6 Inv-loop μ-loop
+add-mailboxes-6 c = search needs
+
+mul-mailboxes-3 : tie.Need-mul-mailboxes-3 Inv-loop μ-loop
+mul-mailboxes-3 c = search needs
+
+element-write-mailboxes-2 : tie.Need-element-write-mailboxes-2 Inv-loop μ-loop
+element-write-mailboxes-2 c = search needs
+
+cast-mailboxes : tie.Need-cast-mailboxes Inv-loop μ-loop
+cast-mailboxes c = search needs
+
+add-mailboxes-7 : tie.Need-add-mailboxes-7 Inv-loop μ-loop
+add-mailboxes-7 c = search needs
+
+mul-mailboxes-4 : tie.Need-mul-mailboxes-4 Inv-loop μ-loop
+mul-mailboxes-4 c = search needs
+
+element-write-mailboxes-3 : tie.Need-element-write-mailboxes-3 Inv-loop μ-loop
+element-write-mailboxes-3 c = search needs
+
 pub shift-spec : {M : Type 1} → statement M
 shift-spec =
     tie.close
     (tie.spec
     Inv-loop
     μ-loop
-    (λ c. search needs)
-    (λ c. search needs)
-    (λ c κs. search needs)
+    mul-at
+    add-at
+    count-behind-requires
     loop-holds
-    (λ c. search needs)
-    (λ c. search needs)
-    (λ c. search needs)
-    (λ c. search needs)
-    (λ c. search needs)
-    (λ c. search needs)
-    (λ c. search needs)
-    (λ c. search needs)
-    (λ c. search needs)
-    (λ c. search needs)
+    add-mailboxes
+    add-mailboxes-2
+    mul-mailboxes
+    element-copy-out-mailboxes
+    add-mailboxes-3
+    add-mailboxes-4
+    mul-mailboxes-2
+    element-write-mailboxes
+    add-k
+    loop-less
     loop-again
-    (λ c. search needs)
-    (λ c. search needs)
-    (λ c. search needs)
-    (λ c. search needs)
-    (λ c. search needs)
-    (λ c. search needs)
-    (λ c. search needs)
-    (λ c. search needs)
+    add-mailboxes-5
+    add-mailboxes-6
+    mul-mailboxes-3
+    element-write-mailboxes-2
+    cast-mailboxes
+    add-mailboxes-7
+    mul-mailboxes-4
+    element-write-mailboxes-3
     returns
     returns-2)

@@ -25,14 +25,27 @@ returns-2 c =
     let a = at-count .before .before .args in
     none-is (a .mailboxes .now) (a .i) (at-count .count .ensures) (c .if1 .left)
 
+-- ---- what the steps ask, and what is known answers
+count-requires : tie.Need-count-requires
+count-requires c κs = search needs
+
+shift-requires : tie.Need-shift-requires
+shift-requires c κs = search needs
+
+sub-set-mailbox : tie.Need-sub-set-mailbox
+sub-set-mailbox c = search needs
+
+set-mailbox-requires : tie.Need-set-mailbox-requires
+set-mailbox-requires c κs = search needs
+
 pub take-word-spec : {M : Type 1} → statement M
 take-word-spec =
     tie.close
     (tie.spec
-    (λ c κs. search needs)
-    (λ c κs. search needs)
+    count-requires
+    shift-requires
     cast-set-mailbox
-    (λ c. search needs)
-    (λ c κs. search needs)
+    sub-set-mailbox
+    set-mailbox-requires
     returns
     returns-2)

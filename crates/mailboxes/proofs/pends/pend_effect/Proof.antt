@@ -22,14 +22,30 @@ returns-2 c =
     pend-takes (args .tasks .now) (args .lines .now) (args .mailboxes .now) (args .state .now) (args .a) (args .limit) (at-mailbox .mailbox .ensures)
     (at-empty .if1 .left) (at-oldest .oldest .ensures) (at-take .take .ensures) (c .accepted .ensures)
 
+-- ---- what the steps ask, and what is known answers
+mailbox-requires : tie.Need-mailbox-requires
+mailbox-requires c κs = search needs
+
+not-done-requires : tie.Need-not-done-requires
+not-done-requires c κs = search needs
+
+oldest-requires : tie.Need-oldest-requires
+oldest-requires c κs = search needs
+
+take-requires : tie.Need-take-requires
+take-requires c κs = search needs
+
+accepted-requires : tie.Need-accepted-requires
+accepted-requires c κs = search needs
+
 pub pend-effect-spec : {M : Type 1} → statement M
 pend-effect-spec =
     tie.close
     (tie.spec
-    (λ c κs. search needs)
-    (λ c κs. search needs)
+    mailbox-requires
+    not-done-requires
     returns
-    (λ c κs. search needs)
-    (λ c κs. search needs)
-    (λ c κs. search needs)
+    oldest-requires
+    take-requires
+    accepted-requires
     returns-2)

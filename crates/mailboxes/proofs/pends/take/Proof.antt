@@ -23,16 +23,38 @@ returns-2 c =
     take-none (args .tasks .now) (args .lines .now) (args .mailboxes .now) (args .a) (at-waits-first .waits-first .ensures) (at-writer .if1 .left)
     (c .take-word .ensures)
 
+-- ---- what the steps ask, and what is known answers
+waits-first-requires : tie.Need-waits-first-requires
+waits-first-requires c κs = search needs
+
+first-requires : tie.Need-first-requires
+first-requires c κs = search needs
+
+cast-task : tie.Need-cast-task
+cast-task c = search needs
+
+task-requires : tie.Need-task-requires
+task-requires c κs = search needs
+
+shift-requires : tie.Need-shift-requires
+shift-requires c κs = search needs
+
+wake-requires : tie.Need-wake-requires
+wake-requires c κs = search needs
+
+take-word-requires : tie.Need-take-word-requires
+take-word-requires c κs = search needs
+
 pub take-spec : {M : Type 1} → statement M
 take-spec =
     tie.close
     (tie.spec
-    (λ c κs. search needs)
-    (λ c κs. search needs)
-    (λ c. search needs)
-    (λ c κs. search needs)
-    (λ c κs. search needs)
-    (λ c κs. search needs)
-    (λ c κs. search needs)
+    waits-first-requires
+    first-requires
+    cast-task
+    task-requires
+    shift-requires
+    wake-requires
+    take-word-requires
     returns
     returns-2)

@@ -35,17 +35,39 @@ returns-3 c =
     (at-waits-first .waits-first .ensures) (at-reader .if1 .left) (at-is-full .is-full .ensures) (at-full .if2 .left) (at-put-word .put-word .ensures)
     (c .accepted .ensures)
 
+-- ---- what the steps ask, and what is known answers
+waits-first-requires : tie.Need-waits-first-requires
+waits-first-requires c κs = search needs
+
+add-wake-first : tie.Need-add-wake-first
+add-wake-first c = search needs
+
+wake-first-requires : tie.Need-wake-first-requires
+wake-first-requires c κs = search needs
+
+is-full-requires : tie.Need-is-full-requires
+is-full-requires c κs = search needs
+
+not-done-requires : tie.Need-not-done-requires
+not-done-requires c κs = search needs
+
+put-word-requires : tie.Need-put-word-requires
+put-word-requires c κs = search needs
+
+accepted-requires : tie.Need-accepted-requires
+accepted-requires c κs = search needs
+
 pub post-effect-spec : {M : Type 1} → statement M
 post-effect-spec =
     tie.close
     (tie.spec
-    (λ c κs. search needs)
-    (λ c. search needs)
-    (λ c κs. search needs)
+    waits-first-requires
+    add-wake-first
+    wake-first-requires
     returns
-    (λ c κs. search needs)
-    (λ c κs. search needs)
+    is-full-requires
+    not-done-requires
     returns-2
-    (λ c κs. search needs)
-    (λ c κs. search needs)
+    put-word-requires
+    accepted-requires
     returns-3)

@@ -34,6 +34,16 @@ loop-again c =
     let l = at-loop .loop in
     (omega arith, first-goes _ _ _ (l .i) (at-loop-test .loop-test .taken) (is-other 0 (at-mailbox .mailbox .ensures) (c .if1 .left)) (l .inv .1))
 
+-- ---- what the steps ask, and what is known answers
+mailbox-requires : tie.Need-mailbox-requires Inv-loop μ-loop
+mailbox-requires c κs = search needs
+
+add-i : tie.Need-add-i Inv-loop μ-loop
+add-i c = search needs
+
+loop-less : tie.Need-loop-less Inv-loop μ-loop
+loop-less c = search needs
+
 pub free-mailbox-spec : {M : Type 1} → statement M
 unfolding freeMailbox
 free-mailbox-spec =
@@ -42,9 +52,9 @@ free-mailbox-spec =
     Inv-loop
     μ-loop
     (λ c. (omega arith, first-starts _ _))
-    (λ c κs. search needs)
+    mailbox-requires
     returns
-    (λ c. search needs)
-    (λ c. search needs)
+    add-i
+    loop-less
     loop-again
     (λ c. let l = c .before .loop in (first-none _ _ _ (l .i) (c .loop-test .left) (l .inv .0) (l .inv .1), omega arith)))

@@ -30,21 +30,46 @@ returns c =
     let l = at-loop .loop in
     row-is (a .mailboxes .now) (a .i) (a .capacity) (l .k) (l .inv .0) (l .inv .2) (l .inv .1) (c .loop-test .left)
 
+-- ---- what the steps ask, and what is known answers
+mul-at : tie.Need-mul-at Inv-loop μ-loop
+mul-at c = search needs
+
+add-mailboxes : tie.Need-add-mailboxes Inv-loop μ-loop
+add-mailboxes c = search needs
+
+mul-mailboxes : tie.Need-mul-mailboxes Inv-loop μ-loop
+mul-mailboxes c = search needs
+
+element-write-mailboxes : tie.Need-element-write-mailboxes Inv-loop μ-loop
+element-write-mailboxes c = search needs
+
+add-k : tie.Need-add-k Inv-loop μ-loop
+add-k c = search needs
+
+loop-less : tie.Need-loop-less Inv-loop μ-loop
+loop-less c = search needs
+
+mul-mailboxes-2 : tie.Need-mul-mailboxes-2 Inv-loop μ-loop
+mul-mailboxes-2 c = search needs
+
+element-write-mailboxes-2 : tie.Need-element-write-mailboxes-2 Inv-loop μ-loop
+element-write-mailboxes-2 c = search needs
+
 pub put-mailbox-spec : {M : Type 1} → statement M
 put-mailbox-spec =
     tie.close
     (tie.spec
     Inv-loop
     μ-loop
-    (λ c. search needs)
+    mul-at
     (λ c. (c .if1 .taken, omega arith, refl))
-    (λ c. search needs)
-    (λ c. search needs)
-    (λ c. search needs)
-    (λ c. search needs)
-    (λ c. search needs)
+    add-mailboxes
+    mul-mailboxes
+    element-write-mailboxes
+    add-k
+    loop-less
     loop-again
-    (λ c. search needs)
-    (λ c. search needs)
+    mul-mailboxes-2
+    element-write-mailboxes-2
     returns
     (λ c. no-row _ _ _ (c .if1 .left)))

@@ -20,14 +20,30 @@ returns-2 c =
     now-waits (args .tasks .now) (args .lines .now) (args .state .now) (args .mode) (args .a) (args .limit) (args .word) (at-limit .if1 .left)
     (at-current .current .ensures) (at-wait .wait .ensures) (c .accepted2 .ensures)
 
+-- ---- what the steps ask, and what is known answers
+accepted-requires : tie.Need-accepted-requires
+accepted-requires c κs = search needs
+
+current-requires : tie.Need-current-requires
+current-requires c κs = search needs
+
+cast-i : tie.Need-cast-i
+cast-i c = search needs
+
+wait-requires : tie.Need-wait-requires
+wait-requires c κs = search needs
+
+accepted-requires-2 : tie.Need-accepted-requires-2
+accepted-requires-2 c κs = search needs
+
 pub not-done-spec : {M : Type 1} → statement M
 not-done-spec =
     tie.close
     (tie.spec
-    (λ c κs. search needs)
+    accepted-requires
     returns
-    (λ c κs. search needs)
-    (λ c. search needs)
-    (λ c κs. search needs)
-    (λ c κs. search needs)
+    current-requires
+    cast-i
+    wait-requires
+    accepted-requires-2
     returns-2)

@@ -48,13 +48,20 @@ accepted c =
     let past = c .before .before in
     rw (may-call (from-2 past), good-arguments past, is-other 16 (c .before .free-semaphore .ensures .0) (c .if3 .left))
 
+-- ---- what the steps ask, and what is known answers
+bad-create-requires : tie.Need-bad-create-requires
+bad-create-requires c κs = search needs
+
+free-semaphore-requires : tie.Need-free-semaphore-requires
+free-semaphore-requires c κs = search needs
+
 pub create-code-spec : {M : Type 1} → statement M
 create-code-spec =
     tie.close
     (tie.spec
     code-2
-    (λ c κs. search needs)
+    bad-create-requires
     code-4
-    (λ c κs. search needs)
+    free-semaphore-requires
     code-6
     accepted)

@@ -1,3 +1,4 @@
+-- `create_effect` meets its contract: the lowest free semaphore is found, and its row is stored: in use, its kind and its count.
 use Rattle.moves.proofs.Served.{made-is}
 use Rattle.rules.specs.Semaphores.{freeSemaphore, createEffect}
 use Rattle.rules.specs.Waits.{waitTables}
@@ -18,12 +19,25 @@ returns c =
     λ ts ls. made-is (waitTables ts ls ss) (λ (i : ℕ). semaphoreRow ss i (1 ∷ args .a ∷ args .b ∷ [])) (freeSemaphore ss)
     (at-free-semaphore .free-semaphore .ensures .0) (at-put-semaphore .put-semaphore .ensures) (c .accepted .ensures)
 
+-- ---- what the steps ask, and what is known answers
+free-semaphore-requires : tie.Need-free-semaphore-requires
+free-semaphore-requires c κs = search needs
+
+put-semaphore-requires : tie.Need-put-semaphore-requires
+put-semaphore-requires c κs = search needs
+
+cast-accepted : tie.Need-cast-accepted
+cast-accepted c = search needs
+
+accepted-requires : tie.Need-accepted-requires
+accepted-requires c κs = search needs
+
 pub create-effect-spec : {M : Type 1} → statement M
 create-effect-spec =
     tie.close
     (tie.spec
-    (λ c κs. search needs)
-    (λ c κs. search needs)
-    (λ c. search needs)
-    (λ c κs. search needs)
+    free-semaphore-requires
+    put-semaphore-requires
+    cast-accepted
+    accepted-requires
     returns)

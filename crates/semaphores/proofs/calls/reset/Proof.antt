@@ -9,12 +9,22 @@ returns-2 c =
     let at-reset-code = at-test .before in
     λ ts. effected _ _ _ (at-reset-code .reset-code .ensures) (at-test .if1 .left) (c .reset-effect .ensures ts _)
 
+-- ---- what the steps ask, and what is known answers
+reset-code-requires : tie.Need-reset-code-requires
+reset-code-requires c κs = search needs
+
+refused-requires : tie.Need-refused-requires
+refused-requires c κs = search needs
+
+reset-effect-requires : tie.Need-reset-effect-requires
+reset-effect-requires c κs = search needs
+
 pub reset-spec : {M : Type 1} → statement M
 reset-spec =
     tie.close
     (tie.spec
-    (λ c κs. search needs)
-    (λ c κs. search needs)
+    reset-code-requires
+    refused-requires
     (λ c. λ ts. refusal _ _ _ (c .before .before .reset-code .ensures) (c .before .if1 .taken) (c .refused .ensures))
-    (λ c κs. search needs)
+    reset-effect-requires
     returns-2)

@@ -22,13 +22,26 @@ returns-2 c =
     begun-by-priority (args .kind) (args .i) (args .a) (args .limit) (args .tasks .now) (args .lines .now) (at-task .task .ensures)
     (at-waiting .waiting .ensures) (at-test .if1 .left) (c .move-by-priority .ensures)
 
+-- ---- what the steps ask, and what is known answers
+task-requires : tie.Need-task-requires
+task-requires c κs = search needs
+
+waiting-requires : tie.Need-waiting-requires
+waiting-requires c κs = search needs
+
+move-back-requires : tie.Need-move-back-requires
+move-back-requires c κs = search needs
+
+move-by-priority-requires : tie.Need-move-by-priority-requires
+move-by-priority-requires c κs = search needs
+
 pub begin-spec : {M : Type 1} → statement M
 begin-spec =
     tie.close
     (tie.spec
-    (λ c κs. search needs)
-    (λ c κs. search needs)
-    (λ c κs. search needs)
-    (λ c κs. search needs)
+    task-requires
+    waiting-requires
+    move-back-requires
+    move-by-priority-requires
     returns
     returns-2)

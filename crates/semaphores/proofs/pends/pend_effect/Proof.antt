@@ -35,20 +35,51 @@ returns-3 c =
     (at-semaphore .semaphore .ensures) (at-none-left .if1 .left) (at-limit .if2 .left) (at-semaphore2 .semaphore2 .ensures) (at-current .current .ensures)
     (at-begin .begin .ensures) (c .accepted3 .ensures)
 
+-- ---- what the steps ask, and what is known answers
+semaphore-requires : tie.Need-semaphore-requires
+semaphore-requires c κs = search needs
+
+sub-set-semaphore : tie.Need-sub-set-semaphore
+sub-set-semaphore c = search needs
+
+set-semaphore-requires : tie.Need-set-semaphore-requires
+set-semaphore-requires c κs = search needs
+
+accepted-requires : tie.Need-accepted-requires
+accepted-requires c κs = search needs
+
+accepted-requires-2 : tie.Need-accepted-requires-2
+accepted-requires-2 c κs = search needs
+
+semaphore-requires-2 : tie.Need-semaphore-requires-2
+semaphore-requires-2 c κs = search needs
+
+current-requires : tie.Need-current-requires
+current-requires c κs = search needs
+
+cast-begin : tie.Need-cast-begin
+cast-begin c = search needs
+
+begin-requires : tie.Need-begin-requires
+begin-requires c κs = search needs
+
+accepted-requires-3 : tie.Need-accepted-requires-3
+accepted-requires-3 c κs = search needs
+
 pub pend-effect-spec : {M : Type 1} → statement M
 pend-effect-spec =
     tie.close
     (tie.spec
-    (λ c κs. search needs)
-    (λ c. search needs)
-    (λ c κs. search needs)
-    (λ c κs. search needs)
+    semaphore-requires
+    sub-set-semaphore
+    set-semaphore-requires
+    accepted-requires
     returns
-    (λ c κs. search needs)
+    accepted-requires-2
     returns-2
-    (λ c κs. search needs)
-    (λ c κs. search needs)
-    (λ c. search needs)
-    (λ c κs. search needs)
-    (λ c κs. search needs)
+    semaphore-requires-2
+    current-requires
+    cast-begin
+    begin-requires
+    accepted-requires-3
     returns-3)

@@ -48,15 +48,28 @@ accepted c =
     let past = c .before .before in
     rw (in-use (from-2 past), good-arguments past, sym (c .before .at-end .ensures) ∙ c .if3 .left)
 
+-- ---- what the steps ask, and what is known answers
+semaphore-requires : tie.Need-semaphore-requires
+semaphore-requires c κs = search needs
+
+absent-code-requires : tie.Need-absent-code-requires
+absent-code-requires c κs = search needs
+
+unused-requires : tie.Need-unused-requires
+unused-requires c κs = search needs
+
+at-end-requires : tie.Need-at-end-requires
+at-end-requires c κs = search needs
+
 pub post-code-spec : {M : Type 1} → statement M
 post-code-spec =
     tie.close
     (tie.spec
-    (λ c κs. search needs)
-    (λ c κs. search needs)
+    semaphore-requires
+    absent-code-requires
     code-3
-    (λ c κs. search needs)
+    unused-requires
     code-4
-    (λ c κs. search needs)
+    at-end-requires
     code-7
     accepted)

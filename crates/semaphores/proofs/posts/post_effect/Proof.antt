@@ -25,16 +25,38 @@ returns-2 c =
     (at-semaphore .semaphore .ensures) (at-semaphore2 .semaphore2 .ensures) (at-count-up .count-up .ensures)
     (at-set-semaphore .set-semaphore .ensures) (c .accepted .ensures)
 
+-- ---- what the steps ask, and what is known answers
+len-requires : tie.Need-len-requires
+len-requires c κs = search needs
+
+wake-first-requires : tie.Need-wake-first-requires
+wake-first-requires c κs = search needs
+
+semaphore-requires : tie.Need-semaphore-requires
+semaphore-requires c κs = search needs
+
+semaphore-requires-2 : tie.Need-semaphore-requires-2
+semaphore-requires-2 c κs = search needs
+
+count-up-requires : tie.Need-count-up-requires
+count-up-requires c κs = search needs
+
+set-semaphore-requires : tie.Need-set-semaphore-requires
+set-semaphore-requires c κs = search needs
+
+accepted-requires : tie.Need-accepted-requires
+accepted-requires c κs = search needs
+
 pub post-effect-spec : {M : Type 1} → statement M
 post-effect-spec =
     tie.close
     (tie.spec
-    (λ c κs. search needs)
-    (λ c κs. search needs)
+    len-requires
+    wake-first-requires
     returns
-    (λ c κs. search needs)
-    (λ c κs. search needs)
-    (λ c κs. search needs)
-    (λ c κs. search needs)
-    (λ c κs. search needs)
+    semaphore-requires
+    semaphore-requires-2
+    count-up-requires
+    set-semaphore-requires
+    accepted-requires
     returns-2)

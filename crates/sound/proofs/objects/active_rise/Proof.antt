@@ -20,20 +20,42 @@ Inv-loop swis lines n ok₀ k₀ ok k =
 abbrev μ-loop : tie.MeasureT-loop
 μ-loop swis lines n ok₀ k₀ ok k = n - k
 
+-- ---- what the steps ask, and what is known answers
+len-requires : tie.Need-len-requires Inv-loop μ-loop
+len-requires c κs = search needs
+
+one-less-requires : tie.Need-one-less-requires Inv-loop μ-loop
+one-less-requires c κs = search needs
+
+active-priority-requires : tie.Need-active-priority-requires Inv-loop μ-loop
+active-priority-requires c κs = search needs
+
+add-active-priority : tie.Need-add-active-priority Inv-loop μ-loop
+add-active-priority c = search needs
+
+active-priority-requires-2 : tie.Need-active-priority-requires-2 Inv-loop μ-loop
+active-priority-requires-2 c κs = search needs
+
+add-k : tie.Need-add-k Inv-loop μ-loop
+add-k c = search needs
+
+loop-less : tie.Need-loop-less Inv-loop μ-loop
+loop-less c = search needs
+
 pub active-rise-spec : {M : Type 1} → statement M
 active-rise-spec =
     tie.close
     (tie.spec
     Inv-loop
     μ-loop
-    (λ c κs. search needs)
-    (λ c κs. search needs)
+    len-requires
+    one-less-requires
     (λ c. (c .one-less .ensures ∙ rw (c .before .len .ensures), search needs, sym (all-none _)))
-    (λ c κs. search needs)
-    (λ c. search needs)
-    (λ c κs. search needs)
-    (λ c. search needs)
-    (λ c. search needs)
+    active-priority-requires
+    add-active-priority
+    active-priority-requires-2
+    add-k
+    loop-less
     (λ c.
     let at-lower = c .before in
     let at-loop = at-lower .before .before .loop in

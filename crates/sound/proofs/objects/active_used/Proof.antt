@@ -18,19 +18,38 @@ Inv-loop swis lines n ok₀ k₀ ok k = (n ≡ length (line lines activeLine)) �
 abbrev μ-loop : tie.MeasureT-loop
 μ-loop swis lines n ok₀ k₀ ok k = n - k
 
+-- ---- what the steps ask, and what is known answers
+len-requires : tie.Need-len-requires Inv-loop μ-loop
+len-requires c κs = search needs
+
+member-requires : tie.Need-member-requires Inv-loop μ-loop
+member-requires c κs = search needs
+
+wide-requires : tie.Need-wide-requires Inv-loop μ-loop
+wide-requires c κs = search needs
+
+swi-requires : tie.Need-swi-requires Inv-loop μ-loop
+swi-requires c κs = search needs
+
+add-k : tie.Need-add-k Inv-loop μ-loop
+add-k c = search needs
+
+loop-less : tie.Need-loop-less Inv-loop μ-loop
+loop-less c = search needs
+
 pub active-used-spec : {M : Type 1} → statement M
 active-used-spec =
     tie.close
     (tie.spec
     Inv-loop
     μ-loop
-    (λ c κs. search needs)
+    len-requires
     (λ c. (c .len .ensures, sym (allOf-none _ (line (c .before .args .lines .now) activeLine))))
-    (λ c κs. search needs)
-    (λ c κs. search needs)
-    (λ c κs. search needs)
-    (λ c. search needs)
-    (λ c. search needs)
+    member-requires
+    wide-requires
+    swi-requires
+    add-k
+    loop-less
     (λ c.
     let at-wide = c .before in
     let at-member = at-wide .before in

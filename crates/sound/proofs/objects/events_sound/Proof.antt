@@ -17,6 +17,16 @@ Inv-loop tasks events lines ok₀ e₀ ok e = (e ≤ eventCount) × (ok ≡ allB
 abbrev μ-loop : tie.MeasureT-loop
 μ-loop tasks events lines ok₀ e₀ ok e = eventCount - e
 
+-- ---- what the steps ask, and what is known answers
+event-sound-requires : tie.Need-event-sound-requires Inv-loop μ-loop
+event-sound-requires c κs = search needs
+
+add-e : tie.Need-add-e Inv-loop μ-loop
+add-e c = search needs
+
+loop-less : tie.Need-loop-less Inv-loop μ-loop
+loop-less c = search needs
+
 pub events-sound-spec : {M : Type 1} → statement M
 events-sound-spec =
     tie.close
@@ -24,8 +34,8 @@ events-sound-spec =
     Inv-loop
     μ-loop
     (λ c. (search needs, sym (all-none _)))
-    (λ c κs. search needs)
-    (λ c. search needs)
-    (λ c. search needs)
+    event-sound-requires
+    add-e
+    loop-less
     (λ c. (search needs, all-step _ _ (c .before .before .loop .inv .1) (in-range _ _ (c .before .loop-test .taken) (c .event-sound .ensures))))
     (λ c. all-end _ (c .before .loop .e) eventCount (c .before .loop .inv .0) (c .loop-test .left) (c .before .loop .inv .1)))

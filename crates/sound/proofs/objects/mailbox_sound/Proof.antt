@@ -7,18 +7,40 @@ use borrow.Author.Needs.{needs}
 use Rattle.sound.proofs.objects.mailbox_sound.Statement.{statement}
 use Rattle.sound.proofs.objects.mailbox_sound.Tie as tie
 
+-- ---- what the steps ask, and what is known answers
+mailbox-requires : tie.Need-mailbox-requires
+mailbox-requires c κs = search needs
+
+mailbox-requires-2 : tie.Need-mailbox-requires-2
+mailbox-requires-2 c κs = search needs
+
+add-len : tie.Need-add-len
+add-len c = search needs
+
+len-requires : tie.Need-len-requires
+len-requires c κs = search needs
+
+zeros-behind-requires : tie.Need-zeros-behind-requires
+zeros-behind-requires c κs = search needs
+
+add-waiters-sound : tie.Need-add-waiters-sound
+add-waiters-sound c = search needs
+
+waiters-sound-requires : tie.Need-waiters-sound-requires
+waiters-sound-requires c κs = search needs
+
 pub mailbox-sound-spec : {M : Type 1} → statement M
 unfolding mailboxRule
 mailbox-sound-spec =
     tie.close
     (tie.spec
-    (λ c κs. search needs)
-    (λ c κs. search needs)
-    (λ c. search needs)
-    (λ c κs. search needs)
-    (λ c κs. search needs)
-    (λ c. search needs)
-    (λ c κs. search needs)
+    mailbox-requires
+    mailbox-requires-2
+    add-len
+    len-requires
+    zeros-behind-requires
+    add-waiters-sound
+    waiters-sound-requires
     (λ c.
     let at-zeros = c .before in
     let at-len = at-zeros .before in

@@ -17,6 +17,16 @@ Inv-loop tasks mailboxes lines ok₀ m₀ ok m = (m ≤ mailboxCount) × (ok ≡
 abbrev μ-loop : tie.MeasureT-loop
 μ-loop tasks mailboxes lines ok₀ m₀ ok m = mailboxCount - m
 
+-- ---- what the steps ask, and what is known answers
+mailbox-sound-requires : tie.Need-mailbox-sound-requires Inv-loop μ-loop
+mailbox-sound-requires c κs = search needs
+
+add-m : tie.Need-add-m Inv-loop μ-loop
+add-m c = search needs
+
+loop-less : tie.Need-loop-less Inv-loop μ-loop
+loop-less c = search needs
+
 pub mailboxes-sound-spec : {M : Type 1} → statement M
 mailboxes-sound-spec =
     tie.close
@@ -24,8 +34,8 @@ mailboxes-sound-spec =
     Inv-loop
     μ-loop
     (λ c. (search needs, sym (all-none _)))
-    (λ c κs. search needs)
-    (λ c. search needs)
-    (λ c. search needs)
+    mailbox-sound-requires
+    add-m
+    loop-less
     (λ c. (search needs, all-step _ _ (c .before .before .loop .inv .1) (in-range _ _ (c .before .loop-test .taken) (c .mailbox-sound .ensures))))
     (λ c. all-end _ (c .before .loop .m) mailboxCount (c .before .loop .inv .0) (c .loop-test .left) (c .before .loop .inv .1)))

@@ -6,16 +6,32 @@ use borrow.Author.Needs.{needs}
 use Rattle.sound.proofs.objects.semaphore_sound.Statement.{statement}
 use Rattle.sound.proofs.objects.semaphore_sound.Tie as tie
 
+-- ---- what the steps ask, and what is known answers
+semaphore-requires : tie.Need-semaphore-requires
+semaphore-requires c κs = search needs
+
+semaphore-requires-2 : tie.Need-semaphore-requires-2
+semaphore-requires-2 c κs = search needs
+
+semaphore-requires-3 : tie.Need-semaphore-requires-3
+semaphore-requires-3 c κs = search needs
+
+len-requires : tie.Need-len-requires
+len-requires c κs = search needs
+
+most-requires : tie.Need-most-requires
+most-requires c κs = search needs
+
 pub semaphore-sound-spec : {M : Type 1} → statement M
 unfolding semaphoreRule
 semaphore-sound-spec =
     tie.close
     (tie.spec
-    (λ c κs. search needs)
-    (λ c κs. search needs)
-    (λ c κs. search needs)
-    (λ c κs. search needs)
-    (λ c κs. search needs)
+    semaphore-requires
+    semaphore-requires-2
+    semaphore-requires-3
+    len-requires
+    most-requires
     (λ c.
     let at-len = c .before in
     let at-count = at-len .before in

@@ -16,6 +16,16 @@ Inv-loop semaphores lines ok₀ s₀ ok s = (s ≤ semaphoreCount) × (ok ≡ al
 abbrev μ-loop : tie.MeasureT-loop
 μ-loop semaphores lines ok₀ s₀ ok s = semaphoreCount - s
 
+-- ---- what the steps ask, and what is known answers
+semaphore-sound-requires : tie.Need-semaphore-sound-requires Inv-loop μ-loop
+semaphore-sound-requires c κs = search needs
+
+add-s : tie.Need-add-s Inv-loop μ-loop
+add-s c = search needs
+
+loop-less : tie.Need-loop-less Inv-loop μ-loop
+loop-less c = search needs
+
 pub semaphores-sound-spec : {M : Type 1} → statement M
 semaphores-sound-spec =
     tie.close
@@ -23,8 +33,8 @@ semaphores-sound-spec =
     Inv-loop
     μ-loop
     (λ c. (search needs, sym (all-none _)))
-    (λ c κs. search needs)
-    (λ c. search needs)
-    (λ c. search needs)
+    semaphore-sound-requires
+    add-s
+    loop-less
     (λ c. (search needs, all-step _ _ (c .before .before .loop .inv .1) (c .semaphore-sound .ensures)))
     (λ c. all-end _ (c .before .loop .s) semaphoreCount (c .before .loop .inv .0) (c .loop-test .left) (c .before .loop .inv .1)))

@@ -5,18 +5,40 @@ use borrow.Author.Needs.{needs}
 use Rattle.sound.proofs.objects.swi_sound.Statement.{statement}
 use Rattle.sound.proofs.objects.swi_sound.Tie as tie
 
+-- ---- what the steps ask, and what is known answers
+swi-requires : tie.Need-swi-requires
+swi-requires c κs = search needs
+
+swi-requires-2 : tie.Need-swi-requires-2
+swi-requires-2 c κs = search needs
+
+swi-requires-3 : tie.Need-swi-requires-3
+swi-requires-3 c κs = search needs
+
+swi-requires-4 : tie.Need-swi-requires-4
+swi-requires-4 c κs = search needs
+
+swi-requires-5 : tie.Need-swi-requires-5
+swi-requires-5 c κs = search needs
+
+swi-requires-6 : tie.Need-swi-requires-6
+swi-requires-6 c κs = search needs
+
+times-requires : tie.Need-times-requires
+times-requires c κs = search needs
+
 pub swi-sound-spec : {M : Type 1} → statement M
 unfolding swiRule
 swi-sound-spec =
     tie.close
     (tie.spec
-    (λ c κs. search needs)
-    (λ c κs. search needs)
-    (λ c κs. search needs)
-    (λ c κs. search needs)
-    (λ c κs. search needs)
-    (λ c κs. search needs)
-    (λ c κs. search needs)
+    swi-requires
+    swi-requires-2
+    swi-requires-3
+    swi-requires-4
+    swi-requires-5
+    swi-requires-6
+    times-requires
     (λ c.
     let at-taken = c .before in
     let at-posted = at-taken .before in

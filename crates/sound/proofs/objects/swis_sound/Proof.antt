@@ -16,6 +16,16 @@ Inv-loop swis lines ok₀ i₀ ok i = (i ≤ swiCount) × (ok ≡ allBelow i (λ
 abbrev μ-loop : tie.MeasureT-loop
 μ-loop swis lines ok₀ i₀ ok i = swiCount - i
 
+-- ---- what the steps ask, and what is known answers
+swi-sound-requires : tie.Need-swi-sound-requires Inv-loop μ-loop
+swi-sound-requires c κs = search needs
+
+add-i : tie.Need-add-i Inv-loop μ-loop
+add-i c = search needs
+
+loop-less : tie.Need-loop-less Inv-loop μ-loop
+loop-less c = search needs
+
 pub swis-sound-spec : {M : Type 1} → statement M
 swis-sound-spec =
     tie.close
@@ -23,8 +33,8 @@ swis-sound-spec =
     Inv-loop
     μ-loop
     (λ c. (search needs, sym (all-none _)))
-    (λ c κs. search needs)
-    (λ c. search needs)
-    (λ c. search needs)
+    swi-sound-requires
+    add-i
+    loop-less
     (λ c. (search needs, all-step _ _ (c .before .before .loop .inv .1) (c .swi-sound .ensures)))
     (λ c. all-end _ (c .before .loop .i) swiCount (c .before .loop .inv .0) (c .loop-test .left) (c .before .loop .inv .1)))

@@ -20,20 +20,42 @@ Inv-loop tasks lines j messages capacity n ok₀ k₀ ok k =
 abbrev μ-loop : tie.MeasureT-loop
 μ-loop tasks lines j messages capacity n ok₀ k₀ ok k = n - k
 
+-- ---- what the steps ask, and what is known answers
+len-requires : tie.Need-len-requires Inv-loop μ-loop
+len-requires c κs = search needs
+
+member-requires : tie.Need-member-requires Inv-loop μ-loop
+member-requires c κs = search needs
+
+wide-requires : tie.Need-wide-requires Inv-loop μ-loop
+wide-requires c κs = search needs
+
+task-requires : tie.Need-task-requires Inv-loop μ-loop
+task-requires c κs = search needs
+
+waiter-sound-requires : tie.Need-waiter-sound-requires Inv-loop μ-loop
+waiter-sound-requires c κs = search needs
+
+add-k : tie.Need-add-k Inv-loop μ-loop
+add-k c = search needs
+
+loop-less : tie.Need-loop-less Inv-loop μ-loop
+loop-less c = search needs
+
 pub waiters-sound-spec : {M : Type 1} → statement M
 waiters-sound-spec =
     tie.close
     (tie.spec
     Inv-loop
     μ-loop
-    (λ c κs. search needs)
+    len-requires
     (λ c. (c .len .ensures, sym (allOf-none _ (line (c .before .args .lines .now) (c .before .args .j)))))
-    (λ c κs. search needs)
-    (λ c κs. search needs)
-    (λ c κs. search needs)
-    (λ c κs. search needs)
-    (λ c. search needs)
-    (λ c. search needs)
+    member-requires
+    wide-requires
+    task-requires
+    waiter-sound-requires
+    add-k
+    loop-less
     (λ c.
     let at-task = c .before in
     let at-wide = at-task .before in

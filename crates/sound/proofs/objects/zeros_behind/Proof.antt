@@ -14,28 +14,65 @@ Inv-loop mailboxes m at k₀ ok₀ k ok = (at ≡ m * mailboxWidth + MESSAGES) �
 abbrev μ-loop : tie.MeasureT-loop
 μ-loop mailboxes m at k₀ ok₀ k ok = mailboxMost - k
 
+-- ---- what the steps ask, and what is known answers
+mul-at : tie.Need-mul-at Inv-loop μ-loop
+mul-at c = search needs
+
+add-at : tie.Need-add-at Inv-loop μ-loop
+add-at c = search needs
+
+mul-index : tie.Need-mul-index Inv-loop μ-loop
+mul-index c = search needs
+
+element-copy-out-index : tie.Need-element-copy-out-index Inv-loop μ-loop
+element-copy-out-index c = search needs
+
+index-requires : tie.Need-index-requires Inv-loop μ-loop
+index-requires c κs = search needs
+
+least-requires : tie.Need-least-requires Inv-loop μ-loop
+least-requires c κs = search needs
+
+add-ok : tie.Need-add-ok Inv-loop μ-loop
+add-ok c = search needs
+
+add-ok-2 : tie.Need-add-ok-2 Inv-loop μ-loop
+add-ok-2 c = search needs
+
+mul-ok : tie.Need-mul-ok Inv-loop μ-loop
+mul-ok c = search needs
+
+element-copy-out-ok : tie.Need-element-copy-out-ok Inv-loop μ-loop
+element-copy-out-ok c = search needs
+
+add-k : tie.Need-add-k Inv-loop μ-loop
+add-k c = search needs
+
+loop-less : tie.Need-loop-less Inv-loop μ-loop
+loop-less c = search needs
+
 pub zeros-behind-spec : {M : Type 1} → statement M
 zeros-behind-spec =
     tie.close
     (tie.spec
     Inv-loop
     μ-loop
-    (λ c. search needs)
-    (λ c. search needs)
-    (λ c. search needs)
-    (λ c. search needs)
-    (λ c κs. search needs)
-    (λ c κs. search needs)
+    mul-at
+    add-at
+    mul-index
+    element-copy-out-index
+    index-requires
+    least-requires
     (λ c.
     let at-index = c .before in
     let at-range = at-index .before .before in
     (refl, at-range .if1 .taken, zeros-none mailboxMost _ _ (c .least .ensures ∙ rw (at-index .index .ensures))))
-    (λ c. search needs)
-    (λ c. search needs)
-    (λ c. search needs)
-    (λ c. search needs)
-    (λ c. search needs)
-    (λ c. search needs)
+    add-ok
+    add-ok-2
+    mul-ok
+    element-copy-out-ok
+    add-k
+    loop-less
     (λ c. (search needs, search needs, zeros-more mailboxMost _ _ _ (c .before .before .loop .inv .2) (c .before .loop-test .taken)))
     (λ c.
     let at-loop = c .before in

@@ -18,19 +18,38 @@ Inv-loop tasks swis lines j n ok₀ k₀ ok k = (n ≡ length (line lines j)) ×
 abbrev μ-loop : tie.MeasureT-loop
 μ-loop tasks swis lines j n ok₀ k₀ ok k = n - k
 
+-- ---- what the steps ask, and what is known answers
+len-requires : tie.Need-len-requires Inv-loop μ-loop
+len-requires c κs = search needs
+
+member-requires : tie.Need-member-requires Inv-loop μ-loop
+member-requires c κs = search needs
+
+wide-requires : tie.Need-wide-requires Inv-loop μ-loop
+wide-requires c κs = search needs
+
+home-in-requires : tie.Need-home-in-requires Inv-loop μ-loop
+home-in-requires c κs = search needs
+
+add-k : tie.Need-add-k Inv-loop μ-loop
+add-k c = search needs
+
+loop-less : tie.Need-loop-less Inv-loop μ-loop
+loop-less c = search needs
+
 pub at-home-spec : {M : Type 1} → statement M
 at-home-spec =
     tie.close
     (tie.spec
     Inv-loop
     μ-loop
-    (λ c κs. search needs)
+    len-requires
     (λ c. (c .len .ensures, sym (allOf-none _ (line (c .before .args .lines .now) (c .before .args .j)))))
-    (λ c κs. search needs)
-    (λ c κs. search needs)
-    (λ c κs. search needs)
-    (λ c. search needs)
-    (λ c. search needs)
+    member-requires
+    wide-requires
+    home-in-requires
+    add-k
+    loop-less
     (λ c.
     let at-wide = c .before in
     let at-member = at-wide .before in

@@ -20,6 +20,16 @@ Inv-loop lines ok₀ j₀ ok j =
 abbrev μ-loop : tie.MeasureT-loop
 μ-loop lines ok₀ j₀ ok j = lineCount - j
 
+-- ---- what the steps ask, and what is known answers
+line-sound-requires : tie.Need-line-sound-requires Inv-loop μ-loop
+line-sound-requires c κs = search needs
+
+add-j : tie.Need-add-j Inv-loop μ-loop
+add-j c = search needs
+
+loop-less : tie.Need-loop-less Inv-loop μ-loop
+loop-less c = search needs
+
 pub lines-sound-spec : {M : Type 1} → statement M
 lines-sound-spec =
     tie.close
@@ -27,8 +37,8 @@ lines-sound-spec =
     Inv-loop
     μ-loop
     (λ c. (search needs, sym (all-none _)))
-    (λ c κs. search needs)
-    (λ c. search needs)
-    (λ c. search needs)
+    line-sound-requires
+    add-j
+    loop-less
     (λ c. (search needs, all-step _ _ (c .before .before .loop .inv .1) (in-range _ _ (c .before .loop-test .taken) (c .line-sound .ensures))))
     (λ c. all-end _ (c .before .loop .j) lineCount (c .before .loop .inv .0) (c .loop-test .left) (c .before .loop .inv .1)))

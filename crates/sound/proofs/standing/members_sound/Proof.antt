@@ -18,6 +18,16 @@ Inv-loop tasks swis lines ok₀ j₀ ok j =
 abbrev μ-loop : tie.MeasureT-loop
 μ-loop tasks swis lines ok₀ j₀ ok j = lineCount - j
 
+-- ---- what the steps ask, and what is known answers
+at-home-requires : tie.Need-at-home-requires Inv-loop μ-loop
+at-home-requires c κs = search needs
+
+add-j : tie.Need-add-j Inv-loop μ-loop
+add-j c = search needs
+
+loop-less : tie.Need-loop-less Inv-loop μ-loop
+loop-less c = search needs
+
 pub members-sound-spec : {M : Type 1} → statement M
 members-sound-spec =
     tie.close
@@ -25,8 +35,8 @@ members-sound-spec =
     Inv-loop
     μ-loop
     (λ c. (search needs, sym (all-none _)))
-    (λ c κs. search needs)
-    (λ c. search needs)
-    (λ c. search needs)
+    at-home-requires
+    add-j
+    loop-less
     (λ c. (search needs, all-step _ _ (c .before .before .loop .inv .1) (rw (c .at-home .ensures, Bool·not-not))))
     (λ c. all-end _ (c .before .loop .j) lineCount (c .before .loop .inv .0) (c .loop-test .left) (c .before .loop .inv .1)))

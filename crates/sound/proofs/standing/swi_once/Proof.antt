@@ -18,6 +18,19 @@ Inv-loop swis lines ok₀ i₀ ok i =
 abbrev μ-loop : tie.MeasureT-loop
 μ-loop swis lines ok₀ i₀ ok i = swiCount - i
 
+-- ---- what the steps ask, and what is known answers
+swi-home-requires : tie.Need-swi-home-requires Inv-loop μ-loop
+swi-home-requires c κs = search needs
+
+stands-once-requires : tie.Need-stands-once-requires Inv-loop μ-loop
+stands-once-requires c κs = search needs
+
+add-i : tie.Need-add-i Inv-loop μ-loop
+add-i c = search needs
+
+loop-less : tie.Need-loop-less Inv-loop μ-loop
+loop-less c = search needs
+
 pub swi-once-spec : {M : Type 1} → statement M
 swi-once-spec =
     tie.close
@@ -25,10 +38,10 @@ swi-once-spec =
     Inv-loop
     μ-loop
     (λ c. (search needs, sym (all-none _)))
-    (λ c κs. search needs)
-    (λ c κs. search needs)
-    (λ c. search needs)
-    (λ c. search needs)
+    swi-home-requires
+    stands-once-requires
+    add-i
+    loop-less
     (λ c.
     let at-home = c .before in
     let at-loop = at-home .before .before .loop in

@@ -18,6 +18,19 @@ Inv-loop tasks lines ok₀ i₀ ok i =
 abbrev μ-loop : tie.MeasureT-loop
 μ-loop tasks lines ok₀ i₀ ok i = taskCount - i
 
+-- ---- what the steps ask, and what is known answers
+task-home-requires : tie.Need-task-home-requires Inv-loop μ-loop
+task-home-requires c κs = search needs
+
+stands-once-requires : tie.Need-stands-once-requires Inv-loop μ-loop
+stands-once-requires c κs = search needs
+
+add-i : tie.Need-add-i Inv-loop μ-loop
+add-i c = search needs
+
+loop-less : tie.Need-loop-less Inv-loop μ-loop
+loop-less c = search needs
+
 pub task-once-spec : {M : Type 1} → statement M
 task-once-spec =
     tie.close
@@ -25,10 +38,10 @@ task-once-spec =
     Inv-loop
     μ-loop
     (λ c. (search needs, sym (all-none _)))
-    (λ c κs. search needs)
-    (λ c κs. search needs)
-    (λ c. search needs)
-    (λ c. search needs)
+    task-home-requires
+    stands-once-requires
+    add-i
+    loop-less
     (λ c.
     let at-home = c .before in
     let at-loop = at-home .before .before .loop in

@@ -14,20 +14,42 @@ Inv-loop lines j x n m₀ k₀ m k = (n ≤ lineMost) × Counted x (line lines j
 abbrev μ-loop : tie.MeasureT-loop
 μ-loop lines j x n m₀ k₀ m k = n - k
 
+-- ---- what the steps ask, and what is known answers
+len-requires : tie.Need-len-requires Inv-loop μ-loop
+len-requires c κs = search needs
+
+member-requires : tie.Need-member-requires Inv-loop μ-loop
+member-requires c κs = search needs
+
+wide-requires : tie.Need-wide-requires Inv-loop μ-loop
+wide-requires c κs = search needs
+
+bit-requires : tie.Need-bit-requires Inv-loop μ-loop
+bit-requires c κs = search needs
+
+add-m : tie.Need-add-m Inv-loop μ-loop
+add-m c = search needs
+
+add-k : tie.Need-add-k Inv-loop μ-loop
+add-k c = search needs
+
+loop-less : tie.Need-loop-less Inv-loop μ-loop
+loop-less c = search needs
+
 pub times-spec : {M : Type 1} → statement M
 times-spec =
     tie.close
     (tie.spec
     Inv-loop
     μ-loop
-    (λ c κs. search needs)
+    len-requires
     (λ c. (omega (arith, c .len .ensures, line-le (c .before .args .lines .now) (c .before .args .j)), counted-none _ _ (c .len .ensures)))
-    (λ c κs. search needs)
-    (λ c κs. search needs)
-    (λ c κs. search needs)
-    (λ c. search needs)
-    (λ c. search needs)
-    (λ c. search needs)
+    member-requires
+    wide-requires
+    bit-requires
+    add-m
+    add-k
+    loop-less
     (λ c.
     let at-wide = c .before in
     let at-member = at-wide .before in

@@ -71,14 +71,21 @@ accepted c =
       ne-eqb _ 16 (c .if4 .left),
     )
 
+-- ---- what the steps ask, and what is known answers
+unused-requires : tie.Need-unused-requires
+unused-requires c κs = search needs
+
+free-swi-requires : tie.Need-free-swi-requires
+free-swi-requires c κs = search needs
+
 pub create-code-spec : {M : Type 1} → statement M
 create-code-spec =
     tie.close
     (tie.spec
     code-2
     code-4
-    (λ c κs. search needs)
+    unused-requires
     code-4-too
-    (λ c κs. search needs)
+    free-swi-requires
     code-6
     accepted)

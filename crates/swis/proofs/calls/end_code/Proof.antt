@@ -45,13 +45,20 @@ accepted c =
     let past = c .before .before in
     rw (may-call (from-2 past), good-arguments past, ne-eqb _ 0 (c .if3 .left))
 
+-- ---- what the steps ask, and what is known answers
+unused-requires : tie.Need-unused-requires
+unused-requires c κs = search needs
+
+element-copy-out-if3 : tie.Need-element-copy-out-if3
+element-copy-out-if3 c = search needs
+
 pub end-code-spec : {M : Type 1} → statement M
 end-code-spec =
     tie.close
     (tie.spec
     code-2
-    (λ c κs. search needs)
+    unused-requires
     code-4
-    (λ c. search needs)
+    element-copy-out-if3
     code-9
     accepted)

@@ -1,3 +1,4 @@
+-- `end_effect` meets its contract: the Swi that runs leaves the line of active ones, and its taken trigger is 0.
 use Rattle.rules.specs.Swis.{endEffect}
 use borrow.Author.Needs.{needs}
 use Rattle.swis.proofs.calls.end_effect.Statement.{statement}
@@ -12,13 +13,29 @@ returns c =
     let at-top = at-wide .before .before in
     rw (c .accepted .ensures, at-leave .leave .ensures, at-set-swi .set-swi .ensures, at-wide .wide .ensures .0, at-top .top .ensures)
 
+-- ---- what the steps ask, and what is known answers
+top-requires : tie.Need-top-requires
+top-requires c κs = search needs
+
+wide-requires : tie.Need-wide-requires
+wide-requires c κs = search needs
+
+set-swi-requires : tie.Need-set-swi-requires
+set-swi-requires c κs = search needs
+
+leave-requires : tie.Need-leave-requires
+leave-requires c κs = search needs
+
+accepted-requires : tie.Need-accepted-requires
+accepted-requires c κs = search needs
+
 pub end-effect-spec : {M : Type 1} → statement M
 end-effect-spec =
     tie.close
     (tie.spec
-    (λ c κs. search needs)
-    (λ c κs. search needs)
-    (λ c κs. search needs)
-    (λ c κs. search needs)
-    (λ c κs. search needs)
+    top-requires
+    wide-requires
+    set-swi-requires
+    leave-requires
+    accepted-requires
     returns)

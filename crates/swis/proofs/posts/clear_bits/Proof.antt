@@ -1,3 +1,4 @@
+-- `clear_bits` meets its contract: a code refuses; else the trigger is read, the mask's bits are cleared, and the Swi is posted if none is left.
 use Rattle.rules_laws.proofs.Calls.{refusal, effected}
 use borrow.Author.Needs.{needs}
 use Rattle.swis.proofs.posts.clear_bits.Statement.{statement}
@@ -5,18 +6,35 @@ use Rattle.swis.proofs.posts.clear_bits.Tie as tie
 
 returns-2 : tie.Need-returns-2
 returns-2 c =
-    let at-swi = c .before .before .before in
-    let at-test = at-swi .before .before in
+    let at-swi = c .before .before .before .before in
+    let at-test = at-swi .before .before .before in
     let at-mask-code = at-test .before in
     effected _ _ _ (at-mask-code .mask-code .ensures) (at-test .if1 .left) (rw (at-swi .swi .ensures) at (c .zero-effect .ensures))
+
+-- ---- what the steps ask, and what is known answers
+mask-code-requires : tie.Need-mask-code-requires
+mask-code-requires c κs = search needs
+
+refused-requires : tie.Need-refused-requires
+refused-requires c κs = search needs
+
+cast-swi : tie.Need-cast-swi
+cast-swi c = search needs
+
+swi-requires : tie.Need-swi-requires
+swi-requires c κs = search needs
+
+zero-effect-requires : tie.Need-zero-effect-requires
+zero-effect-requires c κs = search needs
 
 pub clear-bits-spec : {M : Type 1} → statement M
 clear-bits-spec =
     tie.close
     (tie.spec
-    (λ c κs. search needs)
-    (λ c κs. search needs)
+    mask-code-requires
+    refused-requires
     (λ c. refusal _ _ _ (c .before .before .mask-code .ensures) (c .before .if1 .taken) (c .refused .ensures))
-    (λ c κs. search needs)
-    (λ c κs. search needs)
+    cast-swi
+    swi-requires
+    zero-effect-requires
     returns-2)

@@ -22,17 +22,39 @@ returns-2 c =
     let a = at-row .before .args in
     posted-already (a .i) (a .swis .now) (a .lines .now) (at-row .if1 .taken) (at-swi .swi .ensures) (c .if2 .left)
 
+-- ---- what the steps ask, and what is known answers
+swi-requires : tie.Need-swi-requires
+swi-requires c κs = search needs
+
+swi-requires-2 : tie.Need-swi-requires-2
+swi-requires-2 c κs = search needs
+
+cast-priority : tie.Need-cast-priority
+cast-priority c = search needs
+
+set-swi-requires : tie.Need-set-swi-requires
+set-swi-requires c κs = search needs
+
+add-join : tie.Need-add-join
+add-join c = search needs
+
+cast-join : tie.Need-cast-join
+cast-join c = search needs
+
+join-requires : tie.Need-join-requires
+join-requires c κs = search needs
+
 pub post-swi-spec : {M : Type 1} → statement M
 post-swi-spec =
     tie.close
     (tie.spec
-    (λ c κs. search needs)
-    (λ c κs. search needs)
-    (λ c. search needs)
-    (λ c κs. search needs)
-    (λ c. search needs)
-    (λ c. search needs)
-    (λ c κs. search needs)
+    swi-requires
+    swi-requires-2
+    cast-priority
+    set-swi-requires
+    add-join
+    cast-join
+    join-requires
     returns
     returns-2
     (λ c. posted-none _ _ _ (c .if1 .left)))

@@ -1,3 +1,4 @@
+-- `zero_effect` meets its contract: the trigger is stored, and the Swi is posted exactly where it is 0.
 use Rattle.rules.specs.Swis.{changeEffect, zeroEffect}
 use borrow.Author.Tests.{eq-eqb, ne-eqb}
 use borrow.Author.Needs.{needs}
@@ -15,12 +16,22 @@ returns-2 c =
     let at-test = at-set-swi .before .before in
     rw (ne-eqb _ 0 (at-test .if1 .left), c .accepted .ensures, at-set-swi .set-swi .ensures)
 
+-- ---- what the steps ask, and what is known answers
+change-effect-requires : tie.Need-change-effect-requires
+change-effect-requires c κs = search needs
+
+set-swi-requires : tie.Need-set-swi-requires
+set-swi-requires c κs = search needs
+
+accepted-requires : tie.Need-accepted-requires
+accepted-requires c κs = search needs
+
 pub zero-effect-spec : {M : Type 1} → statement M
 zero-effect-spec =
     tie.close
     (tie.spec
-    (λ c κs. search needs)
+    change-effect-requires
     returns
-    (λ c κs. search needs)
-    (λ c κs. search needs)
+    set-swi-requires
+    accepted-requires
     returns-2)

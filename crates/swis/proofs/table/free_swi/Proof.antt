@@ -32,6 +32,16 @@ loop-again c =
     let at-loop = at-loop-test .before in
     (search needs, first-goes _ _ _ _ (at-loop-test .loop-test .taken) (zero-not (at-swi .swi .ensures) (c .if1 .left)) (at-loop .loop .inv .1))
 
+-- ---- what the steps ask, and what is known answers
+swi-requires : tie.Need-swi-requires Inv-loop μ-loop
+swi-requires c κs = search needs
+
+add-i : tie.Need-add-i Inv-loop μ-loop
+add-i c = search needs
+
+loop-less : tie.Need-loop-less Inv-loop μ-loop
+loop-less c = search needs
+
 pub free-swi-spec : {M : Type 1} → statement M
 unfolding freeSwi
 free-swi-spec =
@@ -40,9 +50,9 @@ free-swi-spec =
     Inv-loop
     μ-loop
     (λ c. (search needs, first-starts _ _))
-    (λ c κs. search needs)
+    swi-requires
     returns
-    (λ c. search needs)
-    (λ c. search needs)
+    add-i
+    loop-less
     loop-again
     (λ c. (first-none _ _ _ _ (c .loop-test .left) (c .before .loop .inv .0) (c .before .loop .inv .1), omega arith)))

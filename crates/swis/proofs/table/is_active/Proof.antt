@@ -49,6 +49,22 @@ returns-2 c =
     let a = at-len .before .args in
     active-none (a .lines .now) (a .i) (at-loop .loop .k) (at-len .len .ensures) (c .loop-test .left) (at-loop .loop .inv .1)
 
+-- ---- what the steps ask, and what is known answers
+len-requires : tie.Need-len-requires Inv-loop μ-loop
+len-requires c κs = search needs
+
+member-requires : tie.Need-member-requires Inv-loop μ-loop
+member-requires c κs = search needs
+
+wide-requires : tie.Need-wide-requires Inv-loop μ-loop
+wide-requires c κs = search needs
+
+add-k : tie.Need-add-k Inv-loop μ-loop
+add-k c = search needs
+
+loop-less : tie.Need-loop-less Inv-loop μ-loop
+loop-less c = search needs
+
 pub is-active-spec : {M : Type 1} → statement M
 unfolding count
 is-active-spec =
@@ -56,12 +72,12 @@ is-active-spec =
     (tie.spec
     Inv-loop
     μ-loop
-    (λ c κs. search needs)
+    len-requires
     (λ c. (search needs, refl))
-    (λ c κs. search needs)
-    (λ c κs. search needs)
+    member-requires
+    wide-requires
     returns
-    (λ c. search needs)
-    (λ c. search needs)
+    add-k
+    loop-less
     loop-again
     returns-2)

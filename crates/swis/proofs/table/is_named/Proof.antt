@@ -41,6 +41,16 @@ returns-2 c =
     let a = at-loop .before .args in
     ap not (all-end (notBy (a .clocks .now) (a .i)) (at-loop .loop .n) clockCount (at-loop .loop .inv .0) (c .loop-test .left) (sym (at-loop .loop .inv .1)))
 
+-- ---- what the steps ask, and what is known answers
+clock-requires : tie.Need-clock-requires Inv-loop μ-loop
+clock-requires c κs = search needs
+
+add-n : tie.Need-add-n Inv-loop μ-loop
+add-n c = search needs
+
+loop-less : tie.Need-loop-less Inv-loop μ-loop
+loop-less c = search needs
+
 pub is-named-spec : {M : Type 1} → statement M
 unfolding isNamed
 is-named-spec =
@@ -49,9 +59,9 @@ is-named-spec =
     Inv-loop
     μ-loop
     (λ c. (search needs, all-none _))
-    (λ c κs. search needs)
+    clock-requires
     returns
-    (λ c. search needs)
-    (λ c. search needs)
+    add-n
+    loop-less
     loop-again
     returns-2)

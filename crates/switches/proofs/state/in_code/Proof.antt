@@ -33,12 +33,19 @@ accepted c =
     let past = c .before .before in
     rw (good-arguments past, lt-ltb _ _ (c .if2 .left))
 
+-- ---- what the steps ask, and what is known answers
+unused-requires : tie.Need-unused-requires
+unused-requires c κs = search needs
+
+element-copy-out-if2 : tie.Need-element-copy-out-if2
+element-copy-out-if2 c = search needs
+
 pub in-code-spec : {M : Type 1} → statement M
 in-code-spec =
     tie.close
     (tie.spec
-    (λ c κs. search needs)
+    unused-requires
     code-4
-    (λ c. search needs)
+    element-copy-out-if2
     code-7
     accepted)

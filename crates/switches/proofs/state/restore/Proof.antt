@@ -12,8 +12,9 @@ returns c =
     let at-if1 = c .before in
     let at-code = at-if1 .before in
     let a = at-code .before .args in
+    let q = a .q in
     let st = a .state .now in
-    refusal st (restoreEffect st (a .which) (a .key)) (codeOf (restoreCases (a .x) (a .which) (a .key) (a .c) (a .d))) (at-code .restore-code .ensures)
+    refusal st (restoreEffect st (q .a) (q .b)) (codeOf (restoreCases (a .x) (q .a) (q .b) (q .c) (q .d))) (at-code .restore-code .ensures)
     (at-if1 .if1 .taken) (c .refused .ensures)
 
 returns-2 : tie.Need-returns-2
@@ -22,18 +23,32 @@ returns-2 c =
     let at-if1 = at-turn .before .before in
     let at-code = at-if1 .before in
     let a = at-code .before .args in
+    let q = a .q in
     let st = a .state .now in
-    let done = restored-is st (a .which) (a .key) (at-turn .turn .ensures) (c .accepted .ensures) in
-    effected st (restoreEffect st (a .which) (a .key)) (codeOf (restoreCases (a .x) (a .which) (a .key) (a .c) (a .d))) (at-code .restore-code .ensures)
+    let done = restored-is st (q .a) (q .b) (at-turn .turn .ensures) (c .accepted .ensures) in
+    effected st (restoreEffect st (q .a) (q .b)) (codeOf (restoreCases (a .x) (q .a) (q .b) (q .c) (q .d))) (at-code .restore-code .ensures)
     (at-if1 .if1 .left) done
+
+-- ---- what the steps ask, and what is known answers
+restore-code-requires : tie.Need-restore-code-requires
+restore-code-requires c κs = search needs
+
+refused-requires : tie.Need-refused-requires
+refused-requires c κs = search needs
+
+turn-requires : tie.Need-turn-requires
+turn-requires c κs = search needs
+
+accepted-requires : tie.Need-accepted-requires
+accepted-requires c κs = search needs
 
 pub restore-spec : {M : Type 1} → statement M
 restore-spec =
     tie.close
     (tie.spec
-    (λ c κs. search needs)
-    (λ c κs. search needs)
+    restore-code-requires
+    refused-requires
     returns
-    (λ c κs. search needs)
-    (λ c κs. search needs)
+    turn-requires
+    accepted-requires
     returns-2)

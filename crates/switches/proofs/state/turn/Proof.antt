@@ -25,14 +25,27 @@ returns-4 c =
     let none : bitAnd bits bothBits ≡ 0 = omega arith in
     rw (swis-named bits none, tasks-named bits none)
 
+-- ---- what the steps ask, and what is known answers
+element-write-state : tie.Need-element-write-state
+element-write-state c = search needs
+
+element-write-state-2 : tie.Need-element-write-state-2
+element-write-state-2 c = search needs
+
+element-write-state-3 : tie.Need-element-write-state-3
+element-write-state-3 c = search needs
+
+element-write-state-4 : tie.Need-element-write-state-4
+element-write-state-4 c = search needs
+
 pub turn-spec : {M : Type 1} → statement M
 turn-spec =
     tie.close
     (tie.spec
-    (λ c. search needs)
-    (λ c. search needs)
-    (λ c. search needs)
-    (λ c. search needs)
+    element-write-state
+    element-write-state-2
+    element-write-state-3
+    element-write-state-4
     returns
     returns-2
     returns-3

@@ -20,13 +20,26 @@ returns-2 c =
     clock-ticked (a .clocks .now) (a .swis .now) (a .lines .now) (a .n) (at-clock .clock .ensures) (at-age-one .age-one .ensures)
     (at-set-clock .set-clock .ensures) (c .post-if .ensures)
 
+-- ---- what the steps ask, and what is known answers
+clock-requires : tie.Need-clock-requires
+clock-requires c κs = search needs
+
+age-one-requires : tie.Need-age-one-requires
+age-one-requires c κs = search needs
+
+set-clock-requires : tie.Need-set-clock-requires
+set-clock-requires c κs = search needs
+
+post-if-requires : tie.Need-post-if-requires
+post-if-requires c κs = search needs
+
 pub clock-tick-spec : {M : Type 1} → statement M
 clock-tick-spec =
     tie.close
     (tie.spec
-    (λ c κs. search needs)
+    clock-requires
     returns
-    (λ c κs. search needs)
-    (λ c κs. search needs)
-    (λ c κs. search needs)
+    age-one-requires
+    set-clock-requires
+    post-if-requires
     returns-2)

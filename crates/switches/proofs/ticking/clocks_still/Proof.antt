@@ -36,6 +36,16 @@ returns c =
     let l = at-loop .loop in
     still-end (ticks (a .clocks .now)) (l .n) clockCount (l .left) (l .inv .0) (omega arith) (l .inv .1)
 
+-- ---- what the steps ask, and what is known answers
+clock-word-requires : tie.Need-clock-word-requires Inv-loop μ-loop
+clock-word-requires c κs = search needs
+
+add-n : tie.Need-add-n Inv-loop μ-loop
+add-n c = search needs
+
+loop-less : tie.Need-loop-less Inv-loop μ-loop
+loop-less c = search needs
+
 pub clocks-still-spec : {M : Type 1} → statement M
 unfolding clock
 clocks-still-spec =
@@ -44,8 +54,8 @@ clocks-still-spec =
     Inv-loop
     μ-loop
     (λ c. (omega arith, still-none (ticks (c .args .clocks .now))))
-    (λ c κs. search needs)
-    (λ c. search needs)
-    (λ c. search needs)
+    clock-word-requires
+    add-n
+    loop-less
     loop-again
     returns)

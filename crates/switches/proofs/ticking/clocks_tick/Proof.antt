@@ -45,17 +45,30 @@ returns-2 c =
     let l = at-loop .loop in
     rising-end clockTick (clockTables (a .clocks .now) (a .swis .now) (a .lines .now)) (l .n) clockCount (l .inv .0) (omega arith) (l .inv .1)
 
+-- ---- what the steps ask, and what is known answers
+clocks-still-requires : tie.Need-clocks-still-requires Inv-loop μ-loop
+clocks-still-requires c κs = search needs
+
+clock-tick-requires : tie.Need-clock-tick-requires Inv-loop μ-loop
+clock-tick-requires c κs = search needs
+
+add-n : tie.Need-add-n Inv-loop μ-loop
+add-n c = search needs
+
+loop-less : tie.Need-loop-less Inv-loop μ-loop
+loop-less c = search needs
+
 pub clocks-tick-spec : {M : Type 1} → statement M
 clocks-tick-spec =
     tie.close
     (tie.spec
     Inv-loop
     μ-loop
-    (λ c κs. search needs)
+    clocks-still-requires
     returns
     loop-holds
-    (λ c κs. search needs)
-    (λ c. search needs)
-    (λ c. search needs)
+    clock-tick-requires
+    add-n
+    loop-less
     loop-again
     returns-2)

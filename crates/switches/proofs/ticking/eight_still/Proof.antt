@@ -36,6 +36,22 @@ returns c =
     let l = at-loop .loop in
     still-end (ticks (a .tasks .now) (a .g)) (l .k) 8 (l .left) (l .inv .0) (omega arith) (l .inv .1)
 
+-- ---- what the steps ask, and what is known answers
+mul-at : tie.Need-mul-at Inv-loop μ-loop
+mul-at c = search needs
+
+add-task-word : tie.Need-add-task-word Inv-loop μ-loop
+add-task-word c = search needs
+
+task-word-requires : tie.Need-task-word-requires Inv-loop μ-loop
+task-word-requires c κs = search needs
+
+add-k : tie.Need-add-k Inv-loop μ-loop
+add-k c = search needs
+
+loop-less : tie.Need-loop-less Inv-loop μ-loop
+loop-less c = search needs
+
 pub eight-still-spec : {M : Type 1} → statement M
 unfolding task
 eight-still-spec =
@@ -43,11 +59,11 @@ eight-still-spec =
     (tie.spec
     Inv-loop
     μ-loop
-    (λ c. search needs)
+    mul-at
     (λ c. (omega arith, still-none (ticks (c .args .tasks .now) (c .args .g))))
-    (λ c. search needs)
-    (λ c κs. search needs)
-    (λ c. search needs)
-    (λ c. search needs)
+    add-task-word
+    task-word-requires
+    add-k
+    loop-less
     loop-again
     returns)

@@ -52,19 +52,38 @@ returns-2 c =
     let l = at-loop .loop in
     rising-end (from (a .g)) (taskQueues (a .tasks .now) (a .lines .now)) (l .k) 8 (l .inv .0) (omega arith) (l .inv .1)
 
+-- ---- what the steps ask, and what is known answers
+eight-still-requires : tie.Need-eight-still-requires Inv-loop μ-loop
+eight-still-requires c κs = search needs
+
+mul-at : tie.Need-mul-at Inv-loop μ-loop
+mul-at c = search needs
+
+add-task-tick : tie.Need-add-task-tick Inv-loop μ-loop
+add-task-tick c = search needs
+
+task-tick-requires : tie.Need-task-tick-requires Inv-loop μ-loop
+task-tick-requires c κs = search needs
+
+add-k : tie.Need-add-k Inv-loop μ-loop
+add-k c = search needs
+
+loop-less : tie.Need-loop-less Inv-loop μ-loop
+loop-less c = search needs
+
 pub eight-tick-spec : {M : Type 1} → statement M
 eight-tick-spec =
     tie.close
     (tie.spec
     Inv-loop
     μ-loop
-    (λ c κs. search needs)
+    eight-still-requires
     returns
-    (λ c. search needs)
+    mul-at
     loop-holds
-    (λ c. search needs)
-    (λ c κs. search needs)
-    (λ c. search needs)
-    (λ c. search needs)
+    add-task-tick
+    task-tick-requires
+    add-k
+    loop-less
     loop-again
     returns-2)

@@ -31,16 +31,35 @@ returns-3 c =
     task-aged (a .tasks .now) (a .lines .now) (a .i) (at-task-word .task-word .ensures) (at-some .if1 .left) (at-last .if2 .left)
     (at-task .task .ensures) (at-one-less .one-less .ensures) (c .set-task .ensures)
 
+-- ---- what the steps ask, and what is known answers
+task-word-requires : tie.Need-task-word-requires
+task-word-requires c κs = search needs
+
+task-requires : tie.Need-task-requires
+task-requires c κs = search needs
+
+ended-with-requires : tie.Need-ended-with-requires
+ended-with-requires c κs = search needs
+
+wake-requires : tie.Need-wake-requires
+wake-requires c κs = search needs
+
+one-less-requires : tie.Need-one-less-requires
+one-less-requires c κs = search needs
+
+set-task-requires : tie.Need-set-task-requires
+set-task-requires c κs = search needs
+
 pub task-tick-spec : {M : Type 1} → statement M
 task-tick-spec =
     tie.close
     (tie.spec
-    (λ c κs. search needs)
+    task-word-requires
     returns
-    (λ c κs. search needs)
-    (λ c κs. search needs)
-    (λ c κs. search needs)
+    task-requires
+    ended-with-requires
+    wake-requires
     returns-2
-    (λ c κs. search needs)
-    (λ c κs. search needs)
+    one-less-requires
+    set-task-requires
     returns-3)

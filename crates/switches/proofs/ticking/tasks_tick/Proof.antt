@@ -32,6 +32,16 @@ returns c =
     let l = at-loop .loop in
     rising-end taskTick (taskQueues (a .tasks .now) (a .lines .now)) (l .g * 8) taskCount (omega arith) (omega arith) (l .inv .1)
 
+-- ---- what the steps ask, and what is known answers
+eight-tick-requires : tie.Need-eight-tick-requires Inv-loop μ-loop
+eight-tick-requires c κs = search needs
+
+add-g : tie.Need-add-g Inv-loop μ-loop
+add-g c = search needs
+
+loop-less : tie.Need-loop-less Inv-loop μ-loop
+loop-less c = search needs
+
 pub tasks-tick-spec : {M : Type 1} → statement M
 tasks-tick-spec =
     tie.close
@@ -39,8 +49,8 @@ tasks-tick-spec =
     Inv-loop
     μ-loop
     (λ c. (omega arith, sym (rising-none taskTick (taskQueues (c .args .tasks .now) (c .args .lines .now)))))
-    (λ c κs. search needs)
-    (λ c. search needs)
-    (λ c. search needs)
+    eight-tick-requires
+    add-g
+    loop-less
     loop-again
     returns)

@@ -54,15 +54,28 @@ accepted c =
     let past = c .before .before in
     rw (may-call (from-2 past), good-arguments past, ← (c .before .free-task .ensures .0), ne-eqb _ 32 (c .if3 .left))
 
+-- ---- what the steps ask, and what is known answers
+levels-requires : tie.Need-levels-requires
+levels-requires c κs = search needs
+
+is-priority-requires : tie.Need-is-priority-requires
+is-priority-requires c κs = search needs
+
+unused-requires : tie.Need-unused-requires
+unused-requires c κs = search needs
+
+free-task-requires : tie.Need-free-task-requires
+free-task-requires c κs = search needs
+
 pub create-code-spec : {M : Type 1} → statement M
 create-code-spec =
     tie.close
     (tie.spec
     code-2
-    (λ c κs. search needs)
-    (λ c κs. search needs)
-    (λ c κs. search needs)
+    levels-requires
+    is-priority-requires
+    unused-requires
     code-4
-    (λ c κs. search needs)
+    free-task-requires
     code-6
     accepted)

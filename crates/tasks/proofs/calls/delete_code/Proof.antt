@@ -64,15 +64,25 @@ accepted c =
     let past = c .before in
     rw (may-call (from-2 (from-3 past)), in-use (from-3 past), good-arguments past, ← (from-3 past .before .task-word .ensures), c .if4 .left)
 
+-- ---- what the steps ask, and what is known answers
+task-word-requires : tie.Need-task-word-requires
+task-word-requires c κs = search needs
+
+absent-code-requires : tie.Need-absent-code-requires
+absent-code-requires c κs = search needs
+
+unused-requires : tie.Need-unused-requires
+unused-requires c κs = search needs
+
 pub delete-code-spec : {M : Type 1} → statement M
 delete-code-spec =
     tie.close
     (tie.spec
     code-2
-    (λ c κs. search needs)
-    (λ c κs. search needs)
+    task-word-requires
+    absent-code-requires
     code-3
-    (λ c κs. search needs)
+    unused-requires
     code-4
     code-5
     accepted)

@@ -14,19 +14,36 @@ returns c =
 returns-2 : tie.Need-returns-2
 returns-2 c =
     let at-task = c .before in
-    let at-test = at-task .before in
+    let at-test = at-task .before .before in
     let at-last-result-code = at-test .before in
     let args = at-last-result-code .before .args in
     λ ls. effected _ _ _ (at-last-result-code .last-result-code .ensures) (at-test .if1 .left)
-    (result-read (args .tasks .now) ls (args .a) (at-task .task .ensures) (c .accepted .ensures))
+    (result-read (args .tasks .now) ls (args .q .a) (at-task .task .ensures) (c .accepted .ensures))
+
+-- ---- what the steps ask, and what is known answers
+last-result-code-requires : tie.Need-last-result-code-requires
+last-result-code-requires c κs = search needs
+
+refused-requires : tie.Need-refused-requires
+refused-requires c κs = search needs
+
+cast-task : tie.Need-cast-task
+cast-task c = search needs
+
+task-requires : tie.Need-task-requires
+task-requires c κs = search needs
+
+accepted-requires : tie.Need-accepted-requires
+accepted-requires c κs = search needs
 
 pub last-result-spec : {M : Type 1} → statement M
 last-result-spec =
     tie.close
     (tie.spec
-    (λ c κs. search needs)
-    (λ c κs. search needs)
+    last-result-code-requires
+    refused-requires
     returns
-    (λ c κs. search needs)
-    (λ c κs. search needs)
+    cast-task
+    task-requires
+    accepted-requires
     returns-2)

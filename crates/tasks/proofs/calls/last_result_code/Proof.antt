@@ -37,13 +37,23 @@ accepted c =
     let past = c .before .before in
     rw (in-use past, ← (c .before .unused .ensures), c .if2 .left)
 
+-- ---- what the steps ask, and what is known answers
+task-word-requires : tie.Need-task-word-requires
+task-word-requires c κs = search needs
+
+absent-code-requires : tie.Need-absent-code-requires
+absent-code-requires c κs = search needs
+
+unused-requires : tie.Need-unused-requires
+unused-requires c κs = search needs
+
 pub last-result-code-spec : {M : Type 1} → statement M
 last-result-code-spec =
     tie.close
     (tie.spec
-    (λ c κs. search needs)
-    (λ c κs. search needs)
+    task-word-requires
+    absent-code-requires
     code-3
-    (λ c κs. search needs)
+    unused-requires
     code-4
     accepted)

@@ -32,16 +32,35 @@ returns-3 c =
     let args = at-task .before .before .args in
     same-priority (args .tasks .now) (args .lines .now) (args .a) (args .p) (at-task .task .ensures) (c .if1 .left)
 
+-- ---- what the steps ask, and what is known answers
+task-requires : tie.Need-task-requires
+task-requires c κs = search needs
+
+blocked-requires : tie.Need-blocked-requires
+blocked-requires c κs = search needs
+
+with-priority-requires : tie.Need-with-priority-requires
+with-priority-requires c κs = search needs
+
+set-task-requires : tie.Need-set-task-requires
+set-task-requires c κs = search needs
+
+placed-at-requires : tie.Need-placed-at-requires
+placed-at-requires c κs = search needs
+
+move-back-requires : tie.Need-move-back-requires
+move-back-requires c κs = search needs
+
 pub reprioritize-spec : {M : Type 1} → statement M
 reprioritize-spec =
     tie.close
     (tie.spec
-    (λ c κs. search needs)
-    (λ c κs. search needs)
-    (λ c κs. search needs)
-    (λ c κs. search needs)
-    (λ c κs. search needs)
-    (λ c κs. search needs)
+    task-requires
+    blocked-requires
+    with-priority-requires
+    set-task-requires
+    placed-at-requires
+    move-back-requires
     returns
     returns-2
     returns-3)

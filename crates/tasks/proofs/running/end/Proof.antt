@@ -9,12 +9,22 @@ returns-2 c =
     let at-end-code = at-test .before in
     effected _ _ _ (at-end-code .end-code .ensures) (at-test .if1 .left) (c .end-effect .ensures)
 
+-- ---- what the steps ask, and what is known answers
+end-code-requires : tie.Need-end-code-requires
+end-code-requires c κs = search needs
+
+refused-requires : tie.Need-refused-requires
+refused-requires c κs = search needs
+
+end-effect-requires : tie.Need-end-effect-requires
+end-effect-requires c κs = search needs
+
 pub end-spec : {M : Type 1} → statement M
 end-spec =
     tie.close
     (tie.spec
-    (λ c κs. search needs)
-    (λ c κs. search needs)
+    end-code-requires
+    refused-requires
     (λ c. refusal _ _ _ (c .before .before .end-code .ensures) (c .before .if1 .taken) (c .refused .ensures))
-    (λ c κs. search needs)
+    end-effect-requires
     returns-2)

@@ -1,3 +1,4 @@
+-- `end_effect` meets its contract: the current task's row is read, is that of an ended task now, and leaves its queue.
 use Rattle.tasks.proofs.RunningSteps.{current-moved}
 use Rattle.rules.specs.Tasks.{ended, endEffect}
 use borrow.Author.Needs.{needs}
@@ -15,14 +16,33 @@ returns c =
     current-moved (a .tasks .now) (a .lines .now) (a .state .now) ended 0 (at-current .current .ensures) (at-task .task .ensures)
     (at-ended .ended .ensures) (at-move-back .move-back .ensures) (c .accepted .ensures)
 
+-- ---- what the steps ask, and what is known answers
+current-requires : tie.Need-current-requires
+current-requires c κs = search needs
+
+cast-task : tie.Need-cast-task
+cast-task c = search needs
+
+task-requires : tie.Need-task-requires
+task-requires c κs = search needs
+
+ended-requires : tie.Need-ended-requires
+ended-requires c κs = search needs
+
+move-back-requires : tie.Need-move-back-requires
+move-back-requires c κs = search needs
+
+accepted-requires : tie.Need-accepted-requires
+accepted-requires c κs = search needs
+
 pub end-effect-spec : {M : Type 1} → statement M
 end-effect-spec =
     tie.close
     (tie.spec
-    (λ c κs. search needs)
-    (λ c. search needs)
-    (λ c κs. search needs)
-    (λ c κs. search needs)
-    (λ c κs. search needs)
-    (λ c κs. search needs)
+    current-requires
+    cast-task
+    task-requires
+    ended-requires
+    move-back-requires
+    accepted-requires
     returns)

@@ -21,14 +21,27 @@ returns-2 c =
     (current-moved (a .tasks .now) (a .lines .now) (a .state .now) (λ (k : Task). waiting k sleeping 0 (a .n) 0 0) 2 (at-current .current .ensures) refl refl
     (at-wait .wait .ensures) (c .accepted2 .ensures))
 
+-- ---- what the steps ask, and what is known answers
+accepted-requires : tie.Need-accepted-requires
+accepted-requires c κs = search needs
+
+current-requires : tie.Need-current-requires
+current-requires c κs = search needs
+
+wait-requires : tie.Need-wait-requires
+wait-requires c κs = search needs
+
+accepted-requires-2 : tie.Need-accepted-requires-2
+accepted-requires-2 c κs = search needs
+
 pub sleep-effect-spec : {M : Type 1} → statement M
 unfolding sleepEffect
 sleep-effect-spec =
     tie.close
     (tie.spec
-    (λ c κs. search needs)
+    accepted-requires
     (λ c. rw (eq-eqb _ 0 (c .before .if1 .taken), c .accepted .ensures))
-    (λ c κs. search needs)
-    (λ c κs. search needs)
-    (λ c κs. search needs)
+    current-requires
+    wait-requires
+    accepted-requires-2
     returns-2)

@@ -45,13 +45,20 @@ accepted c =
     let past = c .before .before in
     rw (may-call (from-2 past), good-arguments past, ← (c .before .switch-off .ensures), c .if3 .left)
 
+-- ---- what the steps ask, and what is known answers
+unused-requires : tie.Need-unused-requires
+unused-requires c κs = search needs
+
+switch-off-requires : tie.Need-switch-off-requires
+switch-off-requires c κs = search needs
+
 pub yield-code-spec : {M : Type 1} → statement M
 yield-code-spec =
     tie.close
     (tie.spec
     code-2
-    (λ c κs. search needs)
+    unused-requires
     code-4
-    (λ c κs. search needs)
+    switch-off-requires
     code-9
     accepted)

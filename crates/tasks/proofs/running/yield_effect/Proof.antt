@@ -1,3 +1,4 @@
+-- `yield_effect` meets its contract: the current task's row is read, and goes to the back of its queue as it is.
 use Rattle.tasks.proofs.RunningSteps.{current-moved}
 use Rattle.rules.specs.declared.Task.{Task}
 use mathlib.Core.Path.{refl}
@@ -16,13 +17,29 @@ returns c =
     current-moved (a .tasks .now) (a .lines .now) (a .state .now) (λ (k : Task). k) 0 (at-current .current .ensures) (at-task .task .ensures) refl
     (at-move-back .move-back .ensures) (c .accepted .ensures)
 
+-- ---- what the steps ask, and what is known answers
+current-requires : tie.Need-current-requires
+current-requires c κs = search needs
+
+cast-task : tie.Need-cast-task
+cast-task c = search needs
+
+task-requires : tie.Need-task-requires
+task-requires c κs = search needs
+
+move-back-requires : tie.Need-move-back-requires
+move-back-requires c κs = search needs
+
+accepted-requires : tie.Need-accepted-requires
+accepted-requires c κs = search needs
+
 pub yield-effect-spec : {M : Type 1} → statement M
 yield-effect-spec =
     tie.close
     (tie.spec
-    (λ c κs. search needs)
-    (λ c. search needs)
-    (λ c κs. search needs)
-    (λ c κs. search needs)
-    (λ c κs. search needs)
+    current-requires
+    cast-task
+    task-requires
+    move-back-requires
+    accepted-requires
     returns)

@@ -9,12 +9,22 @@ returns-2 c =
     let at-yield-code = at-test .before in
     effected _ _ _ (at-yield-code .yield-code .ensures) (at-test .if1 .left) (c .yield-effect .ensures)
 
+-- ---- what the steps ask, and what is known answers
+yield-code-requires : tie.Need-yield-code-requires
+yield-code-requires c κs = search needs
+
+refused-requires : tie.Need-refused-requires
+refused-requires c κs = search needs
+
+yield-effect-requires : tie.Need-yield-effect-requires
+yield-effect-requires c κs = search needs
+
 pub yield-task-spec : {M : Type 1} → statement M
 yield-task-spec =
     tie.close
     (tie.spec
-    (λ c κs. search needs)
-    (λ c κs. search needs)
+    yield-code-requires
+    refused-requires
     (λ c. refusal _ _ _ (c .before .before .yield-code .ensures) (c .before .if1 .taken) (c .refused .ensures))
-    (λ c κs. search needs)
+    yield-effect-requires
     returns-2)

@@ -38,6 +38,16 @@ loop-again c =
           (at-loop .loop .inv .1),
     )
 
+-- ---- what the steps ask, and what is known answers
+task-word-requires : tie.Need-task-word-requires Inv-loop μ-loop
+task-word-requires c κs = search needs
+
+add-i : tie.Need-add-i Inv-loop μ-loop
+add-i c = search needs
+
+loop-less : tie.Need-loop-less Inv-loop μ-loop
+loop-less c = search needs
+
 pub free-task-spec : {M : Type 1} → statement M
 unfolding freeTask task
 free-task-spec =
@@ -46,9 +56,9 @@ free-task-spec =
     Inv-loop
     μ-loop
     (λ c. (search needs, first-starts _ _))
-    (λ c κs. search needs)
+    task-word-requires
     returns
-    (λ c. search needs)
-    (λ c. search needs)
+    add-i
+    loop-less
     loop-again
     (λ c. (first-none _ _ _ _ (c .loop-test .left) (c .before .loop .inv .0) (c .before .loop .inv .1), search needs)))

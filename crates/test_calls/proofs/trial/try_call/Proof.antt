@@ -6,8 +6,9 @@ use Rattle.test_calls.proofs.trial.try_call.Tie as tie
 
 returns : tie.Need-returns
 returns c =
-    let at-call = c .before .before .before .before .before .before .before .before .before .before in
-    both-ways _ _ _ (at-call .call .ensures) (c .agrees-in-place .ensures)
+    let compared = c .before in
+    let in-place = compared .before in
+    both-ways _ _ _ (in-place .before .call .ensures) (in-place .call2 .ensures) (compared .agrees .ensures)
 
 pub try-call-spec : {M : Type 1} → statement M
-try-call-spec = tie.close (tie.spec (λ c κs. search needs) (λ c κs. search needs) returns)
+try-call-spec = tie.close (tie.spec (λ c κs. search needs) (λ c κs. search needs) (λ c κs. search needs) returns)

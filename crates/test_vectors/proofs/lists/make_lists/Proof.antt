@@ -6,10 +6,43 @@ use Rattle.test_vectors.proofs.lists.make_lists.Statement.{statement}
 use Rattle.test_vectors.proofs.lists.make_lists.Tie as tie
 
 abbrev Inv-loop : tie.InvT-loop
-Inv-loop levels calls most tasks₀ lines₀ semaphores₀ events₀ mailboxes₀ swis₀ clocks₀ heap₀ state₀ so-far₀ at₀ tasks lines semaphores events mailboxes swis clocks heap state so-far at = (at ≤ length calls) × (0 < most)
+Inv-loop levels calls most so-far₀ at₀ so-far at = (at ≤ length calls) × (0 < most)
 
 abbrev μ-loop : tie.MeasureT-loop
-μ-loop levels calls most tasks₀ lines₀ semaphores₀ events₀ mailboxes₀ swis₀ clocks₀ heap₀ state₀ so-far₀ at₀ tasks lines semaphores events mailboxes swis clocks heap state so-far at = length calls - at
+μ-loop levels calls most so-far₀ at₀ so-far at = length calls - at
+
+fresh-requires : tie.Need-fresh-requires Inv-loop μ-loop
+fresh-requires c κs = search needs
+
+loop-holds : tie.Need-loop-holds Inv-loop μ-loop
+loop-holds c = search needs
+
+end-of-requires : tie.Need-end-of-requires Inv-loop μ-loop
+end-of-requires c κs = search needs
+
+mul-make-list : tie.Need-mul-make-list Inv-loop μ-loop
+mul-make-list c = search needs
+
+sub-make-list : tie.Need-sub-make-list Inv-loop μ-loop
+sub-make-list c = search needs
+
+part-make-list-start : tie.Need-part-make-list-start Inv-loop μ-loop
+part-make-list-start c = search needs
+
+part-make-list-end : tie.Need-part-make-list-end Inv-loop μ-loop
+part-make-list-end c = search needs
+
+make-list-requires : tie.Need-make-list-requires Inv-loop μ-loop
+make-list-requires c κs = search needs
+
+loop-less : tie.Need-loop-less Inv-loop μ-loop
+loop-less c = search needs
+
+loop-again : tie.Need-loop-again Inv-loop μ-loop
+loop-again c = search needs
+
+returns : tie.Need-returns Inv-loop μ-loop
+returns c = search needs
 
 pub make-lists-spec : {M : Type 1} → statement M
 make-lists-spec =
@@ -17,14 +50,14 @@ make-lists-spec =
     (tie.spec
     Inv-loop
     μ-loop
-    (λ c κs. tt)
-    (λ c. search needs)
-    (λ c κs. search needs)
-    (λ c. search needs)
-    (λ c. search needs)
-    (λ c. search needs)
-    (λ c. search needs)
-    (λ c κs. tt)
-    (λ c. search needs)
-    (λ c. search needs)
-    (λ c. tt))
+    fresh-requires
+    loop-holds
+    end-of-requires
+    mul-make-list
+    sub-make-list
+    part-make-list-start
+    part-make-list-end
+    make-list-requires
+    loop-less
+    loop-again
+    returns)
