@@ -1,9 +1,56 @@
 // Makes the calls of the log on standard input with `step`, again and again, and prints a sum over all answers: for measuring.
 use call_lists::call_at;
 use pace_sums::Calls;
+use rules::Clocks;
+use rules::Events;
+use rules::Heap;
+use rules::Lines;
+use rules::Mailboxes;
+use rules::Semaphores;
+use rules::State;
+use rules::Swis;
+use rules::Tasks;
 use text::Text;
 ghost use Rattle.io.specs.Counts.{Counts};
 ghost use Rattle.tables.specs.Lent.{new};
+
+// The first n calls.
+fn make_calls(
+    tasks: &mut Tasks,
+    lines: &mut Lines,
+    semaphores: &mut Semaphores,
+    events: &mut Events,
+    mailboxes: &mut Mailboxes,
+    swis: &mut Swis,
+    clocks: &mut Clocks,
+    heap: &mut Heap,
+    state: &mut State,
+    calls: &Calls,
+    n: usize,
+    from: u32,
+) -> u32 {
+    let mut sum = from;
+    let mut k = 0;
+    while k < n {
+        let said = kernel::step(
+            tasks,
+            lines,
+            semaphores,
+            events,
+            mailboxes,
+            swis,
+            clocks,
+            heap,
+            state,
+            call_at(calls, k),
+        );
+        let answer = said.answer;
+        let thread = said.thread;
+        sum = pace_sums::add(sum, answer, thread);
+        k += 1;
+    }
+    sum
+}
 
 // All of them, from fresh tables of so many levels.
 fn one_round(levels: u32, calls: &Calls, n: usize, from: u32) -> u32 {
@@ -17,27 +64,20 @@ fn one_round(levels: u32, calls: &Calls, n: usize, from: u32) -> u32 {
     let mut clocks = fresh.clocks;
     let mut heap = fresh.heap;
     let mut state = fresh.state;
-    let mut sum = from;
-    let mut k = 0;
-    while k < n {
-        let said = kernel::step(
-            &mut tasks,
-            &mut lines,
-            &mut semaphores,
-            &mut events,
-            &mut mailboxes,
-            &mut swis,
-            &mut clocks,
-            &mut heap,
-            &mut state,
-            call_at(calls, k),
-        );
-        let answer = said.answer;
-        let thread = said.thread;
-        sum = pace_sums::add(sum, answer, thread);
-        k += 1;
-    }
-    sum
+    make_calls(
+        &mut tasks,
+        &mut lines,
+        &mut semaphores,
+        &mut events,
+        &mut mailboxes,
+        &mut swis,
+        &mut clocks,
+        &mut heap,
+        &mut state,
+        calls,
+        n,
+        from,
+    )
 }
 
 // How often the log is gone through, by the program's first argument.
