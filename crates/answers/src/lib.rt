@@ -1,4 +1,6 @@
 // Answers: of a refusal and of an accepted call, and the code and the value of a number that names nothing in use.
+#![tactic(auto)]
+
 ghost use Rattle.std.specs.Prelude.{◌≡◌};
 ghost use Rattle.rules.specs.Answer.{answer, absent_code, unused, named, table_of};
 

@@ -113,7 +113,7 @@ room n x xs lt out one low = at_most n (x ∷ xs) (λ y. ones y) (λ y. lows y)
     ones : (y : ℕ) → count y (x ∷ xs) ≤ 1
     ones y =
         ⊎_elim
-        (λ (e : x ≡ y). rw (eq-eqb x y e, ← e) (omega arith))
+        (λ (e : x ≡ y). rw (eq-eqb x y e) (omega (arith, out, ap (λ (z : ℕ). count z xs) e)))
         (λ (m : x ≢ y). rw (ne_eqb x y m) (omega (arith, one y)))
         (same? x y)
 

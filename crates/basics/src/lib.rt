@@ -1,4 +1,6 @@
 // What has no table: definitions (specs/) and laws (proofs/) on lists, searches and formulas; and numbers widened, one less, the smaller of two.
+#![tactic(auto)]
+
 ghost use Rattle.std.specs.Prelude.{◌≡◌, min, ◌<◌, ◌-◌};
 
 // The smaller of two.

@@ -1,8 +1,9 @@
 // A list of calls, five words to a call, and the list of their answers, three words to a call (request No. 4).
+#![tactic(auto)]
+
 ghost use Rattle.std.specs.Prelude.{◌≡◌, ◌+◌, min, take};
 ghost use Rattle.runs.specs.CallList.{bad_list};
 ghost use Rattle.call_lists.specs.CallLists.{call_at, answer_put, answer_at};
-ghost use Rattle.tables.specs.Lent.{old, new};
 
 use rules::{Answer, Call};
 
@@ -31,7 +32,7 @@ pub fn is_bad(words: usize, room: usize) -> bool
 
 // Call i of a list; past its last one a call with no call's number.
 pub fn call_at(calls: &[u32], i: usize) -> Call
-    ensures { result ≡ call_at (old calls) i }
+    ensures { result ≡ call_at calls.now i }
 {
     if calls.len() / CALL_WORDS <= i {
         return Call {
@@ -54,7 +55,7 @@ pub fn call_at(calls: &[u32], i: usize) -> Call
 
 // The answer to call i into its three words; no change where there is no room for three.
 pub fn put_answer(answers: &mut [u32], i: usize, answer: Answer)
-    ensures { new answers ≡ answer_put (old answers) i answer }
+    ensures { answers.new ≡ answer_put answers.old i answer }
 {
     if answers.len() / ANSWER_WORDS <= i {
         return;
@@ -67,7 +68,7 @@ pub fn put_answer(answers: &mut [u32], i: usize, answer: Answer)
 
 // The answer to call i as it stands in the list of answers; past the last one a code that no answer has.
 pub fn answer_at(answers: &[u32], i: usize) -> Answer
-    ensures { result ≡ answer_at (old answers) i }
+    ensures { result ≡ answer_at answers.now i }
 {
     if answers.len() / ANSWER_WORDS <= i {
         return Answer {
@@ -86,7 +87,7 @@ pub fn answer_at(answers: &[u32], i: usize) -> Answer
 
 // The first n words, as that part; all where there are fewer.
 pub fn front<'a>(words: &'a [u32], n: usize) -> &'a [u32]
-    ensures { (result.now ≡ take n (old words)) × (result.ref_ptr ≡ words.entry.ref_ptr) }
+    ensures { (result.now ≡ take n words.now) × (result.ref_ptr ≡ words.entry.ref_ptr) }
 {
     if n < words.len() {
         return &words[..n];

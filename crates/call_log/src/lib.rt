@@ -1,8 +1,9 @@
 // The call log: what stands at a position, and a record's arguments as a part of the log. Any bytes and any position get an answer.
+#![tactic(auto)]
+
 ghost use Rattle.std.specs.Prelude.{◌≡◌, ◌%◌, ◌^◌, ◌<◌, slice_index};
 ghost use Rattle.rules.specs.Log.{version_of, levels_for, is_version, half_at, word_at, read_in, read_at, argument, move_to};
 ghost use Rattle.call_log.specs.Part.{PartAt};
-ghost use Rattle.tables.specs.Lent.{old};
 
 use rules::Read;
 
@@ -24,7 +25,7 @@ fn wide(b: u8) -> u32
 
 // The byte at a place; 0 past the end.
 fn byte_at(s: &[u8], at: usize) -> u8
-    ensures { result ≡ slice_index (old s) at }
+    ensures { result ≡ slice_index s.now at }
 {
     if at < s.len() {
         return s[at];
@@ -34,7 +35,7 @@ fn byte_at(s: &[u8], at: usize) -> u8
 
 // Two bytes, big-endian.
 fn half_at(s: &[u8], at: usize) -> u32
-    ensures { (result ≡ half_at (old s) at) × (result < 65536) }
+    ensures { (result ≡ half_at s.now at) × (result < 65536) }
 {
     if at < s.len() {
         return wide(s[at]) * 256 + wide(byte_at(s, at + 1));
@@ -44,7 +45,7 @@ fn half_at(s: &[u8], at: usize) -> u32
 
 // Four bytes, big-endian.
 fn word_at(s: &[u8], at: usize) -> u32
-    ensures { result ≡ word_at (old s) at }
+    ensures { result ≡ word_at s.now at }
 {
     if at < s.len() {
         return half_at(s, at) * 65536 + half_at(s, at + 2);
@@ -54,7 +55,7 @@ fn word_at(s: &[u8], at: usize) -> u32
 
 // No. 14: 'The first record decides for the whole log': the version that it has; 0 where the log is too short to have one.
 pub fn version_of(log: &[u8]) -> u8
-    ensures { result ≡ version_of (old log) }
+    ensures { result ≡ version_of log.now }
 {
     byte_at(log, VERSION_AT)
 }
@@ -77,7 +78,7 @@ fn is_version(version: u8) -> bool
 
 // What stands at a position of a log, or of a part of a log; the version is that of the log's first record.
 pub fn read_in(log: &[u8], at: usize, version: u8) -> Read
-    ensures { result ≡ read_in version (old log) at }
+    ensures { result ≡ read_in version log.now at }
 {
     if log.len() < at {
         return Read::Cut(at);
@@ -105,7 +106,7 @@ pub fn read_in(log: &[u8], at: usize, version: u8) -> Read
 
 // What stands at a position of a log.
 pub fn read_at(log: &[u8], at: usize) -> Read
-    ensures { result ≡ read_at (old log) at }
+    ensures { result ≡ read_at log.now at }
 {
     read_in(log, at, version_of(log))
 }
@@ -127,7 +128,7 @@ pub fn arguments<'a>(log: &'a [u8], start: usize) -> &'a [u8]
 
 // Argument n of a record's argument bytes.
 pub fn argument(bytes: &[u8], n: usize) -> u32
-    ensures { result ≡ argument (old bytes) n }
+    ensures { result ≡ argument bytes.now n }
 {
     if n <= bytes.len() / 4 {
         return word_at(bytes, n * 4);

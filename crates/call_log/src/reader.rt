@@ -2,7 +2,6 @@
 ghost use Rattle.std.specs.Prelude.{◌≡◌};
 ghost use Rattle.rules.specs.Log.{read_in, read_at, move_to};
 ghost use Rattle.call_log.specs.Part.{PartAt};
-ghost use Rattle.tables.specs.Lent.{old, new};
 
 use rules::Read;
 
@@ -15,7 +14,7 @@ pub struct Step {
 
 // In a log, or in a part of a log; the version is that of the log's first record.
 pub fn step_in(log: &[u8], at: usize, version: u8) -> Step
-    ensures { (result.found ≡ read_in version (old log) at) × (result.at ≡ move_to result.found at) }
+    ensures { (result.found ≡ read_in version log.now at) × (result.at ≡ move_to result.found at) }
 {
     let found = super::read_in(log, at, version);
     let next = super::move_to(found, at);
@@ -27,7 +26,7 @@ pub fn step_in(log: &[u8], at: usize, version: u8) -> Step
 
 // In a log that is whole.
 pub fn step_at(log: &[u8], at: usize) -> Step
-    ensures { (result.found ≡ read_at (old log) at) × (result.at ≡ move_to result.found at) }
+    ensures { (result.found ≡ read_at log.now at) × (result.at ≡ move_to result.found at) }
 {
     step_in(log, at, super::version_of(log))
 }
@@ -48,8 +47,8 @@ impl<'a> Reader<'a> {
 
     // What stands at the position. Only a good record moves it.
     pub fn next<'s>(&'s mut self) -> Read
-        ensures { (result ≡ read_at (old self).log.now (old self).at)
-            × (((new self).log ≡ (old self).log) × ((new self).at ≡ move_to result (old self).at)) }
+        ensures { (result ≡ read_at self.old.log.now self.old.at)
+            × ((self.new.log ≡ self.old.log) × (self.new.at ≡ move_to result self.old.at)) }
     {
         let step = step_at(self.log, self.at);
         self.at = step.at;

@@ -2,7 +2,6 @@
 ghost use Rattle.std.specs.Prelude.{◌≡◌};
 ghost use Rattle.rules.specs.Clocks.{with_left};
 ghost use Rattle.rules.specs.Tick.{aged};
-ghost use Rattle.tables.specs.Lent.{old, new};
 
 use rules::{AgedClock, Clock};
 
@@ -45,7 +44,7 @@ pub fn aged(k: Clock) -> AgedClock
 
 // The same on a record that is lent: it is aged in place. True: its Swi is posted.
 pub fn age(k: &mut Clock) -> bool
-    ensures { (new k ≡ (aged (old k)).clock) × (result ≡ (aged (old k)).fired) }
+    ensures { (k.new ≡ (aged k.old).clock) × (result ≡ (aged k.old).fired) }
 {
     let older = aged(*k);
     *k = older.clock;

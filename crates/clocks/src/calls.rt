@@ -3,7 +3,6 @@ ghost use Rattle.std.specs.Prelude.{◌≡◌};
 ghost use Rattle.rules.specs.Answer.{with_answer, answered, code_of, ◌by◌};
 ghost use Rattle.rules.specs.Clocks.{create_cases, create_effect, delete_cases, delete_effect, start_stop_cases, start_effect, stop_effect, create_call, delete_call};
 ghost use Rattle.rules.specs.Clocks.{start_call, stop_call};
-ghost use Rattle.tables.specs.Lent.{old, new};
 
 use super::ageing::with_left;
 use super::table::free_clock;
@@ -15,7 +14,7 @@ use rules::{Answer, Call, Clock, Clocks, Swis};
 // ---- 50 create (Swi, first ticks, period)
 
 pub fn create_code(clocks: &Clocks, swis: &Swis, x: u32, a: u32, b: u32, d: u32) -> u32
-    ensures { result ≡ code_of (create_cases (old clocks) (old swis) x a b d) }
+    ensures { result ≡ code_of (create_cases clocks.now swis.now x a b d) }
 {
     if x != T {
         return 2;
@@ -34,7 +33,7 @@ pub fn create_code(clocks: &Clocks, swis: &Swis, x: u32, a: u32, b: u32, d: u32)
 
 // A new clock is stopped.
 pub fn create_effect(clocks: &mut Clocks, a: u32, b: u32, c: u32) -> Answer
-    ensures { with_answer result (new clocks) ≡ create_effect (old clocks) a b c }
+    ensures { with_answer result clocks.new ≡ create_effect clocks.old a b c }
 {
     let n = free_clock(clocks);
     let k = Clock {
@@ -49,7 +48,7 @@ pub fn create_effect(clocks: &mut Clocks, a: u32, b: u32, c: u32) -> Answer
 }
 
 pub fn create(clocks: &mut Clocks, swis: &Swis, x: u32, q: Call) -> Answer
-    ensures { with_answer result (new clocks) ≡ answered (old clocks) (create_call (old clocks) (old swis) x by q) }
+    ensures { with_answer result clocks.new ≡ answered clocks.old (create_call clocks.old swis.now x by q) }
 {
     let code = create_code(clocks, swis, x, q.a, q.b, q.d);
     if code != 0 {
@@ -61,7 +60,7 @@ pub fn create(clocks: &mut Clocks, swis: &Swis, x: u32, q: Call) -> Answer
 // ---- 51 delete
 
 pub fn delete_code(clocks: &Clocks, x: u32, a: u32, b: u32, c: u32, d: u32) -> u32
-    ensures { result ≡ code_of (delete_cases (old clocks) x a b c d) }
+    ensures { result ≡ code_of (delete_cases clocks.now x a b c d) }
 {
     if x != T {
         return 2;
@@ -77,7 +76,7 @@ pub fn delete_code(clocks: &Clocks, x: u32, a: u32, b: u32, c: u32, d: u32) -> u
 }
 
 pub fn delete_effect(clocks: &mut Clocks, a: u32) -> Answer
-    ensures { with_answer result (new clocks) ≡ delete_effect (old clocks) a }
+    ensures { with_answer result clocks.new ≡ delete_effect clocks.old a }
 {
     let none = Clock {
         used: 0,
@@ -91,7 +90,7 @@ pub fn delete_effect(clocks: &mut Clocks, a: u32) -> Answer
 }
 
 pub fn delete(clocks: &mut Clocks, x: u32, q: Call) -> Answer
-    ensures { with_answer result (new clocks) ≡ answered (old clocks) (delete_call (old clocks) x by q) }
+    ensures { with_answer result clocks.new ≡ answered clocks.old (delete_call clocks.old x by q) }
 {
     let code = delete_code(clocks, x, q.a, q.b, q.c, q.d);
     if code != 0 {
@@ -103,7 +102,7 @@ pub fn delete(clocks: &mut Clocks, x: u32, q: Call) -> Answer
 // ---- 52 start, 53 stop
 
 pub fn start_stop_code(clocks: &Clocks, a: u32, b: u32, c: u32, d: u32) -> u32
-    ensures { result ≡ code_of (start_stop_cases (old clocks) a b c d) }
+    ensures { result ≡ code_of (start_stop_cases clocks.now a b c d) }
 {
     let k = clock(clocks, a as usize);
     if k.used == 0 {
@@ -117,7 +116,7 @@ pub fn start_stop_code(clocks: &Clocks, a: u32, b: u32, c: u32, d: u32) -> u32
 
 // Start sets the first ticks again.
 pub fn start_effect(clocks: &mut Clocks, a: u32) -> Answer
-    ensures { with_answer result (new clocks) ≡ start_effect (old clocks) a }
+    ensures { with_answer result clocks.new ≡ start_effect clocks.old a }
 {
     let k = clock(clocks, a as usize);
     let started = with_left(k, k.first);
@@ -126,7 +125,7 @@ pub fn start_effect(clocks: &mut Clocks, a: u32) -> Answer
 }
 
 pub fn start(clocks: &mut Clocks, q: Call) -> Answer
-    ensures { with_answer result (new clocks) ≡ answered (old clocks) (start_call (old clocks) by q) }
+    ensures { with_answer result clocks.new ≡ answered clocks.old (start_call clocks.old by q) }
 {
     let code = start_stop_code(clocks, q.a, q.b, q.c, q.d);
     if code != 0 {
@@ -137,7 +136,7 @@ pub fn start(clocks: &mut Clocks, q: Call) -> Answer
 
 // A stopped clock has no ticks left.
 pub fn stop_effect(clocks: &mut Clocks, a: u32) -> Answer
-    ensures { with_answer result (new clocks) ≡ stop_effect (old clocks) a }
+    ensures { with_answer result clocks.new ≡ stop_effect clocks.old a }
 {
     let k = clock(clocks, a as usize);
     let stopped = with_left(k, 0);
@@ -146,7 +145,7 @@ pub fn stop_effect(clocks: &mut Clocks, a: u32) -> Answer
 }
 
 pub fn stop(clocks: &mut Clocks, q: Call) -> Answer
-    ensures { with_answer result (new clocks) ≡ answered (old clocks) (stop_call (old clocks) by q) }
+    ensures { with_answer result clocks.new ≡ answered clocks.old (stop_call clocks.old by q) }
 {
     let code = start_stop_code(clocks, q.a, q.b, q.c, q.d);
     if code != 0 {

@@ -1,4 +1,6 @@
 // The calls on clocks, 50 to 53.
+#![tactic(auto)]
+
 pub mod ageing;
 pub mod calls;
 pub mod table;
@@ -6,7 +8,6 @@ pub mod table;
 ghost use Rattle.std.specs.Prelude.{◌≡◌};
 ghost use Rattle.rules.specs.Answer.{with_answer, answered, ◌by◌};
 ghost use Rattle.rules.specs.Clocks.{clock_call};
-ghost use Rattle.tables.specs.Lent.{old, new};
 
 use answers::refused;
 use calls::{create, delete, start, stop};
@@ -15,7 +16,7 @@ use rules::{Answer, Call, Clocks, Swis};
 // ---- the calls by number
 
 pub fn clock_call(clocks: &mut Clocks, swis: &Swis, x: u32, q: Call) -> Answer
-    ensures { with_answer result (new clocks) ≡ answered (old clocks) (clock_call (old clocks) (old swis) x q.number by q) }
+    ensures { with_answer result clocks.new ≡ answered clocks.old (clock_call clocks.old swis.now x q.number by q) }
 {
     let number = q.number;
     match number {

@@ -1,7 +1,6 @@
 // The first clock that is free.
 ghost use Rattle.std.specs.Prelude.{◌≡◌, ◌≤◌};
 ghost use Rattle.rules.specs.Clocks.{free_clock};
-ghost use Rattle.tables.specs.Lent.{old};
 
 use rows::clock;
 use rules::Clocks;
@@ -9,7 +8,7 @@ use rules::numbers::CLOCK_ROWS;
 
 // The lowest free number; 16 where there is none.
 pub fn free_clock(clocks: &Clocks) -> usize
-    ensures { (result ≡ free_clock (old clocks)) × (result ≤ 16) }
+    ensures { (result ≡ free_clock clocks.now) × (result ≤ 16) }
 {
     let mut i = 0;
     while i < CLOCK_ROWS {

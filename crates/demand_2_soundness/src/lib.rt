@@ -1,1 +1,2 @@
 // That every call keeps sound tables sound: proofs alone, no code.
+#![tactic(auto)]

@@ -1,1 +1,2 @@
 // That a call leaves every other task its place: proofs alone, no code.
+#![tactic(auto)]

@@ -1,1 +1,2 @@
 // The customer's demands as theorems over the definitions: no code.
+#![tactic(auto)]

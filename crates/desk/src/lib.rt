@@ -1,8 +1,10 @@
 // The replay of a log that comes part by part, as text. The calls are made on lent tables, and of the log only the bytes of a record
 // that is not whole yet are kept.
+#![tactic(auto)]
+
 ghost use Rattle.std.specs.Prelude.{◌≡◌, ◌+◌, min, length, take, drop, ◌==◌};
 ghost use Rattle.std.proofs.lemmas.List.Edits.{sets};
-ghost use Rattle.tables.specs.Lent.{lent, old, new, tables_old, tables_new};
+ghost use Rattle.rules.specs.Tables.{tables};
 ghost use Rattle.desk_parts.specs.Part.{turn, start};
 ghost use Rattle.kernel.specs.Safe.{Safe};
 ghost use Rattle.desk.specs.Done.{come_to, progress_of, had, came, Turns};
@@ -16,7 +18,7 @@ pub type Part = [u8; 2560];
 
 // Of the first n bytes, those from `at` on to the front; how many they are.
 pub fn to_front(part: &mut [u8], at: usize, n: usize) -> usize
-    ensures { (new part ≡ sets (old part) 0 (drop at (take n (old part)))) × (result ≡ length (drop at (take n (old part)))) }
+    ensures { (part.new ≡ sets part.old 0 (drop at (take n part.old))) × (result ≡ length (drop at (take n part.old))) }
 {
     let end = basics::least(n, part.len());
     let mut from = at;
@@ -96,11 +98,11 @@ pub fn replay_part(
     p: Progress,
     out: &mut Text,
 ) -> Progress
-    requires { Safe (lent tasks lines semaphores events mailboxes swis clocks heap state) }
+    requires { Safe (tables tasks.old lines.old semaphores.old events.old mailboxes.old swis.old clocks.old heap.old state.old) }
     ensures turns { Turns
-        (turn (more == 0) (came part p more) (had (tables_old tasks lines semaphores events mailboxes swis clocks heap state) part out p))
-        (tables_new tasks lines semaphores events mailboxes swis clocks heap state) part out result }
-    ensures safe { Safe (tables_new tasks lines semaphores events mailboxes swis clocks heap state) }
+        (turn (more == 0) (came part p more) (had (tables tasks.old lines.old semaphores.old events.old mailboxes.old swis.old clocks.old heap.old state.old) part out p))
+        (tables tasks.new lines.new semaphores.new events.new mailboxes.new swis.new clocks.new heap.new state.new) part out result }
+    ensures safe { Safe (tables tasks.new lines.new semaphores.new events.new mailboxes.new swis.new clocks.new heap.new state.new) }
 {
     sized(*out);
     let n = end_of(p.held, more);

@@ -1,14 +1,13 @@
 // The last line of a replay: the end, or a fault and its place.
 ghost use Rattle.text.specs.Put.{Put};
 ghost use Rattle.desk_parts.specs.Part.{last_text};
-ghost use Rattle.tables.specs.Lent.{old, new};
 
 use rules::Read;
 use text::Text;
 
 // The last line, where something else than a record was found.
 pub fn put_last(out: &mut Text, at: usize, found: Read, offset: u64, n: u64) -> usize
-    ensures { Put (old out) at (last_text found offset n) (new out) result }
+    ensures { Put out.old at (last_text found offset n) out.new result }
 {
     match found {
         Read::Record {

@@ -1,4 +1,6 @@
 // One read of a log that comes part by part: a record's call on lent tables and its line, or the last line.
+#![tactic(auto)]
+
 pub mod last;
 
 ghost use Rattle.std.specs.Prelude.{◌≡◌, true, ◌++◌, length};
@@ -11,7 +13,7 @@ ghost use Rattle.desk_parts.specs.Part.{version_by, begun_state, last_text};
 ghost use Rattle.kernel.specs.Safe.{Safe};
 ghost use Rattle.desk_reads.specs.Next.{call_in, replayed_to, replay_step, next_step};
 ghost use Rattle.desk_reads.specs.Done.{place_at, read_result, ReadLeaves};
-ghost use Rattle.tables.specs.Lent.{old, new, tables_old, tables_new, lent};
+ghost use Rattle.rules.specs.Tables.{tables};
 
 use kernel::Said;
 use rules::{
@@ -23,7 +25,7 @@ use text::Text;
 // No. 14: 'The first record decides for the whole log'. As long as no record was read, these bytes
 // are the log's beginning: if its version is there and is 2, the tables get 32 levels.
 pub fn begin(state: &mut State, log: &[u8], count: u64)
-    ensures { new state ≡ begun_state count (old log) (old state) }
+    ensures { state.new ≡ begun_state count log.now state.old }
 {
     if (count == 0) & (call_log::version_of(log) == call_log::SECOND_EDITION) {
         state[rules::numbers::LEVELS] = rules::numbers::MOST_LEVELS;
@@ -32,7 +34,7 @@ pub fn begin(state: &mut State, log: &[u8], count: u64)
 
 // The version that a record of the log must have, by the levels of its tables.
 pub fn version_by(state: &State) -> u8
-    ensures { result ≡ version_by (old state) }
+    ensures { result ≡ version_by state.now }
 {
     if rows::readings::levels(state) == rules::numbers::MOST_LEVELS {
         return call_log::SECOND_EDITION;
@@ -42,7 +44,7 @@ pub fn version_by(state: &State) -> u8
 
 // The call of a record, by where its argument bytes start and its number.
 fn record_call(log: &[u8], start: usize, number: u8) -> Call
-    ensures { result ≡ call_in (handed_out (old log) start) number }
+    ensures { result ≡ call_in (handed_out log.now start) number }
 {
     let bytes = call_log::reader::read_arguments(log, start);
     Call {
@@ -112,11 +114,11 @@ pub fn next(
     log: &[u8],
     at: usize,
 ) -> Replayed
-    requires { Safe (lent tasks lines semaphores events mailboxes swis clocks heap state) }
-    ensures state_value { replay_step result (tables_new tasks lines semaphores events mailboxes swis clocks heap state)
-        ≡ next_step (read_in (version_by (old state)) (old log) at) (old log) at
-        (tables_old tasks lines semaphores events mailboxes swis clocks heap state) }
-    ensures safe { Safe (tables_new tasks lines semaphores events mailboxes swis clocks heap state) }
+    requires { Safe (tables tasks.old lines.old semaphores.old events.old mailboxes.old swis.old clocks.old heap.old state.old) }
+    ensures state_value { replay_step result (tables tasks.new lines.new semaphores.new events.new mailboxes.new swis.new clocks.new heap.new state.new)
+        ≡ next_step (read_in (version_by state.old) log.now at) log.now at
+        (tables tasks.old lines.old semaphores.old events.old mailboxes.old swis.old clocks.old heap.old state.old) }
+    ensures safe { Safe (tables tasks.new lines.new semaphores.new events.new mailboxes.new swis.new clocks.new heap.new state.new) }
 {
     let step = call_log::reader::step_in(log, at, version_by(state));
     let found = step.found;
@@ -132,7 +134,7 @@ pub fn next(
 
 // The line of record n, by what its call said.
 fn put_replayed(out: &mut Text, at: usize, n: u64, read: Replayed) -> usize
-    ensures { Put (old out) at (line_text n read.answer read.thread ++ line_feed) (new out) result }
+    ensures { Put out.old at (line_text n read.answer read.thread ++ line_feed) out.new result }
 {
     let answer = read.answer;
     let thread = read.thread;
@@ -161,8 +163,8 @@ pub fn place_at(at: usize, count: u64, len: usize, ended: bool) -> PartPlace
 
 // The replay ends at what was found, which is no record.
 fn ended_at(log: &[u8], found: Read, offset: u64, ran: PartPlace, out: &mut Text) -> PartPlace
-    ensures { Put (old out) ran.len (last_text found offset ran.count) (new out) result.len
-        × (result ≡ place_at (length (old log)) ran.count result.len true) }
+    ensures { Put out.old ran.len (last_text found offset ran.count) out.new result.len
+        × (result ≡ place_at (length log.now) ran.count result.len true) }
 {
     let len = last::put_last(out, ran.len, found, offset, ran.count);
     place_at(log.len(), ran.count, len, true)
@@ -184,12 +186,12 @@ pub fn next_line(
     ran: PartPlace,
     out: &mut Text,
 ) -> PartPlace
-    requires { Safe (lent tasks lines semaphores events mailboxes swis clocks heap state) }
+    requires { Safe (tables tasks.old lines.old semaphores.old events.old mailboxes.old swis.old clocks.old heap.old state.old) }
     ensures read_leaves { ReadLeaves
-        (read_result (read_in (version_by (old state)) (old log) ran.at) (old log) offset ran.count
-        (tables_old tasks lines semaphores events mailboxes swis clocks heap state))
-        (tables_new tasks lines semaphores events mailboxes swis clocks heap state) (old out) ran.len (new out) result }
-    ensures safe { Safe (tables_new tasks lines semaphores events mailboxes swis clocks heap state) }
+        (read_result (read_in (version_by state.old) log.now ran.at) log.now offset ran.count
+        (tables tasks.old lines.old semaphores.old events.old mailboxes.old swis.old clocks.old heap.old state.old))
+        (tables tasks.new lines.new semaphores.new events.new mailboxes.new swis.new clocks.new heap.new state.new) out.old ran.len out.new result }
+    ensures safe { Safe (tables tasks.new lines.new semaphores.new events.new mailboxes.new swis.new clocks.new heap.new state.new) }
 {
     let read = next(
         tasks, lines, semaphores, events, mailboxes, swis, clocks, heap, state, log, ran.at,

@@ -1,15 +1,16 @@
 // The replay of a log that is whole in memory, as text in a lent buffer. It goes by the turns of `desk`, as that of a log that is read does.
+#![tactic(auto)]
+
 ghost use Rattle.std.specs.Prelude.{◌≡◌, ◌+◌, length, take, drop};
 ghost use Rattle.text.specs.Put.{PutIn};
 ghost use Rattle.desk_whole.specs.Printed.{Printed};
-ghost use Rattle.tables.specs.Lent.{old, new};
 
 use desk::Part;
 use text::Text;
 
 // The log from a place on.
 fn rest<'a>(log: &'a [u8], from: usize) -> &'a [u8]
-    ensures { result.now ≡ drop from (old log) }
+    ensures { result.now ≡ drop from log.now }
 {
     if from < log.len() {
         return &log[from..];
@@ -20,14 +21,14 @@ fn rest<'a>(log: &'a [u8], from: usize) -> &'a [u8]
 
 // The next part of the log, from a place on: as much as has room behind the bytes that wait; how many bytes came.
 fn next_part(part: &mut Part, held: usize, log: &[u8], from: usize) -> usize
-    ensures { PutIn 2560 (old part) held (drop from (old log)) (new part) (held + result) }
+    ensures { PutIn 2560 part.old held (drop from log.now) part.new (held + result) }
 {
     text::put_in(part, held, rest(log, from)) - held
 }
 
 // The text of a turn behind those before it, as far as it fits.
 fn put_turn(out: &mut [u8], at: usize, text: &Text, len: usize) -> usize
-    ensures { PutIn (length (old out)) (old out) at (take len (old text)) (new out) result }
+    ensures { PutIn (length out.old) out.old at (take len text.now) out.new result }
 {
     text::put_in(out, at, text::front(text, len))
 }
@@ -35,7 +36,7 @@ fn put_turn(out: &mut [u8], at: usize, text: &Text, len: usize) -> usize
 // Replays a log, part by part, until nothing more comes or it has ended at a fault: its text stands in front of the buffer then, as far as it fits.
 // Answers how many bytes were put.
 pub fn replay_log(log: &[u8], out: &mut [u8]) -> usize
-    ensures { Printed (old log) (old out) (new out) result }
+    ensures { Printed log.now out.old out.new result }
 {
     let fresh = entries::fresh(rules::numbers::FEW_LEVELS).tables;
     let mut tasks = fresh.tasks;

@@ -6,7 +6,6 @@ ghost use Rattle.basics.specs.Find.{word_below, highest_below};
 ghost use Rattle.rules.specs.Tables.{levels};
 ghost use Rattle.rules.specs.Lines.{anyone, ready_line};
 ghost use Rattle.rules.specs.Dispatch.{highest_posted, active_level, swi_due, highest_ready, front, task_due};
-ghost use Rattle.tables.specs.Lent.{old};
 
 use lines::anyone;
 use rules::numbers::{
@@ -22,7 +21,7 @@ const WORD_BITS: usize = 32;
 
 // One more than the highest priority at which a Swi is posted; 0 where none is.
 pub fn highest_posted(lines: &Lines) -> usize
-    ensures { (result ≡ highest_posted (old lines)) × (result ≤ 16) }
+    ensures { (result ≡ highest_posted lines.now) × (result ≤ 16) }
 {
     let mut level = SWI_QUEUES;
     while 0 < level {
@@ -36,7 +35,7 @@ pub fn highest_posted(lines: &Lines) -> usize
 
 // 1 where nobody stands in line j, else 0.
 fn empty(lines: &Lines, j: usize) -> u32
-    ensures { (result ≡ bit (not (anyone (old lines) j))) × (result ≤ 1) }
+    ensures { (result ≡ bit (not (anyone lines.now j))) × (result ≤ 1) }
 {
     if anyone(lines, j) {
         return 0;
@@ -60,7 +59,7 @@ fn ones(n: usize) -> u32
 // it leaves. For a fixed n of up to 16 that compiles to no branch, and to fewer instructions than
 // if a bit were put in for each queue that is not empty.
 fn ready_queues(lines: &Lines, from: u8, n: usize) -> u32
-    ensures { result ≡ word_below (min n 32) (λ p. anyone (old lines) (ready_line (from + p))) }
+    ensures { result ≡ word_below (min n 32) (λ p. anyone lines.now (ready_line (from + p))) }
 {
     let first = basics::wide(from);
     let mut empties = 0;
@@ -75,7 +74,7 @@ fn ready_queues(lines: &Lines, from: u8, n: usize) -> u32
 // Of these queues, one more than the place of the highest that is not empty; 0 where all are.
 // No. 6: 'find the top one by the count of leading zeros'.
 fn highest_from(lines: &Lines, from: u8, n: usize) -> usize
-    ensures { (result ≡ highest_below (min n 32) (λ p. anyone (old lines) (ready_line (from + p)))) × (result ≤ min n 32) }
+    ensures { (result ≡ highest_below (min n 32) (λ p. anyone lines.now (ready_line (from + p)))) × (result ≤ min n 32) }
 {
     WORD_BITS - u32::leading_zeros(ready_queues(lines, from, n)) as usize
 }
@@ -83,7 +82,7 @@ fn highest_from(lines: &Lines, from: u8, n: usize) -> usize
 // One more than the highest priority at which a task is ready; 0 where none is. With 32 levels the
 // upper half is searched first: a search of sixteen queues compiles to no loop.
 pub fn highest_ready(lines: &Lines, state: &State) -> usize
-    ensures { (result ≡ highest_ready (levels (old state)) (old lines)) × (result ≤ 32) }
+    ensures { (result ≡ highest_ready (levels state.now) lines.now) × (result ≤ 32) }
 {
     if state[LEVELS] != rules::numbers::MOST_LEVELS {
         return highest_from(lines, 0, FEW_QUEUES);
@@ -97,7 +96,7 @@ pub fn highest_ready(lines: &Lines, state: &State) -> usize
 
 // One more than the top active Swi's priority; 0 where none is active.
 pub fn active_level(swis: &Swis, lines: &Lines) -> usize
-    ensures { result ≡ active_level (old swis) (old lines) }
+    ensures { result ≡ active_level swis.now lines.now }
 {
     if anyone(lines, ACTIVE_LINE) {
         let i = basics::wide(lines::top(lines));
@@ -108,7 +107,7 @@ pub fn active_level(swis: &Swis, lines: &Lines) -> usize
 
 // At depth 0 with Swis on, the highest posted Swi is above the top active one, or none is active.
 pub fn swi_due(swis: &Swis, lines: &Lines, state: &State) -> bool
-    ensures { result ≡ swi_due (old swis) (old lines) (old state) }
+    ensures { result ≡ swi_due swis.now lines.now state.now }
 {
     if state[DEPTH] != 0 {
         return false;
@@ -121,7 +120,7 @@ pub fn swi_due(swis: &Swis, lines: &Lines, state: &State) -> bool
 
 // Depth 0, no Swi active and both switches on.
 pub fn task_due(lines: &Lines, state: &State) -> bool
-    ensures { result ≡ task_due (old lines) (old state) }
+    ensures { result ≡ task_due lines.now state.now }
 {
     if state[DEPTH] != 0 {
         return false;
@@ -134,7 +133,7 @@ pub fn task_due(lines: &Lines, state: &State) -> bool
 
 // The front of the highest non-empty ready queue; 0 where all are empty.
 pub fn front(lines: &Lines, state: &State) -> u8
-    ensures { result ≡ front (levels (old state)) (old lines) }
+    ensures { result ≡ front (levels state.now) lines.now }
 {
     let level = highest_ready(lines, state);
     if level == 0 {

@@ -1,9 +1,11 @@
 // Who runs, and what is done after each accepted call.
+#![tactic(auto)]
+
 pub mod due;
 
 ghost use Rattle.std.specs.Prelude.{◌≡◌};
 ghost use Rattle.rules.specs.Dispatch.{context, running, started, swi_dispatched, task_dispatched};
-ghost use Rattle.tables.specs.Lent.{old, new, swi_queues_old, swi_queues_new};
+ghost use Rattle.rules.specs.Swis.{swi_queues};
 
 use rules::numbers::{
     ACTIVE_LINE, CURRENT, DEPTH, I, INITIAL, POSTED, POSTED_LINES, S, T, TAKEN, TRIGGER,
@@ -12,7 +14,7 @@ use rules::{Lines, State, Swis, Thread};
 
 // The context of a call: 0 a task, 1 a Swi, 2 an interrupt.
 pub fn context(lines: &Lines, state: &State) -> u32
-    ensures { result ≡ context (old lines) (old state) }
+    ensures { result ≡ context lines.now state.now }
 {
     if 0 < state[DEPTH] {
         return I;
@@ -32,7 +34,7 @@ pub fn number(x: u8) -> u32
 
 // The running thread.
 pub fn running(lines: &Lines, state: &State) -> Thread
-    ensures { result ≡ running (old lines) (old state) }
+    ensures { result ≡ running lines.now state.now }
 {
     if 0 < state[DEPTH] {
         return Thread::Interrupt;
@@ -45,7 +47,7 @@ pub fn running(lines: &Lines, state: &State) -> Thread
 
 // Swi i, posted in line j, starts: its trigger is kept as taken and set back to its initial value.
 pub fn start(swis: &mut Swis, lines: &mut Lines, i: u8, j: usize)
-    ensures { swi_queues_new swis lines ≡ started i j (swi_queues_old swis lines) }
+    ensures { swi_queues swis.new lines.new ≡ started i j (swi_queues swis.old lines.old) }
 {
     let n = basics::wide(i);
     let trigger = rows::swi(swis, n, TRIGGER);
@@ -60,7 +62,7 @@ pub fn start(swis: &mut Swis, lines: &mut Lines, i: u8, j: usize)
 // The first Swi at the highest posted priority starts, if one is due. That is tested here and not by `due::swi_due`, so that the highest
 // priority is searched for once.
 pub fn dispatch_swis(swis: &mut Swis, lines: &mut Lines, state: &State)
-    ensures { swi_queues_new swis lines ≡ swi_dispatched (old state) (swi_queues_old swis lines) }
+    ensures { swi_queues swis.new lines.new ≡ swi_dispatched state.now (swi_queues swis.old lines.old) }
 {
     if state[DEPTH] != 0 {
         return;
@@ -78,7 +80,7 @@ pub fn dispatch_swis(swis: &mut Swis, lines: &mut Lines, state: &State)
 
 // The current task is the front of the highest ready queue, if tasks may be switched.
 pub fn dispatch_tasks(lines: &Lines, state: &mut State)
-    ensures { new state ≡ task_dispatched (old lines) (old state) }
+    ensures { state.new ≡ task_dispatched lines.now state.old }
 {
     if due::task_due(lines, state) {
         state[CURRENT] = number(due::front(lines, state));

@@ -1,8 +1,10 @@
 // Dispatch after a call on sound tables: each part of the rule where it can have something to do.
+#![tactic(auto)]
+
 ghost use Rattle.std.specs.Prelude.{◌≡◌, cond};
-ghost use Rattle.rules.specs.Dispatch.{swi_dispatched, task_dispatched};
+ghost use Rattle.rules.specs.Dispatch.{swi_dispatched, task_dispatched, dispatch_tables};
 ghost use Rattle.dispatch_after.specs.Settle.{tasks_only, both_parts, waits_or_wakes, mailbox_moves, left_by, settled_after};
-ghost use Rattle.tables.specs.Lent.{old, new, swi_queues_old, swi_queues_new, dispatch_tables_new};
+ghost use Rattle.rules.specs.Swis.{swi_queues};
 
 use rules::numbers::{DEPTH, NOT_MET, NOW_WAITING};
 use rules::{Answer, Lines, State, Swis};
@@ -72,7 +74,7 @@ fn left_by(number: u32, outcome: u32, value: u32) -> Parts
 // The Swis' part of dispatch, where one may be due. None is at depth above 0, as after each tick: there
 // no search begins.
 fn settle_swis(some: bool, swis: &mut Swis, lines: &mut Lines, state: &State)
-    ensures { swi_queues_new swis lines ≡ cond some (swi_dispatched (old state) (swi_queues_old swis lines)) (swi_queues_old swis lines) }
+    ensures { swi_queues swis.new lines.new ≡ cond some (swi_dispatched state.now (swi_queues swis.old lines.old)) (swi_queues swis.old lines.old) }
 {
     if some & (state[DEPTH] == 0) {
         dispatch::dispatch_swis(swis, lines, state);
@@ -81,7 +83,7 @@ fn settle_swis(some: bool, swis: &mut Swis, lines: &mut Lines, state: &State)
 
 // The tasks' part of dispatch, where one may be due.
 fn settle_tasks(some: bool, lines: &Lines, state: &mut State)
-    ensures { new state ≡ cond some (task_dispatched (old lines) (old state)) (old state) }
+    ensures { state.new ≡ cond some (task_dispatched lines.now state.old) state.old }
 {
     if some {
         dispatch::dispatch_tasks(lines, state);
@@ -90,7 +92,7 @@ fn settle_tasks(some: bool, lines: &Lines, state: &mut State)
 
 // Dispatch, after an accepted call only, as far as it can have something to do.
 pub fn settle(number: u32, answer: Answer, swis: &mut Swis, lines: &mut Lines, state: &mut State)
-    ensures { dispatch_tables_new swis lines state ≡ settled_after number answer (old swis) (old lines) (old state) }
+    ensures { dispatch_tables swis.new lines.new state.new ≡ settled_after number answer swis.old lines.old state.old }
 {
     let code = answer.code;
     if code != 0 {

@@ -1,5 +1,7 @@
 // The entries: any tables, any number, any arguments. What they promise of a call is `Promised`, and of a list of calls `PromisedList` (demands/specs): the
 // whole answer, demand 1, and from sound tables demand 2. On lent tables that is said by specs/InPlace.
+#![tactic(auto)]
+
 ghost use Rattle.std.specs.Prelude.{◌≡◌, ◌*◌, ◌≤◌, length};
 ghost use Rattle.rules.specs.Answer.{answer};
 ghost use Rattle.rules.specs.Fresh.{made_fresh};
@@ -11,7 +13,7 @@ ghost use Rattle.demands.specs.One.{thread_of};
 ghost use Rattle.demands.specs.Promised.{Promised};
 ghost use Rattle.kernel.specs.Safe.{Safe};
 ghost use Rattle.call_lists.specs.Made.{ListMade};
-ghost use Rattle.tables.specs.Lent.{old, new, tables_old, tables_new};
+ghost use Rattle.rules.specs.Tables.{tables};
 ghost use Rattle.entries.specs.InPlace.{PromisedInPlace, ListPromisedInPlace};
 
 use kernel::Said;
@@ -95,10 +97,10 @@ fn make_calls(
     calls: &[u32],
     answers: &mut [u32],
 )
-    ensures { Sound (tables_old tasks lines semaphores events mailboxes swis clocks heap state)
-        → calls_in (length (old calls)) * answer_words ≤ length (old answers)
-        → ListMade (tables_old tasks lines semaphores events mailboxes swis clocks heap state) (calls_of (old calls)) (old answers)
-        (tables_new tasks lines semaphores events mailboxes swis clocks heap state) (new answers) }
+    ensures { Sound (tables tasks.old lines.old semaphores.old events.old mailboxes.old swis.old clocks.old heap.old state.old)
+        → calls_in (length calls.now) * answer_words ≤ length answers.old
+        → ListMade (tables tasks.old lines.old semaphores.old events.old mailboxes.old swis.old clocks.old heap.old state.old) (calls_of calls.now) answers.old
+        (tables tasks.new lines.new semaphores.new events.new mailboxes.new swis.new clocks.new heap.new state.new) answers.new }
 {
     let n = calls.len() / call_lists::CALL_WORDS;
     let mut i = 0;
@@ -219,7 +221,7 @@ pub fn thread(
     heap: &Heap,
     state: &State,
 ) -> Thread
-    ensures { result ≡ thread_of (tables_old tasks lines semaphores events mailboxes swis clocks heap state) }
+    ensures { result ≡ thread_of (tables tasks.now lines.now semaphores.now events.now mailboxes.now swis.now clocks.now heap.now state.now) }
 {
     if sound::is_sound(
         tasks, lines, semaphores, events, mailboxes, swis, clocks, heap, state,

@@ -3,7 +3,6 @@ ghost use Rattle.std.specs.Prelude.{◌≡◌};
 ghost use Rattle.rules.specs.Answer.{with_answer, answered, code_of, ◌by◌};
 ghost use Rattle.rules.specs.Waits.{wait_tables};
 ghost use Rattle.rules.specs.Events.{create_cases, create_effect, delete_cases, delete_effect, create_call, delete_call};
-ghost use Rattle.tables.specs.Lent.{old, new};
 ghost use Rattle.rules.specs.Tables.{TaskTable, LineTable};
 
 use super::table::{free_event, put_event};
@@ -13,7 +12,7 @@ use rules::{Answer, Call, Events, Lines};
 // ---- 30: create
 
 pub fn create_code(events: &Events, x: u32, a: u32, b: u32, c: u32, d: u32) -> u32
-    ensures { result ≡ code_of (create_cases (old events) x a b c d) }
+    ensures { result ≡ code_of (create_cases events.now x a b c d) }
 {
     if x != T {
         return 2;
@@ -29,7 +28,7 @@ pub fn create_code(events: &Events, x: u32, a: u32, b: u32, c: u32, d: u32) -> u
 
 // The tasks and the lines stay, whatever they are.
 pub fn create_effect(events: &mut Events) -> Answer
-    ensures { (ts : TaskTable) (ls : LineTable) → with_answer result (wait_tables ts ls (new events)) ≡ create_effect (wait_tables ts ls (old events)) }
+    ensures { (ts : TaskTable) (ls : LineTable) → with_answer result (wait_tables ts ls events.new) ≡ create_effect (wait_tables ts ls events.old) }
 {
     let i = free_event(events);
     put_event(events, i, 1, 0);
@@ -37,8 +36,8 @@ pub fn create_effect(events: &mut Events) -> Answer
 }
 
 pub fn create(events: &mut Events, x: u32, q: Call) -> Answer
-    ensures { (ts : TaskTable) (ls : LineTable) → with_answer result (wait_tables ts ls (new events))
-        ≡ answered (wait_tables ts ls (old events)) (create_call (wait_tables ts ls (old events)) x by q) }
+    ensures { (ts : TaskTable) (ls : LineTable) → with_answer result (wait_tables ts ls events.new)
+        ≡ answered (wait_tables ts ls events.old) (create_call (wait_tables ts ls events.old) x by q) }
 {
     let code = create_code(events, x, q.a, q.b, q.c, q.d);
     if code != 0 {
@@ -50,7 +49,7 @@ pub fn create(events: &mut Events, x: u32, q: Call) -> Answer
 // ---- 31: delete
 
 pub fn delete_code(lines: &Lines, events: &Events, x: u32, a: u32, b: u32, c: u32, d: u32) -> u32
-    ensures { result ≡ code_of (delete_cases (old lines) (old events) x a b c d) }
+    ensures { result ≡ code_of (delete_cases lines.now events.now x a b c d) }
 {
     if x != T {
         return 2;
@@ -70,15 +69,15 @@ pub fn delete_code(lines: &Lines, events: &Events, x: u32, a: u32, b: u32, c: u3
 
 // The row is all 0.
 pub fn delete_effect(events: &mut Events, a: u32) -> Answer
-    ensures { (ts : TaskTable) (ls : LineTable) → with_answer result (wait_tables ts ls (new events)) ≡ delete_effect (wait_tables ts ls (old events)) a }
+    ensures { (ts : TaskTable) (ls : LineTable) → with_answer result (wait_tables ts ls events.new) ≡ delete_effect (wait_tables ts ls events.old) a }
 {
     put_event(events, a as usize, 0, 0);
     answers::accepted(DONE, 0)
 }
 
 pub fn delete(lines: &Lines, events: &mut Events, x: u32, q: Call) -> Answer
-    ensures { (ts : TaskTable) → with_answer result (wait_tables ts (old lines) (new events))
-        ≡ answered (wait_tables ts (old lines) (old events)) (delete_call (wait_tables ts (old lines) (old events)) x by q) }
+    ensures { (ts : TaskTable) → with_answer result (wait_tables ts lines.now events.new)
+        ≡ answered (wait_tables ts lines.now events.old) (delete_call (wait_tables ts lines.now events.old) x by q) }
 {
     let code = delete_code(lines, events, x, q.a, q.b, q.c, q.d);
     if code != 0 {

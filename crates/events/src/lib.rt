@@ -1,4 +1,6 @@
 // The calls on events, 30 to 33.
+#![tactic(auto)]
+
 pub mod calls;
 pub mod pends;
 pub mod posts;
@@ -7,7 +9,7 @@ pub mod table;
 ghost use Rattle.std.specs.Prelude.{◌≡◌};
 ghost use Rattle.rules.specs.Answer.{with_answer, answered, ◌by◌};
 ghost use Rattle.rules.specs.Events.{event_call};
-ghost use Rattle.tables.specs.Lent.{old, wait_tables_old, wait_tables_new};
+ghost use Rattle.rules.specs.Waits.{wait_tables};
 
 use rules::{Answer, Call, Events, Lines, State, Tasks};
 
@@ -20,8 +22,8 @@ pub fn event_call(
     x: u32,
     q: Call,
 ) -> Answer
-    ensures { with_answer result (wait_tables_new tasks lines events)
-        ≡ answered (wait_tables_old tasks lines events) (event_call (wait_tables_old tasks lines events) (old state) x q.number by q) }
+    ensures { with_answer result (wait_tables tasks.new lines.new events.new)
+        ≡ answered (wait_tables tasks.old lines.old events.old) (event_call (wait_tables tasks.old lines.old events.old) state.now x q.number by q) }
 {
     let number = q.number;
     match number {

@@ -3,14 +3,14 @@ ghost use Rattle.std.specs.Prelude.{◌≡◌};
 ghost use Rattle.rules.specs.Answer.{with_answer, answered, code_of, ◌by◌};
 ghost use Rattle.rules.specs.Tables.{event, BITS};
 ghost use Rattle.rules.specs.Events.{matched, pend_waits, pend_cases, pend_effect, pend_call};
-ghost use Rattle.tables.specs.Lent.{old, wait_tables_old, wait_tables_new};
+ghost use Rattle.rules.specs.Waits.{wait_tables};
 
 use rules::numbers::{AT_EVENT, BITS, DONE, EVENT_LINES, NOT_MET, NOW_WAITING, USED};
 use rules::{Answer, Call, Events, Lines, State, Tasks};
 
 // What of event a's posted bits matches these masks.
 pub fn event_match(events: &Events, a: u32, and_mask: u32, or_mask: u32) -> u32
-    ensures { result ≡ matched (event (old events) a BITS) and_mask or_mask }
+    ensures { result ≡ matched (event events.now a BITS) and_mask or_mask }
 {
     rows::readings::matched(rows::event(events, a as usize, BITS), and_mask, or_mask)
 }
@@ -19,13 +19,13 @@ pub fn event_match(events: &Events, a: u32, and_mask: u32, or_mask: u32) -> u32
 
 // The call would go on to wait.
 pub fn pend_waits(events: &Events, a: u32, b: u32, c: u32, limit: u32) -> bool
-    ensures { result ≡ pend_waits (old events) a b c limit }
+    ensures { result ≡ pend_waits events.now a b c limit }
 {
     (event_match(events, a, b, c) == 0) & (limit != 0)
 }
 
 pub fn pend_code(lines: &Lines, events: &Events, state: &State, x: u32, q: Call) -> u32
-    ensures { result ≡ code_of (pend_cases (old lines) (old events) (old state) x by q) }
+    ensures { result ≡ code_of (pend_cases lines.now events.now state.now x by q) }
 {
     if moves::begins::outside(x, q.d) {
         return 2;
@@ -55,7 +55,7 @@ pub fn pend_effect(
     c: u32,
     limit: u32,
 ) -> Answer
-    ensures { with_answer result (wait_tables_new tasks lines events) ≡ pend_effect (wait_tables_old tasks lines events) (old state) a b c limit }
+    ensures { with_answer result (wait_tables tasks.new lines.new events.new) ≡ pend_effect (wait_tables tasks.old lines.old events.old) state.now a b c limit }
 {
     let m = event_match(events, a, b, c);
     if m != 0 {
@@ -79,8 +79,8 @@ pub fn pend(
     x: u32,
     q: Call,
 ) -> Answer
-    ensures { with_answer result (wait_tables_new tasks lines events)
-        ≡ answered (wait_tables_old tasks lines events) (pend_call (wait_tables_old tasks lines events) (old state) x by q) }
+    ensures { with_answer result (wait_tables tasks.new lines.new events.new)
+        ≡ answered (wait_tables tasks.old lines.old events.old) (pend_call (wait_tables tasks.old lines.old events.old) state.now x by q) }
 {
     let code = pend_code(lines, events, state, x, q);
     if code != 0 {

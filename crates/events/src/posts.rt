@@ -2,14 +2,14 @@
 ghost use Rattle.std.specs.Prelude.{◌≡◌};
 ghost use Rattle.rules.specs.Answer.{with_answer, answered, code_of, ◌by◌};
 ghost use Rattle.rules.specs.Events.{waiter_match, posted_bits, post_cases, post_effect, post_call};
-ghost use Rattle.tables.specs.Lent.{old, wait_tables_old, wait_tables_new};
+ghost use Rattle.rules.specs.Waits.{wait_tables};
 
 use rules::numbers::{BITS, DONE, EVENT_LINES, USED};
 use rules::{Answer, Call, Events, Lines, Tasks};
 
 // What of these bits the waiter at event a matches; 0 where nobody waits.
 pub fn waiter_match(tasks: &Tasks, lines: &Lines, a: u32, bits: u32) -> u32
-    ensures { result ≡ waiter_match (old tasks) (old lines) a bits }
+    ensures { result ≡ waiter_match tasks.now lines.now a bits }
 {
     let j = EVENT_LINES + a as usize;
     if 0 < lines::len(lines, j) {
@@ -22,7 +22,7 @@ pub fn waiter_match(tasks: &Tasks, lines: &Lines, a: u32, bits: u32) -> u32
 // ---- 33: post, with a mask
 
 pub fn post_code(events: &Events, a: u32, c: u32, d: u32) -> u32
-    ensures { result ≡ code_of (post_cases (old events) a c d) }
+    ensures { result ≡ code_of (post_cases events.now a c d) }
 {
     if rows::event(events, a as usize, USED) == 0 {
         return answers::absent_code(a, rules::numbers::EVENT_COUNT);
@@ -41,7 +41,7 @@ pub fn post_bits(
     a: u32,
     bits: u32,
 ) -> Answer
-    ensures { with_answer result (wait_tables_new tasks lines events) ≡ posted_bits (wait_tables_old tasks lines events) a bits }
+    ensures { with_answer result (wait_tables tasks.new lines.new events.new) ≡ posted_bits (wait_tables tasks.old lines.old events.old) a bits }
 {
     let i = a as usize;
     let m = waiter_match(tasks, lines, a, bits);
@@ -60,15 +60,15 @@ pub fn post_effect(
     a: u32,
     mask: u32,
 ) -> Answer
-    ensures { with_answer result (wait_tables_new tasks lines events) ≡ post_effect (wait_tables_old tasks lines events) a mask }
+    ensures { with_answer result (wait_tables tasks.new lines.new events.new) ≡ post_effect (wait_tables tasks.old lines.old events.old) a mask }
 {
     let bits = rows::event(events, a as usize, BITS);
     post_bits(tasks, lines, events, a, bits | mask)
 }
 
 pub fn post(tasks: &mut Tasks, lines: &mut Lines, events: &mut Events, q: Call) -> Answer
-    ensures { with_answer result (wait_tables_new tasks lines events)
-        ≡ answered (wait_tables_old tasks lines events) (post_call (wait_tables_old tasks lines events) by q) }
+    ensures { with_answer result (wait_tables tasks.new lines.new events.new)
+        ≡ answered (wait_tables tasks.old lines.old events.old) (post_call (wait_tables tasks.old lines.old events.old) by q) }
 {
     let code = post_code(events, q.a, q.c, q.d);
     if code != 0 {

@@ -1,7 +1,6 @@
 // Units and blocks of the heap's map: how many units bytes take, how long a block is, a block marked.
 ghost use Rattle.std.specs.Prelude.{◌≡◌, ◌∷◌, ◌-◌, replicate};
 ghost use Rattle.rules.specs.Heap.{with_units, units_of, block_size, is_block};
-ghost use Rattle.tables.specs.Lent.{old, new};
 
 use super::free_units::adjacent;
 use rules::Heap;
@@ -18,7 +17,7 @@ pub fn units(bytes: u32) -> usize
 
 // The units of the block whose first is u: it, and those that follow as later ones.
 pub fn block_size(heap: &Heap, u: usize) -> usize
-    ensures { result ≡ block_size (old heap) u }
+    ensures { result ≡ block_size heap.now u }
 {
     if LAST_UNIT <= u {
         return 1;
@@ -29,7 +28,7 @@ pub fn block_size(heap: &Heap, u: usize) -> usize
 // The entries of n units from u on: the first one's, and the later ones'. Past the heap nothing
 // changes.
 pub fn mark(heap: &mut Heap, u: usize, n: usize, first: u8, later: u8)
-    ensures { new heap ≡ with_units (old heap) u (first ∷ replicate (n - 1) later) }
+    ensures { heap.new ≡ with_units heap.old u (first ∷ replicate (n - 1) later) }
 {
     if u < HEAP_UNITS {
         if n <= HEAP_UNITS - u {
@@ -45,7 +44,7 @@ pub fn mark(heap: &mut Heap, u: usize, n: usize, first: u8, later: u8)
 
 // A live block starts at byte a, and b bytes round up to its size.
 pub fn is_block(heap: &Heap, a: u32, b: u32) -> bool
-    ensures { result ≡ is_block (old heap) a b }
+    ensures { result ≡ is_block heap.now a b }
 {
     if a % UNIT_BYTES != 0 {
         return false;

@@ -1,7 +1,6 @@
 // Calls 60 and 61.
 ghost use Rattle.std.specs.Prelude.{◌≡◌};
 ghost use Rattle.rules.specs.Answer.{with_answer, answered};
-ghost use Rattle.tables.specs.Lent.{old, new};
 ghost use Rattle.rules.specs.Heap.{take_call, give_call};
 
 use super::blocks::{is_block, mark, units};
@@ -15,7 +14,7 @@ use rules::{Answer, Heap};
 // ---- 60 take (bytes)
 
 pub fn take(heap: &mut Heap, x: u32, a: u32, b: u32, c: u32, d: u32) -> Answer
-    ensures { with_answer result (new heap) ≡ answered (old heap) (take_call (old heap) x a b c d) }
+    ensures { with_answer result heap.new ≡ answered heap.old (take_call heap.old x a b c d) }
 {
     if x != T {
         return refused(2);
@@ -35,7 +34,7 @@ pub fn take(heap: &mut Heap, x: u32, a: u32, b: u32, c: u32, d: u32) -> Answer
 // ---- 61 give back (offset, bytes)
 
 pub fn give_back(heap: &mut Heap, x: u32, a: u32, b: u32, c: u32, d: u32) -> Answer
-    ensures { with_answer result (new heap) ≡ answered (old heap) (give_call (old heap) x a b c d) }
+    ensures { with_answer result heap.new ≡ answered heap.old (give_call heap.old x a b c d) }
 {
     if x != T {
         return refused(2);

@@ -2,7 +2,6 @@
 ghost use Rattle.std.specs.Prelude.{◌≡◌, ◌≤◌};
 ghost use Rattle.rules.specs.Heap.{lowest_run};
 ghost use Rattle.heap.specs.Free.{none_free, first_free, free_from, adjacent};
-ghost use Rattle.tables.specs.Lent.{old};
 
 use basics::least;
 use rules::Heap;
@@ -11,7 +10,7 @@ use rules::numbers::{FREE, HEAP_UNITS};
 // Of the 16 units from u on none is free; a unit past the heap's end counts as free. It looks at
 // each one, with no branch, so that the compiler makes it one comparison of 16 bytes.
 fn none_free(heap: &Heap, u: usize) -> bool
-    ensures { result ≡ none_free (old heap) u }
+    ensures { result ≡ none_free heap.now u }
 {
     if 240 < u {
         return false;
@@ -27,7 +26,7 @@ fn none_free(heap: &Heap, u: usize) -> bool
 
 // A unit from which on the first free one is the same as from `from` on: 16 at a time are passed.
 fn past_full(heap: &Heap, from: usize) -> usize
-    ensures { first_free (old heap) result ≡ first_free (old heap) from }
+    ensures { first_free heap.now result ≡ first_free heap.now from }
 {
     let mut u = from;
     while none_free(heap, u) {
@@ -39,7 +38,7 @@ fn past_full(heap: &Heap, from: usize) -> usize
 // The first free unit from `from` on, which is at most 256; 256 where there is none. It looks at one
 // after the other.
 fn next_free(heap: &Heap, from: usize) -> usize
-    ensures { result ≡ first_free (old heap) from }
+    ensures { result ≡ first_free heap.now from }
 {
     let mut u = from;
     while u < HEAP_UNITS {
@@ -53,7 +52,7 @@ fn next_free(heap: &Heap, from: usize) -> usize
 
 // The same where it may be far: 16 units at a time, then four in a turn, and the last ones singly.
 fn first_free(heap: &Heap, from: usize) -> usize
-    ensures { result ≡ first_free (old heap) from }
+    ensures { result ≡ first_free heap.now from }
 {
     let mut u = past_full(heap, from);
     while u < 253 {
@@ -76,7 +75,7 @@ fn first_free(heap: &Heap, from: usize) -> usize
 
 // How many adjacent units from u on have this entry, n at most.
 pub fn adjacent(heap: &Heap, u: usize, n: usize, entry: u8) -> usize
-    ensures { result ≡ adjacent (old heap) u n entry }
+    ensures { result ≡ adjacent heap.now u n entry }
 {
     if HEAP_UNITS <= u {
         return 0;
@@ -95,7 +94,7 @@ pub fn adjacent(heap: &Heap, u: usize, n: usize, entry: u8) -> usize
 // The lowest place from u on from which all units before `end` are free. It looks from the end on,
 // because the last unit that is not free rules out the most starts.
 fn free_from(heap: &Heap, u: usize, end: usize) -> usize
-    ensures { result ≡ free_from (old heap) u end }
+    ensures { result ≡ free_from heap.now u end }
 {
     let mut p = least(end, HEAP_UNITS);
     while u < p {
@@ -109,7 +108,7 @@ fn free_from(heap: &Heap, u: usize, end: usize) -> usize
 
 // Where the lowest run of n adjacent free units starts; 256 where there is none.
 pub fn lowest_run(heap: &Heap, n: usize) -> usize
-    ensures { (result ≡ lowest_run (old heap) n) × (result ≤ 256) }
+    ensures { (result ≡ lowest_run heap.now n) × (result ≤ 256) }
 {
     if HEAP_UNITS < n {
         return HEAP_UNITS;

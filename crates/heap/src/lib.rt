@@ -1,4 +1,6 @@
 // The calls on the heap, 60 and 61.
+#![tactic(auto)]
+
 pub mod blocks;
 pub mod calls;
 pub mod free_units;
@@ -6,7 +8,6 @@ pub mod free_units;
 ghost use Rattle.std.specs.Prelude.{◌≡◌};
 ghost use Rattle.rules.specs.Answer.{with_answer, answered, ◌by◌};
 ghost use Rattle.rules.specs.Heap.{heap_call};
-ghost use Rattle.tables.specs.Lent.{old, new};
 
 use answers::refused;
 use calls::{give_back, take};
@@ -15,7 +16,7 @@ use rules::{Answer, Call, Heap};
 // ---- the calls by number
 
 pub fn heap_call(heap: &mut Heap, x: u32, q: Call) -> Answer
-    ensures { with_answer result (new heap) ≡ answered (old heap) (heap_call (old heap) x q.number by q) }
+    ensures { with_answer result heap.new ≡ answered heap.old (heap_call heap.old x q.number by q) }
 {
     let number = q.number;
     match number {

@@ -1,5 +1,7 @@
 // The call core on lent tables: one call, dispatch after an accepted one, and the thread that runs then. Sound tables stay sound. Whoever does not know
 // that his tables are sound makes calls by an entry, which tests them.
+#![tactic(auto)]
+
 pub mod ranges;
 
 ghost use Rattle.std.specs.Prelude.{◌≡◌};
@@ -8,7 +10,7 @@ ghost use Rattle.rules.specs.Step.{step_of};
 ghost use Rattle.kernel.specs.Quick.{quick_step};
 ghost use Rattle.kernel.specs.Safe.{Stepped};
 ghost use Rattle.rules.specs.Answer.{Words};
-ghost use Rattle.tables.specs.Lent.{tables_old, tables_new};
+ghost use Rattle.rules.specs.Tables.{tables};
 
 use rules::{
     Answer, Call, Clocks, Events, Heap, Lines, Mailboxes, Semaphores, State, Swis, Tasks, Thread,
@@ -39,11 +41,11 @@ pub fn step(
     state: &mut State,
     asked: Call,
 ) -> Said
-    ensures thread_value { step_of (tables_new tasks lines semaphores events mailboxes swis clocks heap state) result.answer result.thread
-        ≡ quick_step (tables_old tasks lines semaphores events mailboxes swis clocks heap state) asked }
-    ensures stepped { Sound (tables_old tasks lines semaphores events mailboxes swis clocks heap state)
-        → Stepped (tables_old tasks lines semaphores events mailboxes swis clocks heap state) asked
-        (step_of (tables_new tasks lines semaphores events mailboxes swis clocks heap state) result.answer result.thread) }
+    ensures thread_value { step_of (tables tasks.new lines.new semaphores.new events.new mailboxes.new swis.new clocks.new heap.new state.new) result.answer result.thread
+        ≡ quick_step (tables tasks.old lines.old semaphores.old events.old mailboxes.old swis.old clocks.old heap.old state.old) asked }
+    ensures stepped { Sound (tables tasks.old lines.old semaphores.old events.old mailboxes.old swis.old clocks.old heap.old state.old)
+        → Stepped (tables tasks.old lines.old semaphores.old events.old mailboxes.old swis.old clocks.old heap.old state.old) asked
+        (step_of (tables tasks.new lines.new semaphores.new events.new mailboxes.new swis.new clocks.new heap.new state.new) result.answer result.thread) }
 {
     words(asked);
     tables::typed(

@@ -3,7 +3,7 @@ ghost use Rattle.std.specs.Prelude.{◌≡◌};
 ghost use Rattle.rules.specs.Answer.{with_answer, answered, ◌by◌};
 ghost use Rattle.rules.specs.Dispatch.{context};
 ghost use Rattle.rules.specs.Step.{call_of};
-ghost use Rattle.tables.specs.Lent.{old, tables_old, tables_new};
+ghost use Rattle.rules.specs.Tables.{tables};
 
 use clocks::clock_call;
 use events::event_call;
@@ -28,9 +28,9 @@ pub fn any_call(
     state: &mut State,
     q: Call,
 ) -> Answer
-    ensures { with_answer result (tables_new tasks lines semaphores events mailboxes swis clocks heap state)
-        ≡ answered (tables_old tasks lines semaphores events mailboxes swis clocks heap state)
-        (call_of (tables_old tasks lines semaphores events mailboxes swis clocks heap state) (context (old lines) (old state)) q.number by q) }
+    ensures { with_answer result (tables tasks.new lines.new semaphores.new events.new mailboxes.new swis.new clocks.new heap.new state.new)
+        ≡ answered (tables tasks.old lines.old semaphores.old events.old mailboxes.old swis.old clocks.old heap.old state.old)
+        (call_of (tables tasks.old lines.old semaphores.old events.old mailboxes.old swis.old clocks.old heap.old state.old) (context lines.old state.old) q.number by q) }
 {
     let x = dispatch::context(lines, state);
     let number = q.number;

@@ -1,9 +1,10 @@
 // Lines of a lent table, read and changed in place: how many stand in one, who, the ways in and out; and in which line a task stands. Every function is
 // total: what is not there reads 0, and writing it changes nothing.
+#![tactic(auto)]
+
 ghost use Rattle.std.specs.Prelude.{◌≡◌, length, get_or};
 ghost use Rattle.rules.specs.Lines.{line, front_of, out_of, entered, joined, home_of, anyone};
 ghost use Rattle.rules.specs.Swis.{top};
-ghost use Rattle.tables.specs.Lent.{old, new};
 
 use basics::least;
 use rules::numbers::{
@@ -14,7 +15,7 @@ use rules::{Lines, Task};
 
 // How many stand in line j.
 pub fn len(lines: &Lines, j: usize) -> usize
-    ensures { result ≡ length (line (old lines) j) }
+    ensures { result ≡ length (line lines.now j) }
 {
     if j < LINE_COUNT {
         return least(basics::wide(lines[j * LINE_WIDTH]), LINE_MOST);
@@ -24,7 +25,7 @@ pub fn len(lines: &Lines, j: usize) -> usize
 
 // The one behind k others in line j; 0 where there is none.
 pub fn member(lines: &Lines, j: usize, k: usize) -> u8
-    ensures { result ≡ get_or (line (old lines) j) k 0 }
+    ensures { result ≡ get_or (line lines.now j) k 0 }
 {
     if k < len(lines, j) {
         return lines[j * LINE_WIDTH + 1 + k];
@@ -34,14 +35,14 @@ pub fn member(lines: &Lines, j: usize, k: usize) -> u8
 
 // The one at the front of line j; 0 where nobody stands there.
 pub fn first(lines: &Lines, j: usize) -> u8
-    ensures { result ≡ front_of (old lines) j }
+    ensures { result ≡ front_of lines.now j }
 {
     member(lines, j, 0)
 }
 
 // x out of line j wherever it stands, the rest moved up.
 pub fn leave(lines: &mut Lines, j: usize, x: u8)
-    ensures { new lines ≡ out_of j x (old lines) }
+    ensures { lines.new ≡ out_of j x lines.old }
 {
     if j < LINE_COUNT {
         let at = j * LINE_WIDTH;
@@ -63,7 +64,7 @@ pub fn leave(lines: &mut Lines, j: usize, x: u8)
 
 // x at the back of line j; a full line stays as it is.
 pub fn join(lines: &mut Lines, j: usize, x: u8)
-    ensures { new lines ≡ joined j x (old lines) }
+    ensures { lines.new ≡ joined j x lines.old }
 {
     if j < LINE_COUNT {
         let at = j * LINE_WIDTH;
@@ -77,7 +78,7 @@ pub fn join(lines: &mut Lines, j: usize, x: u8)
 
 // x into line j behind the first `place`, behind all where fewer stand there; a full line stays as it is.
 pub fn insert(lines: &mut Lines, j: usize, place: usize, x: u8)
-    ensures { new lines ≡ entered (λ xs. place) j x (old lines) }
+    ensures { lines.new ≡ entered (λ xs. place) j x lines.old }
 {
     if j < LINE_COUNT {
         let at = j * LINE_WIDTH;
@@ -115,7 +116,7 @@ pub fn home_of(k: Task) -> usize
 
 // The top active Swi, the last to start; 0 where none is active.
 pub fn top(lines: &Lines) -> u8
-    ensures { result ≡ top (old lines) }
+    ensures { result ≡ top lines.now }
 {
     let n = len(lines, ACTIVE_LINE);
     member(lines, ACTIVE_LINE, basics::one_less(n))
@@ -123,7 +124,7 @@ pub fn top(lines: &Lines) -> u8
 
 // Someone stands in line j.
 pub fn anyone(lines: &Lines, j: usize) -> bool
-    ensures { result ≡ anyone (old lines) j }
+    ensures { result ≡ anyone lines.now j }
 {
     0 < len(lines, j)
 }

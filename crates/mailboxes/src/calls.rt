@@ -3,7 +3,6 @@ ghost use Rattle.std.specs.Prelude.{◌≡◌};
 ghost use Rattle.rules.specs.Answer.{with_answer, answered, code_of, ◌by◌};
 ghost use Rattle.rules.specs.Waits.{wait_tables};
 ghost use Rattle.rules.specs.Mailboxes.{create_cases, create_effect, delete_cases, delete_effect, create_call, delete_call};
-ghost use Rattle.tables.specs.Lent.{old, new};
 ghost use Rattle.rules.specs.Tables.{TaskTable, LineTable};
 
 use super::table::{free_mailbox, put_mailbox};
@@ -15,7 +14,7 @@ use rules::{Answer, Call, Lines, Mailboxes};
 
 // The code of call 40.
 pub fn create_code(mailboxes: &Mailboxes, x: u32, a: u32, b: u32, c: u32, d: u32) -> u32
-    ensures { result ≡ code_of (create_cases (old mailboxes) x a b c d) }
+    ensures { result ≡ code_of (create_cases mailboxes.now x a b c d) }
 {
     if x != T {
         return 2;
@@ -31,8 +30,8 @@ pub fn create_code(mailboxes: &Mailboxes, x: u32, a: u32, b: u32, c: u32, d: u32
 
 // The lowest mailbox not in use has this capacity, and no messages.
 pub fn create_effect(mailboxes: &mut Mailboxes, a: u32) -> Answer
-    ensures { (ts : TaskTable) (ls : LineTable) → with_answer result (wait_tables ts ls (new mailboxes))
-        ≡ create_effect (wait_tables ts ls (old mailboxes)) a }
+    ensures { (ts : TaskTable) (ls : LineTable) → with_answer result (wait_tables ts ls mailboxes.new)
+        ≡ create_effect (wait_tables ts ls mailboxes.old) a }
 {
     let i = free_mailbox(mailboxes);
     put_mailbox(mailboxes, i, a);
@@ -41,8 +40,8 @@ pub fn create_effect(mailboxes: &mut Mailboxes, a: u32) -> Answer
 
 // Call 40.
 pub fn create(mailboxes: &mut Mailboxes, x: u32, q: Call) -> Answer
-    ensures { (ts : TaskTable) (ls : LineTable) → with_answer result (wait_tables ts ls (new mailboxes))
-        ≡ answered (wait_tables ts ls (old mailboxes)) (create_call (wait_tables ts ls (old mailboxes)) x by q) }
+    ensures { (ts : TaskTable) (ls : LineTable) → with_answer result (wait_tables ts ls mailboxes.new)
+        ≡ answered (wait_tables ts ls mailboxes.old) (create_call (wait_tables ts ls mailboxes.old) x by q) }
 {
     let code = create_code(mailboxes, x, q.a, q.b, q.c, q.d);
     if code != 0 {
@@ -55,7 +54,7 @@ pub fn create(mailboxes: &mut Mailboxes, x: u32, q: Call) -> Answer
 
 // The code of call 41.
 pub fn delete_code(lines: &Lines, mailboxes: &Mailboxes, x: u32, q: Call) -> u32
-    ensures { result ≡ code_of (delete_cases (old lines) (old mailboxes) x by q) }
+    ensures { result ≡ code_of (delete_cases lines.now mailboxes.now x by q) }
 {
     if x != T {
         return 2;
@@ -76,8 +75,8 @@ pub fn delete_code(lines: &Lines, mailboxes: &Mailboxes, x: u32, q: Call) -> u32
 
 // The mailbox's row is all 0.
 pub fn delete_effect(mailboxes: &mut Mailboxes, a: u32) -> Answer
-    ensures { (ts : TaskTable) (ls : LineTable) → with_answer result (wait_tables ts ls (new mailboxes))
-        ≡ delete_effect (wait_tables ts ls (old mailboxes)) a }
+    ensures { (ts : TaskTable) (ls : LineTable) → with_answer result (wait_tables ts ls mailboxes.new)
+        ≡ delete_effect (wait_tables ts ls mailboxes.old) a }
 {
     put_mailbox(mailboxes, a as usize, 0);
     answers::accepted(DONE, 0)
@@ -85,8 +84,8 @@ pub fn delete_effect(mailboxes: &mut Mailboxes, a: u32) -> Answer
 
 // Call 41.
 pub fn delete(lines: &Lines, mailboxes: &mut Mailboxes, x: u32, q: Call) -> Answer
-    ensures { (ts : TaskTable) → with_answer result (wait_tables ts (old lines) (new mailboxes))
-        ≡ answered (wait_tables ts (old lines) (old mailboxes)) (delete_call (wait_tables ts (old lines) (old mailboxes)) x by q) }
+    ensures { (ts : TaskTable) → with_answer result (wait_tables ts lines.now mailboxes.new)
+        ≡ answered (wait_tables ts lines.now mailboxes.old) (delete_call (wait_tables ts lines.now mailboxes.old) x by q) }
 {
     let code = delete_code(lines, mailboxes, x, q);
     if code != 0 {

@@ -1,4 +1,6 @@
 // The mailbox calls, 40 to 43.
+#![tactic(auto)]
+
 pub mod calls;
 pub mod messages;
 pub mod pends;
@@ -9,7 +11,7 @@ pub mod waiters;
 ghost use Rattle.std.specs.Prelude.{◌≡◌};
 ghost use Rattle.rules.specs.Answer.{with_answer, answered, ◌by◌};
 ghost use Rattle.rules.specs.Mailboxes.{mailbox_call};
-ghost use Rattle.tables.specs.Lent.{old, wait_tables_old, wait_tables_new};
+ghost use Rattle.rules.specs.Waits.{wait_tables};
 
 use rules::{Answer, Call, Lines, Mailboxes, State, Tasks};
 
@@ -22,8 +24,8 @@ pub fn mailbox_call(
     x: u32,
     q: Call,
 ) -> Answer
-    ensures { with_answer result (wait_tables_new tasks lines mailboxes)
-        ≡ answered (wait_tables_old tasks lines mailboxes) (mailbox_call (wait_tables_old tasks lines mailboxes) (old state) x q.number by q) }
+    ensures { with_answer result (wait_tables tasks.new lines.new mailboxes.new)
+        ≡ answered (wait_tables tasks.old lines.old mailboxes.old) (mailbox_call (wait_tables tasks.old lines.old mailboxes.old) state.now x q.number by q) }
 {
     let number = q.number;
     match number {

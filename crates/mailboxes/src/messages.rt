@@ -1,14 +1,13 @@
 // A mailbox's messages in place: the oldest first, at most eight.
 ghost use Rattle.std.specs.Prelude.{◌≡◌, [], ◌∷◌, ◌++◌, length, get_or, drop};
 ghost use Rattle.rules.specs.Tables.{messages, with_messages};
-ghost use Rattle.tables.specs.Lent.{old, new};
 
 use rules::Mailboxes;
 use rules::numbers::{MAILBOX_MOST, MAILBOX_PLACES, MAILBOX_ROWS, MAILBOX_WIDTH, MESSAGES, OLDEST};
 
 // How many messages mailbox i has.
 pub fn count(mailboxes: &Mailboxes, i: usize) -> usize
-    ensures { result ≡ length (messages (old mailboxes) i) }
+    ensures { result ≡ length (messages mailboxes.now i) }
 {
     let n = rows::mailbox(mailboxes, i, MESSAGES);
     if n < MAILBOX_MOST {
@@ -19,7 +18,7 @@ pub fn count(mailboxes: &Mailboxes, i: usize) -> usize
 
 // How many of them stand behind the oldest.
 pub fn count_behind(mailboxes: &Mailboxes, i: usize) -> usize
-    ensures { result ≡ length (drop 1 (messages (old mailboxes) i)) }
+    ensures { result ≡ length (drop 1 (messages mailboxes.now i)) }
 {
     let n = count(mailboxes, i);
     if 0 < n {
@@ -30,7 +29,7 @@ pub fn count_behind(mailboxes: &Mailboxes, i: usize) -> usize
 
 // The oldest message of mailbox i; 0 where there is none.
 pub fn oldest(mailboxes: &Mailboxes, i: usize) -> u32
-    ensures { result ≡ get_or (messages (old mailboxes) i) 0 0 }
+    ensures { result ≡ get_or (messages mailboxes.now i) 0 0 }
 {
     if 0 < count(mailboxes, i) {
         return rows::mailbox(mailboxes, i, OLDEST);
@@ -40,7 +39,7 @@ pub fn oldest(mailboxes: &Mailboxes, i: usize) -> u32
 
 // The word joins the messages of mailbox i at the back; eight messages stay as they are.
 pub fn put_word(mailboxes: &mut Mailboxes, i: usize, word: u32)
-    ensures { new mailboxes ≡ with_messages (old mailboxes) i (messages (old mailboxes) i ++ (word ∷ [])) }
+    ensures { mailboxes.new ≡ with_messages mailboxes.old i (messages mailboxes.old i ++ (word ∷ [])) }
 {
     if i < MAILBOX_ROWS {
         let at = i * MAILBOX_WIDTH + MESSAGES;
@@ -54,7 +53,7 @@ pub fn put_word(mailboxes: &mut Mailboxes, i: usize, word: u32)
 
 // The oldest message of mailbox i goes, and the word joins the others at the back.
 pub fn shift(mailboxes: &mut Mailboxes, i: usize, word: u32)
-    ensures { new mailboxes ≡ with_messages (old mailboxes) i (drop 1 (messages (old mailboxes) i) ++ (word ∷ [])) }
+    ensures { mailboxes.new ≡ with_messages mailboxes.old i (drop 1 (messages mailboxes.old i) ++ (word ∷ [])) }
 {
     if i < MAILBOX_ROWS {
         let at = i * MAILBOX_WIDTH + MESSAGES;
@@ -71,7 +70,7 @@ pub fn shift(mailboxes: &mut Mailboxes, i: usize, word: u32)
 
 // The oldest message of mailbox i goes.
 pub fn take_word(mailboxes: &mut Mailboxes, i: usize)
-    ensures { new mailboxes ≡ with_messages (old mailboxes) i (drop 1 (messages (old mailboxes) i)) }
+    ensures { mailboxes.new ≡ with_messages mailboxes.old i (drop 1 (messages mailboxes.old i)) }
 {
     let n = count(mailboxes, i);
     if 0 < n {

@@ -2,7 +2,7 @@
 ghost use Rattle.std.specs.Prelude.{◌≡◌};
 ghost use Rattle.rules.specs.Answer.{with_answer, answered, code_of, ◌by◌};
 ghost use Rattle.rules.specs.Mailboxes.{pend_cases, oldest_taken, pend_effect, pend_call};
-ghost use Rattle.tables.specs.Lent.{old, wait_tables_old, wait_tables_new};
+ghost use Rattle.rules.specs.Waits.{wait_tables};
 
 use super::messages::{oldest, shift, take_word};
 use super::waiters::{first, not_done, pend_waits, waits_first};
@@ -13,7 +13,7 @@ use rules::{Answer, Call, Lines, Mailboxes, State, Tasks};
 
 // The code of call 43.
 pub fn pend_code(mailboxes: &Mailboxes, state: &State, x: u32, q: Call) -> u32
-    ensures { result ≡ code_of (pend_cases (old mailboxes) (old state) x by q) }
+    ensures { result ≡ code_of (pend_cases mailboxes.now state.now x by q) }
 {
     if moves::begins::outside(x, q.b) {
         return 2;
@@ -30,7 +30,7 @@ pub fn pend_code(mailboxes: &Mailboxes, state: &State, x: u32, q: Call) -> u32
 
 // The oldest message goes; the first waiting writer's word joins the back, that writer is ready.
 pub fn take(tasks: &mut Tasks, lines: &mut Lines, mailboxes: &mut Mailboxes, a: u32)
-    ensures { wait_tables_new tasks lines mailboxes ≡ oldest_taken (wait_tables_old tasks lines mailboxes) a }
+    ensures { wait_tables tasks.new lines.new mailboxes.new ≡ oldest_taken (wait_tables tasks.old lines.old mailboxes.old) a }
 {
     if waits_first(tasks, lines, a, WRITING) {
         let i = first(lines, a);
@@ -51,7 +51,7 @@ pub fn pend_effect(
     a: u32,
     limit: u32,
 ) -> Answer
-    ensures { with_answer result (wait_tables_new tasks lines mailboxes) ≡ pend_effect (wait_tables_old tasks lines mailboxes) (old state) a limit }
+    ensures { with_answer result (wait_tables tasks.new lines.new mailboxes.new) ≡ pend_effect (wait_tables tasks.old lines.old mailboxes.old) state.now a limit }
 {
     if rows::mailbox(mailboxes, a as usize, MESSAGES) == 0 {
         return not_done(tasks, lines, state, READING, a, limit, 0);
@@ -70,8 +70,8 @@ pub fn pend(
     x: u32,
     q: Call,
 ) -> Answer
-    ensures { with_answer result (wait_tables_new tasks lines mailboxes)
-        ≡ answered (wait_tables_old tasks lines mailboxes) (pend_call (wait_tables_old tasks lines mailboxes) (old state) x by q) }
+    ensures { with_answer result (wait_tables tasks.new lines.new mailboxes.new)
+        ≡ answered (wait_tables tasks.old lines.old mailboxes.old) (pend_call (wait_tables tasks.old lines.old mailboxes.old) state.now x by q) }
 {
     let code = pend_code(mailboxes, state, x, q);
     if code != 0 {

@@ -2,7 +2,7 @@
 ghost use Rattle.std.specs.Prelude.{◌≡◌};
 ghost use Rattle.rules.specs.Answer.{with_answer, answered, code_of, ◌by◌};
 ghost use Rattle.rules.specs.Mailboxes.{post_cases, post_effect, post_call};
-ghost use Rattle.tables.specs.Lent.{old, wait_tables_old, wait_tables_new};
+ghost use Rattle.rules.specs.Waits.{wait_tables};
 
 use super::messages::put_word;
 use super::waiters::{is_full, not_done, post_waits, waits_first};
@@ -20,7 +20,7 @@ pub fn post_code(
     x: u32,
     q: Call,
 ) -> u32
-    ensures { result ≡ code_of (post_cases (old tasks) (old lines) (old mailboxes) (old state) x q.a q.c q.d) }
+    ensures { result ≡ code_of (post_cases tasks.now lines.now mailboxes.now state.now x q.a q.c q.d) }
 {
     if moves::begins::outside(x, q.c) {
         return 2;
@@ -45,7 +45,7 @@ pub fn post_effect(
     word: u32,
     limit: u32,
 ) -> Answer
-    ensures { with_answer result (wait_tables_new tasks lines mailboxes) ≡ post_effect (wait_tables_old tasks lines mailboxes) (old state) a word limit }
+    ensures { with_answer result (wait_tables tasks.new lines.new mailboxes.new) ≡ post_effect (wait_tables tasks.old lines.old mailboxes.old) state.now a word limit }
 {
     if waits_first(tasks, lines, a, READING) {
         return moves::wake_first(tasks, lines, MAILBOX_LINES + a as usize, word);
@@ -66,8 +66,8 @@ pub fn post(
     x: u32,
     q: Call,
 ) -> Answer
-    ensures { with_answer result (wait_tables_new tasks lines mailboxes)
-        ≡ answered (wait_tables_old tasks lines mailboxes) (post_call (wait_tables_old tasks lines mailboxes) (old state) x by q) }
+    ensures { with_answer result (wait_tables tasks.new lines.new mailboxes.new)
+        ≡ answered (wait_tables tasks.old lines.old mailboxes.old) (post_call (wait_tables tasks.old lines.old mailboxes.old) state.now x by q) }
 {
     let code = post_code(tasks, lines, mailboxes, state, x, q);
     if code != 0 {

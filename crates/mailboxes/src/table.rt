@@ -3,14 +3,13 @@ ghost use Rattle.std.specs.Prelude.{◌≡◌, ◌-◌, ◌≤◌, ◌∷◌};
 ghost use Rattle.rules.specs.Mailboxes.{free_mailbox};
 ghost use Rattle.basics.specs.Lists.{zeros};
 ghost use Rattle.rules.specs.Tables.{mailbox_row, mailbox_width};
-ghost use Rattle.tables.specs.Lent.{old, new};
 
 use rules::Mailboxes;
 use rules::numbers::{CAPACITY, MAILBOX_ROWS, MAILBOX_WIDTH};
 
 // The lowest number of a mailbox not in use; 8 where all are in use.
 pub fn free_mailbox(mailboxes: &Mailboxes) -> usize
-    ensures { (result ≡ free_mailbox (old mailboxes)) × (result ≤ 8) }
+    ensures { (result ≡ free_mailbox mailboxes.now) × (result ≤ 8) }
 {
     let mut i = 0;
     while i < MAILBOX_ROWS {
@@ -24,7 +23,7 @@ pub fn free_mailbox(mailboxes: &Mailboxes) -> usize
 
 // Mailbox i with this capacity and no messages; with capacity 0 it is not in use.
 pub fn put_mailbox(mailboxes: &mut Mailboxes, i: usize, capacity: u32)
-    ensures { new mailboxes ≡ mailbox_row (old mailboxes) i (capacity ∷ zeros (mailbox_width - 1)) }
+    ensures { mailboxes.new ≡ mailbox_row mailboxes.old i (capacity ∷ zeros (mailbox_width - 1)) }
 {
     if i < MAILBOX_ROWS {
         let at = i * MAILBOX_WIDTH;

@@ -5,28 +5,27 @@ ghost use Rattle.rules.specs.Mailboxes.{waits_first, is_full, post_waits, pend_w
 ghost use Rattle.rules.specs.Answer.{with_answer};
 ghost use Rattle.rules.specs.Waits.{wait_tables};
 ghost use Rattle.mailboxes.specs.Wait.{not_done};
-ghost use Rattle.tables.specs.Lent.{old, new};
 
 use rules::numbers::{CAPACITY, MAILBOX_LINES, MESSAGES, NOT_MET, NOW_WAITING, READING};
 use rules::{Answer, Lines, Mailboxes, State, Tasks};
 
 // Someone waits at mailbox a.
 pub fn anyone(lines: &Lines, a: u32) -> bool
-    ensures { result ≡ anyone (old lines) (mailbox_line a) }
+    ensures { result ≡ anyone lines.now (mailbox_line a) }
 {
     0 < lines::len(lines, MAILBOX_LINES + a as usize)
 }
 
 // The first who waits at mailbox a; 0 where nobody does.
 pub fn first(lines: &Lines, a: u32) -> u32
-    ensures { result ≡ front_of (old lines) (mailbox_line a) }
+    ensures { result ≡ front_of lines.now (mailbox_line a) }
 {
     lines::first(lines, MAILBOX_LINES + a as usize) as u32
 }
 
 // Someone waits at mailbox a, and the first is in this mode.
 pub fn waits_first(tasks: &Tasks, lines: &Lines, a: u32, mode: u32) -> bool
-    ensures { result ≡ waits_first (old tasks) (old lines) a mode }
+    ensures { result ≡ waits_first tasks.now lines.now a mode }
 {
     let k = rows::task(tasks, first(lines, a) as usize);
     anyone(lines, a) & (k.mode == mode)
@@ -34,7 +33,7 @@ pub fn waits_first(tasks: &Tasks, lines: &Lines, a: u32, mode: u32) -> bool
 
 // Mailbox a has no room for a message.
 pub fn is_full(mailboxes: &Mailboxes, a: u32) -> bool
-    ensures { result ≡ is_full (old mailboxes) a }
+    ensures { result ≡ is_full mailboxes.now a }
 {
     let most = rows::mailbox(mailboxes, a as usize, CAPACITY);
     let n = rows::mailbox(mailboxes, a as usize, MESSAGES);
@@ -43,7 +42,7 @@ pub fn is_full(mailboxes: &Mailboxes, a: u32) -> bool
 
 // A post goes on to wait.
 pub fn post_waits(tasks: &Tasks, lines: &Lines, mailboxes: &Mailboxes, a: u32, limit: u32) -> bool
-    ensures { result ≡ post_waits (old tasks) (old lines) (old mailboxes) a limit }
+    ensures { result ≡ post_waits tasks.now lines.now mailboxes.now a limit }
 {
     let reader = waits_first(tasks, lines, a, READING);
     !reader & is_full(mailboxes, a) & (limit != 0)
@@ -51,7 +50,7 @@ pub fn post_waits(tasks: &Tasks, lines: &Lines, mailboxes: &Mailboxes, a: u32, l
 
 // A pend goes on to wait.
 pub fn pend_waits(mailboxes: &Mailboxes, a: u32, limit: u32) -> bool
-    ensures { result ≡ pend_waits (old mailboxes) a limit }
+    ensures { result ≡ pend_waits mailboxes.now a limit }
 {
     let n = rows::mailbox(mailboxes, a as usize, MESSAGES);
     (n == 0) & (limit != 0)
@@ -69,8 +68,8 @@ pub fn not_done(
     limit: u32,
     word: u32,
 ) -> Answer
-    ensures { (ms : List ℕ) → with_answer result (wait_tables (new tasks) (new lines) ms)
-        ≡ not_done (wait_tables (old tasks) (old lines) ms) (old state) mode a limit word }
+    ensures { (ms : List ℕ) → with_answer result (wait_tables tasks.new lines.new ms)
+        ≡ not_done (wait_tables tasks.old lines.old ms) state.now mode a limit word }
 {
     if limit == 0 {
         return answers::accepted(NOT_MET, 0);

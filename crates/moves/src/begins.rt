@@ -1,7 +1,6 @@
 // What a call that may wait looks at.
 ghost use Rattle.std.specs.Prelude.{◌≡◌};
 ghost use Rattle.rules.specs.Waits.{outside, switch_off, idle, ticks_for};
-ghost use Rattle.tables.specs.Lent.{old};
 ghost use Rattle.moves.specs.Begins.{wait_code};
 
 use rules::State;
@@ -16,21 +15,21 @@ pub fn outside(x: u32, limit: u32) -> bool
 
 // Either switch is off.
 pub fn switch_off(state: &State) -> bool
-    ensures { result ≡ switch_off (old state) }
+    ensures { result ≡ switch_off state.now }
 {
     (state[SWIS] == 0) | (state[TASKS] == 0)
 }
 
 // The current task is task 0.
 pub fn idle(state: &State) -> bool
-    ensures { result ≡ idle (old state) }
+    ensures { result ≡ idle state.now }
 {
     rows::readings::current(state) == 0
 }
 
 // What forbids a wait, where one would begin: 5 for task 0, then 9 while either switch is off; else 0.
 pub fn wait_code(state: &State, begins: bool) -> u32
-    ensures { result ≡ wait_code begins (old state) }
+    ensures { result ≡ wait_code begins state.now }
 {
     if begins & idle(state) {
         return 5;

@@ -1,19 +1,20 @@
 // A task leaves its line, gets a new row, and enters the line of that row.
+#![tactic(auto)]
+
 pub mod begins;
 
 ghost use Rattle.std.specs.Prelude.{◌≡◌, List, ℕ};
 ghost use Rattle.rules.specs.Answer.{with_answer};
 ghost use Rattle.rules.specs.Tables.{task};
-ghost use Rattle.rules.specs.Lines.{line, moved, at_back, by_priority, entered};
+ghost use Rattle.rules.specs.Lines.{line, moved, at_back, by_priority, entered, task_queues};
 ghost use Rattle.rules.specs.Waits.{waiting, woken, wait_tables, wakes_first};
-ghost use Rattle.tables.specs.Lent.{old, new, task_queues_old, task_queues_new};
 
 use rules::numbers::{DONE, READY, TASK_COUNT, TASK_PRIORITY};
 use rules::{Answer, Lines, Task, Tasks};
 
 // How many stand in line j before the first of a priority lower than p.
 pub fn place(tasks: &Tasks, lines: &Lines, j: usize, p: u32) -> usize
-    ensures { result ≡ by_priority (old tasks) p (line (old lines) j) }
+    ensures { result ≡ by_priority tasks.now p (line lines.now j) }
 {
     let n = lines::len(lines, j);
     let mut k = 0;
@@ -29,7 +30,7 @@ pub fn place(tasks: &Tasks, lines: &Lines, j: usize, p: u32) -> usize
 
 // x into line j before the first of a priority lower than p.
 pub fn enter_by_priority(tasks: &Tasks, lines: &mut Lines, j: usize, x: u8, p: u32)
-    ensures { new lines ≡ entered (by_priority (old tasks) p) j x (old lines) }
+    ensures { lines.new ≡ entered (by_priority tasks.now p) j x lines.old }
 {
     let at = place(tasks, lines, j, p);
     lines::insert(lines, j, at, x);
@@ -37,7 +38,7 @@ pub fn enter_by_priority(tasks: &Tasks, lines: &mut Lines, j: usize, x: u8, p: u
 
 // Task i, with the row k, goes to k's line, at the back.
 pub fn move_back(tasks: &mut Tasks, lines: &mut Lines, i: u32, k: Task)
-    ensures { task_queues_new tasks lines ≡ moved at_back i k (task_queues_old tasks lines) }
+    ensures { task_queues tasks.new lines.new ≡ moved at_back i k (task_queues tasks.old lines.old) }
 {
     if i < TASK_COUNT {
         let old = rows::task(tasks, i as usize);
@@ -49,7 +50,7 @@ pub fn move_back(tasks: &mut Tasks, lines: &mut Lines, i: u32, k: Task)
 
 // The same, before the first of a priority lower than p.
 pub fn move_by_priority(tasks: &mut Tasks, lines: &mut Lines, i: u32, k: Task, p: u32)
-    ensures { task_queues_new tasks lines ≡ moved (by_priority (old tasks) p) i k (task_queues_old tasks lines) }
+    ensures { task_queues tasks.new lines.new ≡ moved (by_priority tasks.old p) i k (task_queues tasks.old lines.old) }
 {
     if i < TASK_COUNT {
         let was = rows::task(tasks, i as usize);
@@ -61,7 +62,7 @@ pub fn move_by_priority(tasks: &mut Tasks, lines: &mut Lines, i: u32, k: Task, p
 
 // Task i's wait ends with an outcome and a value: it is ready, at the back of its queue.
 pub fn wake(tasks: &mut Tasks, lines: &mut Lines, i: u32, outcome: u32, value: u32)
-    ensures { task_queues_new tasks lines ≡ woken i outcome value (task_queues_old tasks lines) }
+    ensures { task_queues tasks.new lines.new ≡ woken i outcome value (task_queues tasks.old lines.old) }
 {
     let old = rows::task(tasks, i as usize);
     let k = Task {
@@ -79,7 +80,7 @@ pub fn wake(tasks: &mut Tasks, lines: &mut Lines, i: u32, outcome: u32, value: u
 
 // The first in line j is woken by a post, its wait done with this value. The answer's value is its number.
 pub fn wake_first(tasks: &mut Tasks, lines: &mut Lines, j: usize, value: u32) -> Answer
-    ensures { (os : List ℕ) → with_answer result (wait_tables (new tasks) (new lines) os) ≡ wakes_first j value (wait_tables (old tasks) (old lines) os) }
+    ensures { (os : List ℕ) → with_answer result (wait_tables tasks.new lines.new os) ≡ wakes_first j value (wait_tables tasks.old lines.old os) }
 {
     let i = lines::first(lines, j) as u32;
     wake(tasks, lines, i, DONE, value);
@@ -113,7 +114,7 @@ pub fn wait(
     held: u32,
     mask: u32,
 )
-    ensures { task_queues_new tasks lines ≡ moved at_back i (waiting (task (old tasks) i) mode object limit held mask) (task_queues_old tasks lines) }
+    ensures { task_queues tasks.new lines.new ≡ moved at_back i (waiting (task tasks.old i) mode object limit held mask) (task_queues tasks.old lines.old) }
 {
     let old = rows::task(tasks, i as usize);
     move_back(

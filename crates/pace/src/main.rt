@@ -1,6 +1,7 @@
 // Makes the calls of the log on standard input with `step`, again and again, and prints a sum over all answers: for measuring.
+#![tactic(auto)]
+
 ghost use Rattle.io.specs.Counts.{IsPrefixLen};
-ghost use Rattle.tables.specs.Lent.{new};
 
 use call_lists::call_at;
 use pace_sums::Calls;
@@ -93,7 +94,7 @@ fn print_sum(sum: u32) {
 
 // Reads standard input, once: a file gives all that fits.
 fn read_log(log: &mut [u8]) -> usize
-    ensures { IsPrefixLen result (new log) }
+    ensures { IsPrefixLen result log.new }
 {
     let got = libc::read(libc::STDIN_FILENO, log);
     io::count(got, log)

@@ -1,6 +1,7 @@
 // The same with the two entries that test the tables before each call: with `call_in_place`, or with `call` if a second argument is there.
+#![tactic(auto)]
+
 ghost use Rattle.io.specs.Counts.{IsPrefixLen};
-ghost use Rattle.tables.specs.Lent.{new};
 
 use call_lists::call_at;
 use pace_sums::Calls;
@@ -77,7 +78,7 @@ fn print_sum(sum: u32) {
 
 // Reads standard input, once: a file gives all that fits.
 fn read_log(log: &mut [u8]) -> usize
-    ensures { IsPrefixLen result (new log) }
+    ensures { IsPrefixLen result log.new }
 {
     let got = libc::read(libc::STDIN_FILENO, log);
     io::count(got, log)

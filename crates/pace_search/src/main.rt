@@ -7,6 +7,8 @@
 //
 // The stored run makes 100 searches, with each queue filled in turn. One that finds queue p adds p + 1: six times all sixteen make
 // 6 * 136, and the last four 1 + 2 + 3 + 4, together 826.
+#![tactic(auto)]
+
 ghost use Rattle.std.specs.Prelude.{◌≤◌};
 
 use rules::numbers::{

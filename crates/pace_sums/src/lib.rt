@@ -1,11 +1,12 @@
 // What the programs that time the call core have in common: the calls of a log as words, and a sum over all answers.
+#![tactic(auto)]
+
 ghost use Rattle.std.specs.Prelude.{◌≡◌, min, ◌++◌};
 ghost use Rattle.std.proofs.lemmas.List.Edits.{sets};
 ghost use Rattle.rules.specs.Log.{version_of, levels_for};
 ghost use Rattle.rules.specs.Text.{word_text, line_feed};
 ghost use Rattle.text.specs.Put.{Put};
 ghost use Rattle.pace_sums.specs.Pace.{call_words, thread_word, added, rounds_for, sum_word};
-ghost use Rattle.tables.specs.Lent.{old, new};
 
 use rules::{Answer, Thread};
 use text::Text;
@@ -24,14 +25,14 @@ fn wide(b: u8) -> u32
 
 // How many levels the log's version means.
 pub fn levels_of(log: &Log) -> u32
-    ensures { result ≡ levels_for (version_of (old log)) }
+    ensures { result ≡ levels_for (version_of log.now) }
 {
     call_log::levels_for(call_log::version_of(log))
 }
 
 // The first n records as words.
 pub fn as_calls(log: &Log, calls: &mut Calls, n: usize)
-    ensures { new calls ≡ sets (old calls) 0 (call_words (min n 3276) (old log)) }
+    ensures { calls.new ≡ sets calls.old 0 (call_words (min n 3276) log.now) }
 {
     let mut k = 0;
     while k < 3276 {
@@ -68,7 +69,7 @@ pub fn add(sum: u32, answer: Answer, thread: Thread) -> u32
 
 // How often the log is gone through, by a program's argument: 0 is once, 1 ten times, 2 a hundred times and so on.
 pub fn rounds_for(argument: &[u8]) -> u32
-    ensures { result ≡ rounds_for (old argument) }
+    ensures { result ≡ rounds_for argument.now }
 {
     if argument.len() == 0 {
         return 1;
@@ -84,7 +85,7 @@ pub fn rounds_for(argument: &[u8]) -> u32
 
 // The line of the sum.
 pub fn put_sum(out: &mut Text, sum: u32) -> usize
-    ensures { Put (old out) 0 (word_text sum_word sum ++ line_feed) (new out) result }
+    ensures { Put out.old 0 (word_text sum_word sum ++ line_feed) out.new result }
 {
     text::put_word(out, 0, b"sum", sum as u64)
 }

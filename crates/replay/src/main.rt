@@ -1,8 +1,10 @@
 // Replays the call log in the file that its one argument names, or on standard input where it has none. What is written is computed in `desk`; here
 // bytes are read and written.
+#![tactic(auto)]
+
 ghost use Rattle.std.specs.Prelude.{◌≡◌, ◌⊎◌, length};
 ghost use Rattle.rules.specs.Fresh.{fresh};
-ghost use Rattle.tables.specs.Lent.{lent, old, new, tables_old, tables_new};
+ghost use Rattle.rules.specs.Tables.{tables};
 ghost use Rattle.kernel.specs.Safe.{Safe};
 ghost use Rattle.desk.specs.Done.{had, has, came};
 ghost use Rattle.replay.specs.Turns.{came_by, Behind, stopped, Handed, Replayed};
@@ -20,7 +22,7 @@ struct Came {
 
 // What a read brought that answered `got` and was lent this room.
 fn brought(got: isize, room: &[u8]) -> Came
-    ensures { result ≡ came_by got (length (old room)) }
+    ensures { result ≡ came_by got (length room.now) }
 {
     let more = io::count(got, room);
     Came {
@@ -38,7 +40,7 @@ fn tell_failed(name: &[u8], failed: bool) {
 
 // Reads behind the bytes that wait; `name` is told where the read fails. There is always room: fewer than 20 of them wait.
 fn read_behind(fd: i32, name: &[u8], part: &mut [u8], held: usize) -> Came
-    ensures { Behind held (old part) (new part) result }
+    ensures { Behind held part.old part.new result }
 {
     if part.len() <= held {
         return Came {
@@ -54,7 +56,7 @@ fn read_behind(fd: i32, name: &[u8], part: &mut [u8], held: usize) -> Came
 
 // The same on the whole part, which becomes a slice where it is passed on.
 fn read_part(fd: i32, name: &[u8], part: &mut Part, held: usize) -> Came
-    ensures { Behind held (old part) (new part) result }
+    ensures { Behind held part.old part.new result }
 {
     read_behind(fd, name, part, held)
 }
@@ -105,11 +107,11 @@ fn turn(
     p: Progress,
     out: &mut Text,
 ) -> Progress
-    requires { Safe (lent tasks lines semaphores events mailboxes swis clocks heap state) }
+    requires { Safe (tables tasks.old lines.old semaphores.old events.old mailboxes.old swis.old clocks.old heap.old state.old) }
     ensures handed { Handed read (came part p read.more)
-        (had (tables_old tasks lines semaphores events mailboxes swis clocks heap state) part out p)
-        (has (tables_new tasks lines semaphores events mailboxes swis clocks heap state) part out result) }
-    ensures safe { Safe (tables_new tasks lines semaphores events mailboxes swis clocks heap state) }
+        (had (tables tasks.old lines.old semaphores.old events.old mailboxes.old swis.old clocks.old heap.old state.old) part out p)
+        (has (tables tasks.new lines.new semaphores.new events.new mailboxes.new swis.new clocks.new heap.new state.new) part out result) }
+    ensures safe { Safe (tables tasks.new lines.new semaphores.new events.new mailboxes.new swis.new clocks.new heap.new state.new) }
 {
     if read.failed {
         return stopped(p);

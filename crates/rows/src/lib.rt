@@ -1,11 +1,12 @@
 // The words of each table's rows, and the rows that are worked on whole.
+#![tactic(auto)]
+
 pub mod readings;
 
 ghost use Rattle.std.specs.Prelude.{◌≡◌};
 ghost use Rattle.rules.specs.Rows.{field, with_field};
 ghost use Rattle.rules.specs.Tables.{task_count, task_width, clock_count, clock_width, task, with_task, clock, with_clock, semaphore, with_semaphore, event};
 ghost use Rattle.rules.specs.Tables.{with_event, mailbox, with_mailbox, swi, with_swi};
-ghost use Rattle.tables.specs.Lent.{old, new};
 
 use basics::wide;
 use rules::numbers::{
@@ -20,7 +21,7 @@ use rules::{Clock, Clocks, Events, Mailboxes, Semaphores, Swis, Task, Tasks};
 
 // Word f of row i; 0 where there is none.
 pub fn word(t: &[u32], w: u8, n: u8, i: usize, f: usize) -> u32
-    ensures { result ≡ field w n (old t) i f }
+    ensures { result ≡ field w n t.now i f }
 {
     if i < wide(n) {
         if f < wide(w) {
@@ -35,7 +36,7 @@ pub fn word(t: &[u32], w: u8, n: u8, i: usize, f: usize) -> u32
 
 // Word f of row i is x now, where there is one.
 pub fn set_word(t: &mut [u32], w: u8, n: u8, i: usize, f: usize, x: u32)
-    ensures { new t ≡ with_field w n (old t) i f x }
+    ensures { t.new ≡ with_field w n t.old i f x }
 {
     if i < wide(n) {
         if f < wide(w) {
@@ -50,20 +51,20 @@ pub fn set_word(t: &mut [u32], w: u8, n: u8, i: usize, f: usize, x: u32)
 // ---- tasks
 
 pub fn task_word(tasks: &Tasks, i: usize, f: usize) -> u32
-    ensures { result ≡ field task_width task_count (old tasks) i f }
+    ensures { result ≡ field task_width task_count tasks.now i f }
 {
     word(tasks, TASK_WIDTH_U8, TASK_ROWS_U8, i, f)
 }
 
 pub fn set_task_word(tasks: &mut Tasks, i: usize, f: usize, x: u32)
-    ensures { new tasks ≡ with_field task_width task_count (old tasks) i f x }
+    ensures { tasks.new ≡ with_field task_width task_count tasks.old i f x }
 {
     set_word(tasks, TASK_WIDTH_U8, TASK_ROWS_U8, i, f, x)
 }
 
 // Task i's row; all 0 where there is none.
 pub fn task(tasks: &Tasks, i: usize) -> Task
-    ensures { result ≡ task (old tasks) i }
+    ensures { result ≡ task tasks.now i }
 {
     Task {
         mode: task_word(tasks, i, MODE),
@@ -78,7 +79,7 @@ pub fn task(tasks: &Tasks, i: usize) -> Task
 }
 
 pub fn set_task(tasks: &mut Tasks, i: usize, k: Task)
-    ensures { new tasks ≡ with_task (old tasks) i k }
+    ensures { tasks.new ≡ with_task tasks.old i k }
 {
     if i < TASK_ROWS {
         let at = i * TASK_WIDTH;
@@ -96,13 +97,13 @@ pub fn set_task(tasks: &mut Tasks, i: usize, k: Task)
 // ---- semaphores
 
 pub fn semaphore(semaphores: &Semaphores, i: usize, f: usize) -> u32
-    ensures { result ≡ semaphore (old semaphores) i f }
+    ensures { result ≡ semaphore semaphores.now i f }
 {
     word(semaphores, SEMAPHORE_WIDTH_U8, SEMAPHORE_ROWS_U8, i, f)
 }
 
 pub fn set_semaphore(semaphores: &mut Semaphores, i: usize, f: usize, x: u32)
-    ensures { new semaphores ≡ with_semaphore (old semaphores) i f x }
+    ensures { semaphores.new ≡ with_semaphore semaphores.old i f x }
 {
     set_word(semaphores, SEMAPHORE_WIDTH_U8, SEMAPHORE_ROWS_U8, i, f, x)
 }
@@ -110,13 +111,13 @@ pub fn set_semaphore(semaphores: &mut Semaphores, i: usize, f: usize, x: u32)
 // ---- events
 
 pub fn event(events: &Events, i: usize, f: usize) -> u32
-    ensures { result ≡ event (old events) i f }
+    ensures { result ≡ event events.now i f }
 {
     word(events, EVENT_WIDTH_U8, EVENT_ROWS_U8, i, f)
 }
 
 pub fn set_event(events: &mut Events, i: usize, f: usize, x: u32)
-    ensures { new events ≡ with_event (old events) i f x }
+    ensures { events.new ≡ with_event events.old i f x }
 {
     set_word(events, EVENT_WIDTH_U8, EVENT_ROWS_U8, i, f, x)
 }
@@ -124,13 +125,13 @@ pub fn set_event(events: &mut Events, i: usize, f: usize, x: u32)
 // ---- mailboxes
 
 pub fn mailbox(mailboxes: &Mailboxes, i: usize, f: usize) -> u32
-    ensures { result ≡ mailbox (old mailboxes) i f }
+    ensures { result ≡ mailbox mailboxes.now i f }
 {
     word(mailboxes, MAILBOX_WIDTH_U8, MAILBOX_ROWS_U8, i, f)
 }
 
 pub fn set_mailbox(mailboxes: &mut Mailboxes, i: usize, f: usize, x: u32)
-    ensures { new mailboxes ≡ with_mailbox (old mailboxes) i f x }
+    ensures { mailboxes.new ≡ with_mailbox mailboxes.old i f x }
 {
     set_word(mailboxes, MAILBOX_WIDTH_U8, MAILBOX_ROWS_U8, i, f, x)
 }
@@ -138,13 +139,13 @@ pub fn set_mailbox(mailboxes: &mut Mailboxes, i: usize, f: usize, x: u32)
 // ---- Swis
 
 pub fn swi(swis: &Swis, i: usize, f: usize) -> u32
-    ensures { result ≡ swi (old swis) i f }
+    ensures { result ≡ swi swis.now i f }
 {
     word(swis, SWI_WIDTH_U8, SWI_ROWS_U8, i, f)
 }
 
 pub fn set_swi(swis: &mut Swis, i: usize, f: usize, x: u32)
-    ensures { new swis ≡ with_swi (old swis) i f x }
+    ensures { swis.new ≡ with_swi swis.old i f x }
 {
     set_word(swis, SWI_WIDTH_U8, SWI_ROWS_U8, i, f, x)
 }
@@ -152,14 +153,14 @@ pub fn set_swi(swis: &mut Swis, i: usize, f: usize, x: u32)
 // ---- clocks
 
 pub fn clock_word(clocks: &Clocks, i: usize, f: usize) -> u32
-    ensures { result ≡ field clock_width clock_count (old clocks) i f }
+    ensures { result ≡ field clock_width clock_count clocks.now i f }
 {
     word(clocks, CLOCK_WIDTH_U8, CLOCK_ROWS_U8, i, f)
 }
 
 // Clock i's row; all 0 where there is none.
 pub fn clock(clocks: &Clocks, i: usize) -> Clock
-    ensures { result ≡ clock (old clocks) i }
+    ensures { result ≡ clock clocks.now i }
 {
     Clock {
         used: clock_word(clocks, i, USED),
@@ -171,7 +172,7 @@ pub fn clock(clocks: &Clocks, i: usize) -> Clock
 }
 
 pub fn set_clock(clocks: &mut Clocks, i: usize, k: Clock)
-    ensures { new clocks ≡ with_clock (old clocks) i k }
+    ensures { clocks.new ≡ with_clock clocks.old i k }
 {
     if i < CLOCK_ROWS {
         let at = i * CLOCK_WIDTH;

@@ -5,7 +5,6 @@ ghost use Rattle.rules.specs.Semaphores.{is_binary, most};
 ghost use Rattle.rules.specs.Events.{matched};
 ghost use Rattle.rules.specs.Heap.{unit};
 ghost use Rattle.rules.specs.Tables.{current, levels};
-ghost use Rattle.tables.specs.Lent.{old};
 
 use rules::numbers::{COUNT_MOST, CURRENT, FREE, HEAP_UNITS, LEVELS, TASK_COUNT};
 use rules::{Heap, State};
@@ -40,7 +39,7 @@ pub fn matched(bits: u32, and_mask: u32, or_mask: u32) -> u32
 
 // The entry of unit u; past the heap nothing can be had.
 pub fn unit(heap: &Heap, u: usize) -> u8
-    ensures { result ≡ unit (old heap) u }
+    ensures { result ≡ unit heap.now u }
 {
     if u < HEAP_UNITS {
         return heap[u];
@@ -60,7 +59,7 @@ pub fn one_less(n: u32) -> u32
 
 // The current task; a number that is no task's counts as 0.
 pub fn current(state: &State) -> u8
-    ensures { result ≡ current (old state) }
+    ensures { result ≡ current state.now }
 {
     let i = state[CURRENT];
     if i < TASK_COUNT {
@@ -71,7 +70,7 @@ pub fn current(state: &State) -> u8
 
 // How many levels of priority the tasks have: 16 or 32; another number counts as 16.
 pub fn levels(state: &State) -> u32
-    ensures { result ≡ levels (old state) }
+    ensures { result ≡ levels state.now }
 {
     if state[LEVELS] == rules::numbers::MOST_LEVELS {
         return rules::numbers::MOST_LEVELS;

@@ -1,6 +1,8 @@
 // Document 01 as types. A table is an array of numbers, a row for each object and a word for each field; what the numbers
 // mean, and what each call does to them, is said in specs/: a file for each section of the document, and Rows, Lines, Waits
 // and Step for what the sections share.
+#![tactic(auto)]
+
 pub mod numbers;
 
 // 32 rows of 8: mode, priority, object, left, held, mask, outcome, value.

@@ -1,1 +1,2 @@
 // Calls one after the other: definitions alone, no code.
+#![tactic(auto)]

@@ -4,7 +4,6 @@ ghost use Rattle.rules.specs.Answer.{with_answer, answered, code_of, unused, ◌
 ghost use Rattle.rules.specs.Waits.{wait_tables};
 ghost use Rattle.rules.specs.Semaphores.{most, create_cases, create_effect, delete_cases, delete_effect, reset_cases, reset_effect, create_call, delete_call};
 ghost use Rattle.rules.specs.Semaphores.{reset_call};
-ghost use Rattle.tables.specs.Lent.{old, new};
 ghost use Rattle.rules.specs.Tables.{TaskTable, LineTable};
 
 use super::table::{free_semaphore, put_semaphore};
@@ -21,7 +20,7 @@ pub fn bad_create(kind: u32, count: u32, c: u32, d: u32) -> bool
 }
 
 pub fn create_code(semaphores: &Semaphores, x: u32, a: u32, b: u32, c: u32, d: u32) -> u32
-    ensures { result ≡ code_of (create_cases (old semaphores) x a b c d) }
+    ensures { result ≡ code_of (create_cases semaphores.now x a b c d) }
 {
     if x != T {
         return 2;
@@ -37,8 +36,8 @@ pub fn create_code(semaphores: &Semaphores, x: u32, a: u32, b: u32, c: u32, d: u
 
 // The tasks and the lines stay, whatever they are.
 pub fn create_effect(semaphores: &mut Semaphores, a: u32, b: u32) -> Answer
-    ensures { (ts : TaskTable) (ls : LineTable) → with_answer result (wait_tables ts ls (new semaphores))
-        ≡ create_effect (wait_tables ts ls (old semaphores)) a b }
+    ensures { (ts : TaskTable) (ls : LineTable) → with_answer result (wait_tables ts ls semaphores.new)
+        ≡ create_effect (wait_tables ts ls semaphores.old) a b }
 {
     let i = free_semaphore(semaphores);
     put_semaphore(semaphores, i, 1, a, b);
@@ -46,8 +45,8 @@ pub fn create_effect(semaphores: &mut Semaphores, a: u32, b: u32) -> Answer
 }
 
 pub fn create(semaphores: &mut Semaphores, x: u32, q: Call) -> Answer
-    ensures { (ts : TaskTable) (ls : LineTable) → with_answer result (wait_tables ts ls (new semaphores))
-        ≡ answered (wait_tables ts ls (old semaphores)) (create_call (wait_tables ts ls (old semaphores)) x by q) }
+    ensures { (ts : TaskTable) (ls : LineTable) → with_answer result (wait_tables ts ls semaphores.new)
+        ≡ answered (wait_tables ts ls semaphores.old) (create_call (wait_tables ts ls semaphores.old) x by q) }
 {
     let code = create_code(semaphores, x, q.a, q.b, q.c, q.d);
     if code != 0 {
@@ -59,7 +58,7 @@ pub fn create(semaphores: &mut Semaphores, x: u32, q: Call) -> Answer
 // ---- 21: delete
 
 pub fn delete_code(lines: &Lines, semaphores: &Semaphores, x: u32, q: Call) -> u32
-    ensures { result ≡ code_of (delete_cases (old lines) (old semaphores) x by q) }
+    ensures { result ≡ code_of (delete_cases lines.now semaphores.now x by q) }
 {
     if x != T {
         return 2;
@@ -79,16 +78,16 @@ pub fn delete_code(lines: &Lines, semaphores: &Semaphores, x: u32, q: Call) -> u
 
 // The row is all 0.
 pub fn delete_effect(semaphores: &mut Semaphores, a: u32) -> Answer
-    ensures { (ts : TaskTable) (ls : LineTable) → with_answer result (wait_tables ts ls (new semaphores))
-        ≡ delete_effect (wait_tables ts ls (old semaphores)) a }
+    ensures { (ts : TaskTable) (ls : LineTable) → with_answer result (wait_tables ts ls semaphores.new)
+        ≡ delete_effect (wait_tables ts ls semaphores.old) a }
 {
     put_semaphore(semaphores, a as usize, 0, 0, 0);
     answers::accepted(DONE, 0)
 }
 
 pub fn delete(lines: &Lines, semaphores: &mut Semaphores, x: u32, q: Call) -> Answer
-    ensures { (ts : TaskTable) → with_answer result (wait_tables ts (old lines) (new semaphores))
-        ≡ answered (wait_tables ts (old lines) (old semaphores)) (delete_call (wait_tables ts (old lines) (old semaphores)) x by q) }
+    ensures { (ts : TaskTable) → with_answer result (wait_tables ts lines.now semaphores.new)
+        ≡ answered (wait_tables ts lines.now semaphores.old) (delete_call (wait_tables ts lines.now semaphores.old) x by q) }
 {
     let code = delete_code(lines, semaphores, x, q);
     if code != 0 {
@@ -107,7 +106,7 @@ pub fn bad_reset(kind: u32, count: u32, c: u32, d: u32) -> bool
 }
 
 pub fn reset_code(lines: &Lines, semaphores: &Semaphores, x: u32, q: Call) -> u32
-    ensures { result ≡ code_of (reset_cases (old lines) (old semaphores) x by q) }
+    ensures { result ≡ code_of (reset_cases lines.now semaphores.now x by q) }
 {
     if x != T {
         return 2;
@@ -126,16 +125,16 @@ pub fn reset_code(lines: &Lines, semaphores: &Semaphores, x: u32, q: Call) -> u3
 }
 
 pub fn reset_effect(semaphores: &mut Semaphores, a: u32, b: u32) -> Answer
-    ensures { (ts : TaskTable) (ls : LineTable) → with_answer result (wait_tables ts ls (new semaphores))
-        ≡ reset_effect (wait_tables ts ls (old semaphores)) a b }
+    ensures { (ts : TaskTable) (ls : LineTable) → with_answer result (wait_tables ts ls semaphores.new)
+        ≡ reset_effect (wait_tables ts ls semaphores.old) a b }
 {
     rows::set_semaphore(semaphores, a as usize, COUNT, b);
     answers::accepted(DONE, 0)
 }
 
 pub fn reset(lines: &Lines, semaphores: &mut Semaphores, x: u32, q: Call) -> Answer
-    ensures { (ts : TaskTable) → with_answer result (wait_tables ts (old lines) (new semaphores))
-        ≡ answered (wait_tables ts (old lines) (old semaphores)) (reset_call (wait_tables ts (old lines) (old semaphores)) x by q) }
+    ensures { (ts : TaskTable) → with_answer result (wait_tables ts lines.now semaphores.new)
+        ≡ answered (wait_tables ts lines.now semaphores.old) (reset_call (wait_tables ts lines.now semaphores.old) x by q) }
 {
     let code = reset_code(lines, semaphores, x, q);
     if code != 0 {

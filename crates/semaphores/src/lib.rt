@@ -1,4 +1,6 @@
 // The calls on semaphores, 20 to 24.
+#![tactic(auto)]
+
 pub mod calls;
 pub mod pends;
 pub mod posts;
@@ -7,7 +9,7 @@ pub mod table;
 ghost use Rattle.std.specs.Prelude.{◌≡◌};
 ghost use Rattle.rules.specs.Answer.{with_answer, answered, ◌by◌};
 ghost use Rattle.rules.specs.Semaphores.{semaphore_call};
-ghost use Rattle.tables.specs.Lent.{old, wait_tables_old, wait_tables_new};
+ghost use Rattle.rules.specs.Waits.{wait_tables};
 
 use rules::{Answer, Call, Lines, Semaphores, State, Tasks};
 
@@ -20,8 +22,8 @@ pub fn semaphore_call(
     x: u32,
     q: Call,
 ) -> Answer
-    ensures { with_answer result (wait_tables_new tasks lines semaphores)
-        ≡ answered (wait_tables_old tasks lines semaphores) (semaphore_call (wait_tables_old tasks lines semaphores) (old state) x q.number by q) }
+    ensures { with_answer result (wait_tables tasks.new lines.new semaphores.new)
+        ≡ answered (wait_tables tasks.old lines.old semaphores.old) (semaphore_call (wait_tables tasks.old lines.old semaphores.old) state.now x q.number by q) }
 {
     let number = q.number;
     match number {

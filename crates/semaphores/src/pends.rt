@@ -2,10 +2,9 @@
 ghost use Rattle.std.specs.Prelude.{◌≡◌};
 ghost use Rattle.rules.specs.Answer.{with_answer, answered, code_of, ◌by◌};
 ghost use Rattle.rules.specs.Tables.{task, at_semaphore};
-ghost use Rattle.rules.specs.Lines.{moved};
-ghost use Rattle.rules.specs.Waits.{waiting};
+ghost use Rattle.rules.specs.Lines.{moved, task_queues};
+ghost use Rattle.rules.specs.Waits.{waiting, wait_tables};
 ghost use Rattle.rules.specs.Semaphores.{pend_waits, place_in, pend_cases, pend_effect, pend_call};
-ghost use Rattle.tables.specs.Lent.{old, task_queues_old, task_queues_new, wait_tables_old, wait_tables_new};
 
 use rules::numbers::{AT_SEMAPHORE, BY_PRIORITY, COUNT, DONE, KIND, NOT_MET, NOW_WAITING, USED};
 use rules::{Answer, Call, Lines, Semaphores, State, Tasks};
@@ -14,13 +13,13 @@ use rules::{Answer, Call, Lines, Semaphores, State, Tasks};
 
 // The call would go on to wait.
 pub fn pend_waits(semaphores: &Semaphores, a: u32, limit: u32) -> bool
-    ensures { result ≡ pend_waits (old semaphores) a limit }
+    ensures { result ≡ pend_waits semaphores.now a limit }
 {
     (rows::semaphore(semaphores, a as usize, COUNT) == 0) & (limit != 0)
 }
 
 pub fn pend_code(semaphores: &Semaphores, state: &State, x: u32, q: Call) -> u32
-    ensures { result ≡ code_of (pend_cases (old semaphores) (old state) x by q) }
+    ensures { result ≡ code_of (pend_cases semaphores.now state.now x by q) }
 {
     if moves::begins::outside(x, q.b) {
         return 2;
@@ -37,9 +36,9 @@ pub fn pend_code(semaphores: &Semaphores, state: &State, x: u32, q: Call) -> u32
 
 // Task i waits at semaphore a: in arrival order, or before the first waiter of lower priority.
 pub fn begin(tasks: &mut Tasks, lines: &mut Lines, kind: u32, i: u32, a: u32, limit: u32)
-    ensures { task_queues_new tasks lines
-        ≡ moved (place_in kind (old tasks) (task (old tasks) i).priority) i (waiting (task (old tasks) i) at_semaphore a limit 0 0)
-        (task_queues_old tasks lines) }
+    ensures { task_queues tasks.new lines.new
+        ≡ moved (place_in kind tasks.old (task tasks.old i).priority) i (waiting (task tasks.old i) at_semaphore a limit 0 0)
+        (task_queues tasks.old lines.old) }
 {
     let old = rows::task(tasks, i as usize);
     let k = moves::waiting(old, AT_SEMAPHORE, a, limit, 0, 0);
@@ -59,7 +58,7 @@ pub fn pend_effect(
     a: u32,
     limit: u32,
 ) -> Answer
-    ensures { with_answer result (wait_tables_new tasks lines semaphores) ≡ pend_effect (wait_tables_old tasks lines semaphores) (old state) a limit }
+    ensures { with_answer result (wait_tables tasks.new lines.new semaphores.new) ≡ pend_effect (wait_tables tasks.old lines.old semaphores.old) state.now a limit }
 {
     let n = rows::semaphore(semaphores, a as usize, COUNT);
     if 0 < n {
@@ -89,8 +88,8 @@ pub fn pend(
     x: u32,
     q: Call,
 ) -> Answer
-    ensures { with_answer result (wait_tables_new tasks lines semaphores)
-        ≡ answered (wait_tables_old tasks lines semaphores) (pend_call (wait_tables_old tasks lines semaphores) (old state) x by q) }
+    ensures { with_answer result (wait_tables tasks.new lines.new semaphores.new)
+        ≡ answered (wait_tables tasks.old lines.old semaphores.old) (pend_call (wait_tables tasks.old lines.old semaphores.old) state.now x by q) }
 {
     let code = pend_code(semaphores, state, x, q);
     if code != 0 {

@@ -3,7 +3,7 @@ ghost use Rattle.std.specs.Prelude.{◌≡◌, not, ◌&&◌, leb};
 ghost use Rattle.rules.specs.Answer.{with_answer, answered, code_of, ◌by◌};
 ghost use Rattle.rules.specs.Tables.{semaphore, KIND, COUNT};
 ghost use Rattle.rules.specs.Semaphores.{count_up, is_binary, post_cases, post_effect, post_call};
-ghost use Rattle.tables.specs.Lent.{old, wait_tables_old, wait_tables_new};
+ghost use Rattle.rules.specs.Waits.{wait_tables};
 
 use rules::numbers::{COUNT, COUNT_MOST, DONE, KIND, USED};
 use rules::{Answer, Call, Lines, Semaphores, Tasks};
@@ -22,7 +22,7 @@ pub fn count_up(kind: u32, n: u32) -> u32
 
 // A counting semaphore's count is at its end.
 pub fn at_end(semaphores: &Semaphores, a: u32) -> bool
-    ensures { result ≡ (not (is_binary (semaphore (old semaphores) a KIND)) && leb 65535 (semaphore (old semaphores) a COUNT)) }
+    ensures { result ≡ (not (is_binary (semaphore semaphores.now a KIND)) && leb 65535 (semaphore semaphores.now a COUNT)) }
 {
     let i = a as usize;
     let counting = !rows::readings::is_binary(rows::semaphore(semaphores, i, KIND));
@@ -30,7 +30,7 @@ pub fn at_end(semaphores: &Semaphores, a: u32) -> bool
 }
 
 pub fn post_code(semaphores: &Semaphores, a: u32, b: u32, c: u32, d: u32) -> u32
-    ensures { result ≡ code_of (post_cases (old semaphores) a b c d) }
+    ensures { result ≡ code_of (post_cases semaphores.now a b c d) }
 {
     if rows::semaphore(semaphores, a as usize, USED) == 0 {
         return answers::absent_code(a, rules::numbers::SEMAPHORE_COUNT);
@@ -51,7 +51,7 @@ pub fn post_effect(
     semaphores: &mut Semaphores,
     a: u32,
 ) -> Answer
-    ensures { with_answer result (wait_tables_new tasks lines semaphores) ≡ post_effect (wait_tables_old tasks lines semaphores) a }
+    ensures { with_answer result (wait_tables tasks.new lines.new semaphores.new) ≡ post_effect (wait_tables tasks.old lines.old semaphores.old) a }
 {
     let i = a as usize;
     if 0 < lines::len(lines, i) {
@@ -64,8 +64,8 @@ pub fn post_effect(
 }
 
 pub fn post(tasks: &mut Tasks, lines: &mut Lines, semaphores: &mut Semaphores, q: Call) -> Answer
-    ensures { with_answer result (wait_tables_new tasks lines semaphores)
-        ≡ answered (wait_tables_old tasks lines semaphores) (post_call (wait_tables_old tasks lines semaphores) by q) }
+    ensures { with_answer result (wait_tables tasks.new lines.new semaphores.new)
+        ≡ answered (wait_tables tasks.old lines.old semaphores.old) (post_call (wait_tables tasks.old lines.old semaphores.old) by q) }
 {
     let code = post_code(semaphores, q.a, q.b, q.c, q.d);
     if code != 0 {

@@ -2,14 +2,13 @@
 ghost use Rattle.std.specs.Prelude.{◌≡◌, [], ◌∷◌, ◌≤◌};
 ghost use Rattle.rules.specs.Tables.{semaphore_row};
 ghost use Rattle.rules.specs.Semaphores.{free_semaphore};
-ghost use Rattle.tables.specs.Lent.{old, new};
 
 use rules::Semaphores;
 use rules::numbers::{COUNT, KIND, SEMAPHORE_ROWS, SEMAPHORE_WIDTH, USED};
 
 // The lowest free number; 16 where there is none.
 pub fn free_semaphore(semaphores: &Semaphores) -> usize
-    ensures { (result ≡ free_semaphore (old semaphores)) × (result ≤ 16) }
+    ensures { (result ≡ free_semaphore semaphores.now) × (result ≤ 16) }
 {
     let mut i: usize = 0;
     while i < SEMAPHORE_ROWS {
@@ -23,7 +22,7 @@ pub fn free_semaphore(semaphores: &Semaphores) -> usize
 
 // Row i has these words.
 pub fn put_semaphore(semaphores: &mut Semaphores, i: usize, used: u32, kind: u32, count: u32)
-    ensures { new semaphores ≡ semaphore_row (old semaphores) i (used ∷ kind ∷ count ∷ []) }
+    ensures { semaphores.new ≡ semaphore_row semaphores.old i (used ∷ kind ∷ count ∷ []) }
 {
     if i < SEMAPHORE_ROWS {
         let at = i * SEMAPHORE_WIDTH;

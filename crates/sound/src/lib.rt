@@ -1,4 +1,6 @@
 // Whether tables are sound, whatever stands in them: a function for each rule of 'Sound tables'.
+#![tactic(auto)]
+
 pub mod objects;
 pub mod records;
 pub mod standing;
@@ -6,13 +8,13 @@ pub mod standing;
 ghost use Rattle.std.specs.Prelude.{◌≡◌};
 ghost use Rattle.basics.specs.Rule.{holds};
 ghost use Rattle.rules.specs.Sound.{dispatch_rule, sound};
-ghost use Rattle.tables.specs.Lent.{old, tables_old};
+ghost use Rattle.rules.specs.Tables.{tables};
 
 use rules::{Clocks, Events, Heap, Lines, Mailboxes, Semaphores, State, Swis, Tasks};
 
 // The dispatch rule has nothing left to do.
 pub fn dispatch_sound(swis: &Swis, lines: &Lines, state: &State) -> bool
-    ensures { result ≡ holds (dispatch_rule (old swis) (old lines) (old state)) }
+    ensures { result ≡ holds (dispatch_rule swis.now lines.now state.now) }
 {
     let current = basics::index(state[rules::numbers::CURRENT]);
     let front = basics::wide(dispatch::due::front(lines, state));
@@ -32,7 +34,7 @@ pub fn is_sound(
     heap: &Heap,
     state: &State,
 ) -> bool
-    ensures { result ≡ sound (tables_old tasks lines semaphores events mailboxes swis clocks heap state) }
+    ensures { result ≡ sound (tables tasks.now lines.now semaphores.now events.now mailboxes.now swis.now clocks.now heap.now state.now) }
 {
     records::state_sound(tasks, state)
         & records::heap_sound(heap)

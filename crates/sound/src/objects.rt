@@ -6,7 +6,6 @@ ghost use Rattle.rules.specs.Rows.{behind};
 ghost use Rattle.rules.specs.Tables.{event_count, mailbox_count, mailbox_width, mailbox_most, task, swi, reading, writing, USED, PRIORITY};
 ghost use Rattle.rules.specs.Lines.{line, active_line};
 ghost use Rattle.rules.specs.Sound.{semaphore_rule, semaphores_rule, event_rule, events_rule, mailbox_rule, mailboxes_rule, swi_rule, swis_rule, active_rule};
-ghost use Rattle.tables.specs.Lent.{old};
 
 use rules::numbers::{
     ACTIVE_LINE, BITS, CAPACITY, CAPACITY_END, COUNT, EVENT_LINES, EVENT_ROWS, INITIAL, KIND,
@@ -19,7 +18,7 @@ use rules::{Events, Lines, Mailboxes, Semaphores, Swis, Tasks};
 
 // The count is what the kind allows, and 0 with waiters; one not in use is all 0 and has none.
 fn semaphore_sound(semaphores: &Semaphores, lines: &Lines, s: usize) -> bool
-    ensures { result ≡ holds (semaphore_rule (old semaphores) (old lines) s) }
+    ensures { result ≡ holds (semaphore_rule semaphores.now lines.now s) }
 {
     let used = rows::semaphore(semaphores, s, USED);
     let kind = rows::semaphore(semaphores, s, KIND);
@@ -34,7 +33,7 @@ fn semaphore_sound(semaphores: &Semaphores, lines: &Lines, s: usize) -> bool
 
 // The same of each semaphore.
 pub fn semaphores_sound(semaphores: &Semaphores, lines: &Lines) -> bool
-    ensures { result ≡ holds (semaphores_rule (old semaphores) (old lines)) }
+    ensures { result ≡ holds (semaphores_rule semaphores.now lines.now) }
 {
     let mut ok = true;
     let mut s = 0;
@@ -50,7 +49,7 @@ pub fn semaphores_sound(semaphores: &Semaphores, lines: &Lines) -> bool
 // At most one waits, and the posted bits do not satisfy it; one not in use is all 0 and has no
 // waiter. False where there is no such event.
 fn event_sound(tasks: &Tasks, events: &Events, lines: &Lines, e: usize) -> bool
-    ensures { result ≡ (ltb e event_count && holds (event_rule (old tasks) (old events) (old lines) e)) }
+    ensures { result ≡ (ltb e event_count && holds (event_rule tasks.now events.now lines.now e)) }
 {
     if e < EVENT_ROWS {
         let used = rows::event(events, e, USED);
@@ -68,7 +67,7 @@ fn event_sound(tasks: &Tasks, events: &Events, lines: &Lines, e: usize) -> bool
 
 // The same of each event.
 pub fn events_sound(tasks: &Tasks, events: &Events, lines: &Lines) -> bool
-    ensures { result ≡ holds (events_rule (old tasks) (old events) (old lines)) }
+    ensures { result ≡ holds (events_rule tasks.now events.now lines.now) }
 {
     let mut ok = true;
     let mut e = 0;
@@ -84,7 +83,7 @@ pub fn events_sound(tasks: &Tasks, events: &Events, lines: &Lines) -> bool
 // Zeros stand behind mailbox m's messages, up to its 8 places. False where there is no such
 // mailbox.
 fn zeros_behind(mailboxes: &Mailboxes, m: usize) -> bool
-    ensures { result ≡ (ltb m mailbox_count && all_of (λ x. eqb x 0) (behind mailbox_most (old mailboxes) (m * mailbox_width + 1))) }
+    ensures { result ≡ (ltb m mailbox_count && all_of (λ x. eqb x 0) (behind mailbox_most mailboxes.now (m * mailbox_width + 1))) }
 {
     if m < MAILBOX_ROWS {
         let at = m * MAILBOX_WIDTH + MESSAGES;
@@ -110,8 +109,8 @@ fn waiter_sound(mode: u32, messages: u32, capacity: u32) -> bool
 fn waiters_sound(tasks: &Tasks, lines: &Lines, j: usize, messages: u32, capacity: u32) -> bool
     ensures { result
         ≡ holds
-        (every (line (old lines) j)
-        (λ x. ((task (old tasks) x).mode is reading gives messages is 0) and ((task (old tasks) x).mode is writing gives messages is capacity))) }
+        (every (line lines.now j)
+        (λ x. ((task tasks.now x).mode is reading gives messages is 0) and ((task tasks.now x).mode is writing gives messages is capacity))) }
 {
     let n = lines::len(lines, j);
     let mut ok = true;
@@ -127,7 +126,7 @@ fn waiters_sound(tasks: &Tasks, lines: &Lines, j: usize, messages: u32, capacity
 // No more messages than the capacity, at most 8, and zeros behind them; one not in use has no
 // waiter. False where there is no such mailbox.
 fn mailbox_sound(tasks: &Tasks, mailboxes: &Mailboxes, lines: &Lines, m: usize) -> bool
-    ensures { result ≡ (ltb m mailbox_count && holds (mailbox_rule (old tasks) (old mailboxes) (old lines) m)) }
+    ensures { result ≡ (ltb m mailbox_count && holds (mailbox_rule tasks.now mailboxes.now lines.now m)) }
 {
     if m < MAILBOX_ROWS {
         let capacity = rows::mailbox(mailboxes, m, CAPACITY);
@@ -144,7 +143,7 @@ fn mailbox_sound(tasks: &Tasks, mailboxes: &Mailboxes, lines: &Lines, m: usize) 
 
 // The same of each mailbox.
 pub fn mailboxes_sound(tasks: &Tasks, mailboxes: &Mailboxes, lines: &Lines) -> bool
-    ensures { result ≡ holds (mailboxes_rule (old tasks) (old mailboxes) (old lines)) }
+    ensures { result ≡ holds (mailboxes_rule tasks.now mailboxes.now lines.now) }
 {
     let mut ok = true;
     let mut m = 0;
@@ -159,7 +158,7 @@ pub fn mailboxes_sound(tasks: &Tasks, mailboxes: &Mailboxes, lines: &Lines) -> b
 
 // Priority 0 to 15; one not in use is all 0, and the taken trigger of one not active is 0.
 fn swi_sound(swis: &Swis, lines: &Lines, i: usize) -> bool
-    ensures { result ≡ holds (swi_rule (old swis) (old lines) i) }
+    ensures { result ≡ holds (swi_rule swis.now lines.now i) }
 {
     let used = rows::swi(swis, i, USED);
     let priority = rows::swi(swis, i, PRIORITY);
@@ -177,7 +176,7 @@ fn swi_sound(swis: &Swis, lines: &Lines, i: usize) -> bool
 
 // The same of each Swi.
 pub fn swis_sound(swis: &Swis, lines: &Lines) -> bool
-    ensures { result ≡ holds (swis_rule (old swis) (old lines)) }
+    ensures { result ≡ holds (swis_rule swis.now lines.now) }
 {
     let mut ok = true;
     let mut i = 0;
@@ -192,7 +191,7 @@ pub fn swis_sound(swis: &Swis, lines: &Lines) -> bool
 
 // Each is in use.
 fn active_used(swis: &Swis, lines: &Lines) -> bool
-    ensures { result ≡ holds (every (line (old lines) active_line) (λ x. swi (old swis) x USED is 1)) }
+    ensures { result ≡ holds (every (line lines.now active_line) (λ x. swi swis.now x USED is 1)) }
 {
     let n = lines::len(lines, ACTIVE_LINE);
     let mut ok = true;
@@ -207,7 +206,7 @@ fn active_used(swis: &Swis, lines: &Lines) -> bool
 
 // The priority of the active Swi behind k others.
 fn active_priority(swis: &Swis, lines: &Lines, k: usize) -> u32
-    ensures { result ≡ swi (old swis) (get_or (line (old lines) active_line) k 0) PRIORITY }
+    ensures { result ≡ swi swis.now (get_or (line lines.now active_line) k 0) PRIORITY }
 {
     let x = basics::wide(lines::member(lines, ACTIVE_LINE, k));
     rows::swi(swis, x, PRIORITY)
@@ -217,9 +216,9 @@ fn active_priority(swis: &Swis, lines: &Lines, k: usize) -> u32
 fn active_rise(swis: &Swis, lines: &Lines) -> bool
     ensures { result
         ≡ holds
-        (each (length (line (old lines) active_line) - 1)
-        (λ k. swi (old swis) (get_or (line (old lines) active_line) k 0) PRIORITY under swi (old swis)
-        (get_or (line (old lines) active_line) (suc k) 0) PRIORITY)) }
+        (each (length (line lines.now active_line) - 1)
+        (λ k. swi swis.now (get_or (line lines.now active_line) k 0) PRIORITY under swi swis.now
+        (get_or (line lines.now active_line) (suc k) 0) PRIORITY)) }
 {
     let n = basics::one_less(lines::len(lines, ACTIVE_LINE));
     let mut ok = true;
@@ -233,7 +232,7 @@ fn active_rise(swis: &Swis, lines: &Lines) -> bool
 
 // Active Swis are in use and rise strictly in priority.
 pub fn active_sound(swis: &Swis, lines: &Lines) -> bool
-    ensures { result ≡ holds (active_rule (old swis) (old lines)) }
+    ensures { result ≡ holds (active_rule swis.now lines.now) }
 {
     active_used(swis, lines) & active_rise(swis, lines)
 }

@@ -4,7 +4,6 @@ ghost use Rattle.basics.specs.Rule.{holds, ◌is◌, ◌isnt◌, ◌under◌, �
 ghost use Rattle.rules.specs.Tables.{task};
 ghost use Rattle.rules.specs.Heap.{free, later_in};
 ghost use Rattle.rules.specs.Sound.{state_rule, heap_rule, clock_rule, clocks_rule, no_wait, idle_rule, wait_rule, other_rule, task_rule, tasks_rule};
-ghost use Rattle.tables.specs.Lent.{old};
 
 use rules::numbers::{
     AT_EVENT, AT_SEMAPHORE, CLOCK_ROWS, CURRENT, DEPTH, DEPTH_END, ENTRY_COUNT, EVENT_COUNT,
@@ -18,7 +17,7 @@ use rules::{Clock, Clocks, Heap, State, Swis, Task, Tasks};
 
 // Depth 0 to 8, each switch on or off, the current task is a ready one, and there are 16 levels or 32.
 pub fn state_sound(tasks: &Tasks, state: &State) -> bool
-    ensures { result ≡ holds (state_rule (old tasks) (old state)) }
+    ensures { result ≡ holds (state_rule tasks.now state.now) }
 {
     let current = state[CURRENT];
     let k = rows::task(tasks, basics::index(current));
@@ -42,7 +41,7 @@ fn unit_sound(before: u8, entry: u8) -> bool
 
 // The same of each entry, the first as if it stood after a free one.
 pub fn heap_sound(heap: &Heap) -> bool
-    ensures { result ≡ holds (heap_rule (old heap)) }
+    ensures { result ≡ holds (heap_rule heap.now) }
 {
     let mut ok = true;
     let mut before = FREE;
@@ -60,7 +59,7 @@ pub fn heap_sound(heap: &Heap) -> bool
 
 // A clock in use names a Swi in use and has first ticks from 1; one not in use is all 0.
 fn clock_sound(swis: &Swis, k: Clock) -> bool
-    ensures { result ≡ holds (clock_rule (old swis) k) }
+    ensures { result ≡ holds (clock_rule swis.now k) }
 {
     let named = rows::swi(swis, k.swi as usize, USED);
     (k.used < 2)
@@ -70,7 +69,7 @@ fn clock_sound(swis: &Swis, k: Clock) -> bool
 
 // The same of each clock.
 pub fn clocks_sound(clocks: &Clocks, swis: &Swis) -> bool
-    ensures { result ≡ holds (clocks_rule (old clocks) (old swis)) }
+    ensures { result ≡ holds (clocks_rule clocks.now swis.now) }
 {
     let mut ok = true;
     let mut n = 0;
@@ -155,7 +154,7 @@ fn other_sound(k: Task, n: u32) -> bool
 
 // Task i's row is as its number and mode say.
 fn task_sound(tasks: &Tasks, i: usize, n: u32) -> bool
-    ensures { result ≡ holds (task_rule n i (task (old tasks) i)) }
+    ensures { result ≡ holds (task_rule n i (task tasks.now i)) }
 {
     let k = rows::task(tasks, i);
     if i == 0 {
@@ -166,7 +165,7 @@ fn task_sound(tasks: &Tasks, i: usize, n: u32) -> bool
 
 // The same of each task.
 pub fn tasks_sound(tasks: &Tasks, n: u32) -> bool
-    ensures { result ≡ holds (tasks_rule n (old tasks)) }
+    ensures { result ≡ holds (tasks_rule n tasks.now) }
 {
     let mut ok = true;
     let mut i = 0;

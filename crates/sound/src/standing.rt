@@ -7,7 +7,6 @@ ghost use Rattle.rules.specs.Rows.{behind};
 ghost use Rattle.rules.specs.Tables.{task_count, swi_count};
 ghost use Rattle.rules.specs.Lines.{line_count, line_most, line_width, line, task_home, swi_home};
 ghost use Rattle.rules.specs.Sound.{home_in, lines_rule, members_rule, once_rule};
-ghost use Rattle.tables.specs.Lent.{old};
 
 use rules::numbers::{
     ACTIVE_LINE, LINE_COUNT, LINE_END, LINE_MOST, LINE_WIDTH, NOWHERE, POSTED, POSTED_LINES,
@@ -19,7 +18,7 @@ use rules::{Lines, Swis, Task, Tasks};
 
 // Zeros stand behind line j, up to its 32 places. False where there is no such line.
 fn zeros_behind(lines: &Lines, j: usize) -> bool
-    ensures { result ≡ (ltb j line_count && all_of (λ x. eqb x 0) (behind line_most (old lines) (j * line_width))) }
+    ensures { result ≡ (ltb j line_count && all_of (λ x. eqb x 0) (behind line_most lines.now (j * line_width))) }
 {
     if j < LINE_COUNT {
         let at = j * LINE_WIDTH;
@@ -38,7 +37,7 @@ fn zeros_behind(lines: &Lines, j: usize) -> bool
 fn line_sound(lines: &Lines, j: usize) -> bool
     ensures { result ≡ (ltb j line_count
         && holds
-        ((get_or (old lines) (j * line_width) 0 under suc line_most) and every (behind line_most (old lines) (j * line_width)) (λ x. x is 0))) }
+        ((get_or lines.now (j * line_width) 0 under suc line_most) and every (behind line_most lines.now (j * line_width)) (λ x. x is 0))) }
 {
     if j < LINE_COUNT {
         let n = lines[j * LINE_WIDTH];
@@ -49,7 +48,7 @@ fn line_sound(lines: &Lines, j: usize) -> bool
 
 // The same of each line.
 pub fn lines_sound(lines: &Lines) -> bool
-    ensures { result ≡ holds (lines_rule (old lines)) }
+    ensures { result ≡ holds (lines_rule lines.now) }
 {
     let mut ok = true;
     let mut j = 0;
@@ -64,14 +63,14 @@ pub fn lines_sound(lines: &Lines) -> bool
 
 // The line in which task i stands; 255 for none.
 pub fn task_home(tasks: &Tasks, i: usize) -> usize
-    ensures { result ≡ task_home (old tasks) i }
+    ensures { result ≡ task_home tasks.now i }
 {
     lines::home_of(rows::task(tasks, i))
 }
 
 // The line in which Swi i stands as a posted one; 255 for none.
 pub fn swi_home(swis: &Swis, i: usize) -> usize
-    ensures { result ≡ swi_home (old swis) i }
+    ensures { result ≡ swi_home swis.now i }
 {
     if rows::swi(swis, i, POSTED) == 1 {
         return POSTED_LINES + rows::swi(swis, i, PRIORITY) as usize;
@@ -83,7 +82,7 @@ pub fn swi_home(swis: &Swis, i: usize) -> usize
 
 // The line of x: of Swi x where line j is one of posted Swis, else of task x.
 fn home_in(tasks: &Tasks, swis: &Swis, j: usize, x: usize) -> usize
-    ensures { result ≡ home_in (old tasks) (old swis) j x }
+    ensures { result ≡ home_in tasks.now swis.now j x }
 {
     if (POSTED_LINES <= j) & (j < ACTIVE_LINE) {
         return swi_home(swis, x);
@@ -93,7 +92,7 @@ fn home_in(tasks: &Tasks, swis: &Swis, j: usize, x: usize) -> usize
 
 // Line j is the line of all who stand there.
 fn at_home(tasks: &Tasks, swis: &Swis, lines: &Lines, j: usize) -> bool
-    ensures { result ≡ holds (every (line (old lines) j) (λ x. home_in (old tasks) (old swis) j x is j)) }
+    ensures { result ≡ holds (every (line lines.now j) (λ x. home_in tasks.now swis.now j x is j)) }
 {
     let n = lines::len(lines, j);
     let mut ok = true;
@@ -108,7 +107,7 @@ fn at_home(tasks: &Tasks, swis: &Swis, lines: &Lines, j: usize) -> bool
 
 // The same of each line but that of the active Swis.
 pub fn members_sound(tasks: &Tasks, swis: &Swis, lines: &Lines) -> bool
-    ensures { result ≡ holds (members_rule (old tasks) (old swis) (old lines)) }
+    ensures { result ≡ holds (members_rule tasks.now swis.now lines.now) }
 {
     let mut ok = true;
     let mut j = 0;
@@ -133,7 +132,7 @@ fn bit(b: bool) -> usize
 
 // How often x stands in line j.
 pub fn times(lines: &Lines, j: usize, x: usize) -> usize
-    ensures { (result ≡ count x (line (old lines) j)) × (result ≤ 32) }
+    ensures { (result ≡ count x (line lines.now j)) × (result ≤ 32) }
 {
     let n = lines::len(lines, j);
     let mut m = 0;
@@ -147,7 +146,7 @@ pub fn times(lines: &Lines, j: usize, x: usize) -> usize
 
 // Who has a line stands there once.
 fn stands_once(lines: &Lines, home: usize, x: usize) -> bool
-    ensures { result ≡ holds (home under line_count gives count x (line (old lines) home) is 1) }
+    ensures { result ≡ holds (home under line_count gives count x (line lines.now home) is 1) }
 {
     !(home < LINE_COUNT) | (times(lines, home, x) == 1)
 }
@@ -155,7 +154,7 @@ fn stands_once(lines: &Lines, home: usize, x: usize) -> bool
 // Each ready task stands once in its priority's queue, each that waits at an object once in its
 // line.
 pub fn task_once(tasks: &Tasks, lines: &Lines) -> bool
-    ensures { result ≡ holds (once_rule task_count (task_home (old tasks)) (old lines)) }
+    ensures { result ≡ holds (once_rule task_count (task_home tasks.now) lines.now) }
 {
     let mut ok = true;
     let mut i = 0;
@@ -168,7 +167,7 @@ pub fn task_once(tasks: &Tasks, lines: &Lines) -> bool
 
 // Each posted Swi stands once in its priority's queue.
 pub fn swi_once(swis: &Swis, lines: &Lines) -> bool
-    ensures { result ≡ holds (once_rule swi_count (swi_home (old swis)) (old lines)) }
+    ensures { result ≡ holds (once_rule swi_count (swi_home swis.now) lines.now) }
 {
     let mut ok = true;
     let mut i = 0;

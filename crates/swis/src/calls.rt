@@ -3,7 +3,6 @@ ghost use Rattle.std.specs.Prelude.{◌≡◌};
 ghost use Rattle.rules.specs.Answer.{with_answer, answered, code_of, ◌by◌};
 ghost use Rattle.rules.specs.Swis.{swi_queues, create_cases, create_effect, delete_cases, delete_effect, end_cases, end_effect, taken_cases, taken_effect, create_call};
 ghost use Rattle.rules.specs.Swis.{delete_call, end_call, taken_call};
-ghost use Rattle.tables.specs.Lent.{old, new, swi_queues_old, swi_queues_new};
 ghost use Rattle.rules.specs.Tables.{LineTable};
 
 use super::table::{free_swi, is_held, put_swi};
@@ -14,7 +13,7 @@ use rules::{Answer, Call, Clocks, Lines, State, Swis};
 
 // Any initial trigger b is allowed.
 pub fn create_code(swis: &Swis, x: u32, a: u32, b: u32, c: u32, d: u32) -> u32
-    ensures { result ≡ code_of (create_cases (old swis) x a b c d) }
+    ensures { result ≡ code_of (create_cases swis.now x a b c d) }
 {
     if x != T {
         return 2;
@@ -33,7 +32,7 @@ pub fn create_code(swis: &Swis, x: u32, a: u32, b: u32, c: u32, d: u32) -> u32
 
 // The lines, whatever stands in them, stay.
 pub fn create_effect(swis: &mut Swis, a: u32, b: u32) -> Answer
-    ensures { (ls : LineTable) → with_answer result (swi_queues (new swis) ls) ≡ create_effect (swi_queues (old swis) ls) a b }
+    ensures { (ls : LineTable) → with_answer result (swi_queues swis.new ls) ≡ create_effect (swi_queues swis.old ls) a b }
 {
     let i = free_swi(swis);
     put_swi(swis, i, 1, a, b, b, 0, 0);
@@ -41,8 +40,8 @@ pub fn create_effect(swis: &mut Swis, a: u32, b: u32) -> Answer
 }
 
 pub fn create(swis: &mut Swis, x: u32, q: Call) -> Answer
-    ensures { (ls : LineTable) → with_answer result (swi_queues (new swis) ls)
-        ≡ answered (swi_queues (old swis) ls) (create_call (swi_queues (old swis) ls) x by q) }
+    ensures { (ls : LineTable) → with_answer result (swi_queues swis.new ls)
+        ≡ answered (swi_queues swis.old ls) (create_call (swi_queues swis.old ls) x by q) }
 {
     let code = create_code(swis, x, q.a, q.b, q.c, q.d);
     if code != 0 {
@@ -54,7 +53,7 @@ pub fn create(swis: &mut Swis, x: u32, q: Call) -> Answer
 // ---- 11: delete
 
 pub fn delete_code(swis: &Swis, lines: &Lines, clocks: &Clocks, x: u32, q: Call) -> u32
-    ensures { result ≡ code_of (delete_cases (old swis) (old lines) (old clocks) x by q) }
+    ensures { result ≡ code_of (delete_cases swis.now lines.now clocks.now x by q) }
 {
     if x != T {
         return 2;
@@ -73,15 +72,15 @@ pub fn delete_code(swis: &Swis, lines: &Lines, clocks: &Clocks, x: u32, q: Call)
 
 // The row is all 0; the lines, whatever stands in them, stay.
 pub fn delete_effect(swis: &mut Swis, a: u32) -> Answer
-    ensures { (ls : LineTable) → with_answer result (swi_queues (new swis) ls) ≡ delete_effect (swi_queues (old swis) ls) a }
+    ensures { (ls : LineTable) → with_answer result (swi_queues swis.new ls) ≡ delete_effect (swi_queues swis.old ls) a }
 {
     put_swi(swis, a as usize, 0, 0, 0, 0, 0, 0);
     answers::accepted(DONE, 0)
 }
 
 pub fn delete(swis: &mut Swis, lines: &Lines, clocks: &Clocks, x: u32, q: Call) -> Answer
-    ensures { with_answer result (swi_queues (new swis) (old lines))
-        ≡ answered (swi_queues_old swis lines) (delete_call (swi_queues_old swis lines) (old clocks) x by q) }
+    ensures { with_answer result (swi_queues swis.new lines.now)
+        ≡ answered (swi_queues swis.old lines.now) (delete_call (swi_queues swis.old lines.now) clocks.now x by q) }
 {
     let code = delete_code(swis, lines, clocks, x, q);
     if code != 0 {
@@ -93,7 +92,7 @@ pub fn delete(swis: &mut Swis, lines: &Lines, clocks: &Clocks, x: u32, q: Call) 
 // ---- 17: end of the running Swi
 
 pub fn end_code(state: &State, x: u32, a: u32, b: u32, c: u32, d: u32) -> u32
-    ensures { result ≡ code_of (end_cases (old state) x a b c d) }
+    ensures { result ≡ code_of (end_cases state.now x a b c d) }
 {
     if x != S {
         return 2;
@@ -109,7 +108,7 @@ pub fn end_code(state: &State, x: u32, a: u32, b: u32, c: u32, d: u32) -> u32
 
 // The top active Swi is active no more, and its taken trigger 0.
 pub fn end_effect(swis: &mut Swis, lines: &mut Lines) -> Answer
-    ensures { with_answer result (swi_queues_new swis lines) ≡ end_effect (swi_queues_old swis lines) }
+    ensures { with_answer result (swi_queues swis.new lines.new) ≡ end_effect (swi_queues swis.old lines.old) }
 {
     let i = lines::top(lines);
     rows::set_swi(swis, basics::wide(i), TAKEN, 0);
@@ -118,8 +117,8 @@ pub fn end_effect(swis: &mut Swis, lines: &mut Lines) -> Answer
 }
 
 pub fn end(swis: &mut Swis, lines: &mut Lines, state: &State, x: u32, q: Call) -> Answer
-    ensures { with_answer result (swi_queues_new swis lines)
-        ≡ answered (swi_queues_old swis lines) (end_call (swi_queues_old swis lines) (old state) x by q) }
+    ensures { with_answer result (swi_queues swis.new lines.new)
+        ≡ answered (swi_queues swis.old lines.old) (end_call (swi_queues swis.old lines.old) state.now x by q) }
 {
     let code = end_code(state, x, q.a, q.b, q.c, q.d);
     if code != 0 {
@@ -143,14 +142,14 @@ pub fn taken_code(x: u32, a: u32, b: u32, c: u32, d: u32) -> u32
 }
 
 pub fn taken_effect(swis: &Swis, lines: &Lines) -> Answer
-    ensures { with_answer result (swi_queues_old swis lines) ≡ taken_effect (swi_queues_old swis lines) }
+    ensures { with_answer result (swi_queues swis.now lines.now) ≡ taken_effect (swi_queues swis.now lines.now) }
 {
     let i = lines::top(lines);
     answers::accepted(DONE, rows::swi(swis, basics::wide(i), TAKEN))
 }
 
 pub fn taken(swis: &Swis, lines: &Lines, x: u32, q: Call) -> Answer
-    ensures { with_answer result (swi_queues_old swis lines) ≡ answered (swi_queues_old swis lines) (taken_call (swi_queues_old swis lines) x by q) }
+    ensures { with_answer result (swi_queues swis.now lines.now) ≡ answered (swi_queues swis.now lines.now) (taken_call (swi_queues swis.now lines.now) x by q) }
 {
     let code = taken_code(x, q.a, q.b, q.c, q.d);
     if code != 0 {

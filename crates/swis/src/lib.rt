@@ -1,12 +1,13 @@
 // The calls on Swis, 10 to 18.
+#![tactic(auto)]
+
 pub mod calls;
 pub mod posts;
 pub mod table;
 
 ghost use Rattle.std.specs.Prelude.{◌≡◌};
 ghost use Rattle.rules.specs.Answer.{with_answer, answered, ◌by◌};
-ghost use Rattle.rules.specs.Swis.{swi_call};
-ghost use Rattle.tables.specs.Lent.{old, swi_queues_old, swi_queues_new};
+ghost use Rattle.rules.specs.Swis.{swi_call, swi_queues};
 
 use rules::{Answer, Call, Clocks, Lines, State, Swis};
 
@@ -19,8 +20,8 @@ pub fn swi_call(
     x: u32,
     q: Call,
 ) -> Answer
-    ensures { with_answer result (swi_queues_new swis lines)
-        ≡ answered (swi_queues_old swis lines) (swi_call (swi_queues_old swis lines) (old clocks) (old state) x q.number by q) }
+    ensures { with_answer result (swi_queues swis.new lines.new)
+        ≡ answered (swi_queues swis.old lines.old) (swi_call (swi_queues swis.old lines.old) clocks.now state.now x q.number by q) }
 {
     let number = q.number;
     match number {

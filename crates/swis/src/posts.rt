@@ -1,16 +1,15 @@
 // Posting a Swi, and the calls 12 to 16.
 ghost use Rattle.std.specs.Prelude.{◌≡◌};
 ghost use Rattle.rules.specs.Answer.{with_answer, answered, code_of, ◌by◌};
-ghost use Rattle.rules.specs.Swis.{posted, one_down, post_cases, mask_cases, post_effect, change_effect, zero_effect, post_call, add_call, take_call, set_bits_call};
+ghost use Rattle.rules.specs.Swis.{posted, one_down, post_cases, mask_cases, post_effect, change_effect, zero_effect, post_call, add_call, take_call, set_bits_call, swi_queues};
 ghost use Rattle.rules.specs.Swis.{clear_bits_call};
-ghost use Rattle.tables.specs.Lent.{old, swi_queues_old, swi_queues_new};
 
 use rules::numbers::{DONE, POSTED, POSTED_LINES, PRIORITY, TRIGGER, USED};
 use rules::{Answer, Call, Lines, Swis};
 
 // Swi i joins its priority's queue at the back, unless it is posted already.
 pub fn post_swi(swis: &mut Swis, lines: &mut Lines, i: u32)
-    ensures { swi_queues_new swis lines ≡ posted i (swi_queues_old swis lines) }
+    ensures { swi_queues swis.new lines.new ≡ posted i (swi_queues swis.old lines.old) }
 {
     if i < rules::numbers::SWI_COUNT {
         let n = i as usize;
@@ -36,7 +35,7 @@ pub fn one_down(v: u32) -> u32
 
 // Of a call that takes a Swi alone.
 pub fn post_code(swis: &Swis, a: u32, b: u32, c: u32, d: u32) -> u32
-    ensures { result ≡ code_of (post_cases (old swis) a b c d) }
+    ensures { result ≡ code_of (post_cases swis.now a b c d) }
 {
     if rows::swi(swis, a as usize, USED) == 0 {
         return answers::absent_code(a, rules::numbers::SWI_COUNT);
@@ -49,7 +48,7 @@ pub fn post_code(swis: &Swis, a: u32, b: u32, c: u32, d: u32) -> u32
 
 // Of a call that takes a Swi and any mask.
 pub fn mask_code(swis: &Swis, a: u32, c: u32, d: u32) -> u32
-    ensures { result ≡ code_of (mask_cases (old swis) a c d) }
+    ensures { result ≡ code_of (mask_cases swis.now a c d) }
 {
     post_code(swis, a, 0, c, d)
 }
@@ -57,7 +56,7 @@ pub fn mask_code(swis: &Swis, a: u32, c: u32, d: u32) -> u32
 // ---- the effects
 
 pub fn post_effect(swis: &mut Swis, lines: &mut Lines, a: u32) -> Answer
-    ensures { with_answer result (swi_queues_new swis lines) ≡ post_effect (swi_queues_old swis lines) a }
+    ensures { with_answer result (swi_queues swis.new lines.new) ≡ post_effect (swi_queues swis.old lines.old) a }
 {
     post_swi(swis, lines, a);
     answers::accepted(DONE, 0)
@@ -65,7 +64,7 @@ pub fn post_effect(swis: &mut Swis, lines: &mut Lines, a: u32) -> Answer
 
 // The trigger is v now, and the Swi posted.
 pub fn change_effect(swis: &mut Swis, lines: &mut Lines, a: u32, v: u32) -> Answer
-    ensures { with_answer result (swi_queues_new swis lines) ≡ change_effect (swi_queues_old swis lines) a v }
+    ensures { with_answer result (swi_queues swis.new lines.new) ≡ change_effect (swi_queues swis.old lines.old) a v }
 {
     rows::set_swi(swis, a as usize, TRIGGER, v);
     post_swi(swis, lines, a);
@@ -74,7 +73,7 @@ pub fn change_effect(swis: &mut Swis, lines: &mut Lines, a: u32, v: u32) -> Answ
 
 // The trigger is v now, and the Swi posted if that is 0.
 pub fn zero_effect(swis: &mut Swis, lines: &mut Lines, a: u32, v: u32) -> Answer
-    ensures { with_answer result (swi_queues_new swis lines) ≡ zero_effect (swi_queues_old swis lines) a v }
+    ensures { with_answer result (swi_queues swis.new lines.new) ≡ zero_effect (swi_queues swis.old lines.old) a v }
 {
     if v == 0 {
         return change_effect(swis, lines, a, v);
@@ -87,7 +86,7 @@ pub fn zero_effect(swis: &mut Swis, lines: &mut Lines, a: u32, v: u32) -> Answer
 
 // 12: post.
 pub fn post(swis: &mut Swis, lines: &mut Lines, q: Call) -> Answer
-    ensures { with_answer result (swi_queues_new swis lines) ≡ answered (swi_queues_old swis lines) (post_call (swi_queues_old swis lines) by q) }
+    ensures { with_answer result (swi_queues swis.new lines.new) ≡ answered (swi_queues swis.old lines.old) (post_call (swi_queues swis.old lines.old) by q) }
 {
     let code = post_code(swis, q.a, q.b, q.c, q.d);
     if code != 0 {
@@ -98,7 +97,7 @@ pub fn post(swis: &mut Swis, lines: &mut Lines, q: Call) -> Answer
 
 // 13: add one to the trigger and post.
 pub fn add(swis: &mut Swis, lines: &mut Lines, q: Call) -> Answer
-    ensures { with_answer result (swi_queues_new swis lines) ≡ answered (swi_queues_old swis lines) (add_call (swi_queues_old swis lines) by q) }
+    ensures { with_answer result (swi_queues swis.new lines.new) ≡ answered (swi_queues swis.old lines.old) (add_call (swi_queues swis.old lines.old) by q) }
 {
     let code = post_code(swis, q.a, q.b, q.c, q.d);
     if code != 0 {
@@ -110,7 +109,7 @@ pub fn add(swis: &mut Swis, lines: &mut Lines, q: Call) -> Answer
 
 // 14: take one from the trigger and post if it is 0 now.
 pub fn take(swis: &mut Swis, lines: &mut Lines, q: Call) -> Answer
-    ensures { with_answer result (swi_queues_new swis lines) ≡ answered (swi_queues_old swis lines) (take_call (swi_queues_old swis lines) by q) }
+    ensures { with_answer result (swi_queues swis.new lines.new) ≡ answered (swi_queues swis.old lines.old) (take_call (swi_queues swis.old lines.old) by q) }
 {
     let code = post_code(swis, q.a, q.b, q.c, q.d);
     if code != 0 {
@@ -122,7 +121,7 @@ pub fn take(swis: &mut Swis, lines: &mut Lines, q: Call) -> Answer
 
 // 15: set the mask's bits in the trigger and post.
 pub fn set_bits(swis: &mut Swis, lines: &mut Lines, q: Call) -> Answer
-    ensures { with_answer result (swi_queues_new swis lines) ≡ answered (swi_queues_old swis lines) (set_bits_call (swi_queues_old swis lines) by q) }
+    ensures { with_answer result (swi_queues swis.new lines.new) ≡ answered (swi_queues swis.old lines.old) (set_bits_call (swi_queues swis.old lines.old) by q) }
 {
     let code = mask_code(swis, q.a, q.c, q.d);
     if code != 0 {
@@ -134,7 +133,7 @@ pub fn set_bits(swis: &mut Swis, lines: &mut Lines, q: Call) -> Answer
 
 // 16: clear the mask's bits in the trigger and post if it is 0 now.
 pub fn clear_bits(swis: &mut Swis, lines: &mut Lines, q: Call) -> Answer
-    ensures { with_answer result (swi_queues_new swis lines) ≡ answered (swi_queues_old swis lines) (clear_bits_call (swi_queues_old swis lines) by q) }
+    ensures { with_answer result (swi_queues swis.new lines.new) ≡ answered (swi_queues swis.old lines.old) (clear_bits_call (swi_queues swis.old lines.old) by q) }
 {
     let code = mask_code(swis, q.a, q.c, q.d);
     if code != 0 {

@@ -2,7 +2,6 @@
 ghost use Rattle.std.specs.Prelude.{◌≡◌, ◌≤◌, not, ◌||◌, [], ◌∷◌, ◌==◌};
 ghost use Rattle.rules.specs.Tables.{swi, swi_row, POSTED};
 ghost use Rattle.rules.specs.Swis.{is_active, is_named, free_swi};
-ghost use Rattle.tables.specs.Lent.{old, new};
 
 use rules::numbers::{
     ACTIVE_LINE, CLOCK_ROWS, INITIAL, POSTED, PRIORITY, SWI_ROWS, SWI_WIDTH, TAKEN, TRIGGER, USED,
@@ -20,7 +19,7 @@ pub fn put_swi(
     posted: u32,
     taken: u32,
 )
-    ensures { new swis ≡ swi_row (old swis) i (used ∷ priority ∷ initial ∷ trigger ∷ posted ∷ taken ∷ []) }
+    ensures { swis.new ≡ swi_row swis.old i (used ∷ priority ∷ initial ∷ trigger ∷ posted ∷ taken ∷ []) }
 {
     if i < SWI_ROWS {
         let at = i * SWI_WIDTH;
@@ -35,7 +34,7 @@ pub fn put_swi(
 
 // The lowest free number; 16 where none is free.
 pub fn free_swi(swis: &Swis) -> usize
-    ensures { (result ≡ free_swi (old swis)) × (result ≤ 16) }
+    ensures { (result ≡ free_swi swis.now) × (result ≤ 16) }
 {
     let mut i = 0;
     while i < SWI_ROWS {
@@ -49,7 +48,7 @@ pub fn free_swi(swis: &Swis) -> usize
 
 // Swi i is active.
 pub fn is_active(lines: &Lines, i: u32) -> bool
-    ensures { result ≡ is_active (old lines) i }
+    ensures { result ≡ is_active lines.now i }
 {
     let swi = i as usize;
     let n = lines::len(lines, ACTIVE_LINE);
@@ -65,7 +64,7 @@ pub fn is_active(lines: &Lines, i: u32) -> bool
 
 // A clock in use names Swi i.
 pub fn is_named(clocks: &Clocks, i: u32) -> bool
-    ensures { result ≡ is_named (old clocks) i }
+    ensures { result ≡ is_named clocks.now i }
 {
     let mut n = 0;
     while n < CLOCK_ROWS {
@@ -80,7 +79,7 @@ pub fn is_named(clocks: &Clocks, i: u32) -> bool
 
 // Swi i is posted, active or named by a clock.
 pub fn is_held(swis: &Swis, lines: &Lines, clocks: &Clocks, i: u32) -> bool
-    ensures { result ≡ (not (swi (old swis) i POSTED == 0) || is_active (old lines) i || is_named (old clocks) i) }
+    ensures { result ≡ (not (swi swis.now i POSTED == 0) || is_active lines.now i || is_named clocks.now i) }
 {
     let posted = rows::swi(swis, i as usize, POSTED) != 0;
     posted | is_active(lines, i) | is_named(clocks, i)

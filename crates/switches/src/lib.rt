@@ -1,11 +1,12 @@
 // The switches, the interrupt and the tick: calls 74 to 78.
+#![tactic(auto)]
+
 pub mod state;
 pub mod ticking;
 
 ghost use Rattle.std.specs.Prelude.{◌≡◌};
 ghost use Rattle.rules.specs.Answer.{with_answer, answered, ◌by◌};
-ghost use Rattle.rules.specs.Tick.{switch_call};
-ghost use Rattle.tables.specs.Lent.{tick_tables_old, tick_tables_new};
+ghost use Rattle.rules.specs.Tick.{switch_call, tick_tables};
 
 use rules::{Answer, Call, Clocks, Lines, State, Swis, Tasks};
 use ticking::tick_call;
@@ -20,8 +21,8 @@ pub fn switch_call(
     x: u32,
     q: Call,
 ) -> Answer
-    ensures { with_answer result (tick_tables_new tasks lines swis clocks state)
-        ≡ answered (tick_tables_old tasks lines swis clocks state) (switch_call (tick_tables_old tasks lines swis clocks state) x q.number by q) }
+    ensures { with_answer result (tick_tables tasks.new lines.new swis.new clocks.new state.new)
+        ≡ answered (tick_tables tasks.old lines.old swis.old clocks.old state.old) (switch_call (tick_tables tasks.old lines.old swis.old clocks.old state.old) x q.number by q) }
 {
     let number = q.number;
     match number {

@@ -3,7 +3,6 @@ ghost use Rattle.std.specs.Prelude.{◌≡◌};
 ghost use Rattle.rules.specs.Answer.{with_answer, answered, code_of, ◌by◌};
 ghost use Rattle.rules.specs.Switches.{setting, settings, turned, may_not_name, bad_which, bad_key, off_cases, restore_cases, in_cases, interrupt_cases, off_call};
 ghost use Rattle.rules.specs.Switches.{restore_call, in_call, out_call};
-ghost use Rattle.tables.specs.Lent.{old, new};
 
 use rules::numbers::{DEPTH, DONE, I, MOST_DEPTH, S, SWIS, TASKS};
 use rules::{Answer, Call, State};
@@ -23,7 +22,7 @@ const OFF: u32 = 0;
 
 // The settings of both switches, the bit of each that is on.
 pub fn settings(state: &State) -> u32
-    ensures { result ≡ settings (old state) }
+    ensures { result ≡ settings state.now }
 {
     setting(state[SWIS], SWIS_BIT) | setting(state[TASKS], TASKS_BIT)
 }
@@ -39,7 +38,7 @@ fn setting(switch: u32, bit: u32) -> u32
 
 // The switches that these bits name are v now, the others as they were.
 pub fn turn(state: &mut State, bits: u32, v: u32)
-    ensures { new state ≡ turned bits v (old state) }
+    ensures { state.new ≡ turned bits v state.old }
 {
     match bits & BOTH_BITS {
         SWIS_BIT => {
@@ -93,7 +92,7 @@ pub fn off_code(x: u32, which: u32, b: u32, c: u32, d: u32) -> u32
 
 // 77 off: the named ones' old settings.
 pub fn off(state: &mut State, x: u32, q: Call) -> Answer
-    ensures { with_answer result (new state) ≡ answered (old state) (off_call (old state) x by q) }
+    ensures { with_answer result state.new ≡ answered state.old (off_call state.old x by q) }
 {
     let which = q.a;
     let code = off_code(x, which, q.b, q.c, q.d);
@@ -121,7 +120,7 @@ pub fn restore_code(x: u32, which: u32, key: u32, c: u32, d: u32) -> u32
 
 // 78 restore: those of the named ones whose bit is in the key.
 pub fn restore(state: &mut State, x: u32, q: Call) -> Answer
-    ensures { with_answer result (new state) ≡ answered (old state) (restore_call (old state) x by q) }
+    ensures { with_answer result state.new ≡ answered state.old (restore_call state.old x by q) }
 {
     let which = q.a;
     let key = q.b;
@@ -136,7 +135,7 @@ pub fn restore(state: &mut State, x: u32, q: Call) -> Answer
 // ---- 74 and 75: the interrupt
 
 pub fn in_code(state: &State, a: u32, b: u32, c: u32, d: u32) -> u32
-    ensures { result ≡ code_of (in_cases (old state) a b c d) }
+    ensures { result ≡ code_of (in_cases state.now a b c d) }
 {
     if answers::unused(a, b, c, d) {
         return 4;
@@ -149,7 +148,7 @@ pub fn in_code(state: &State, a: u32, b: u32, c: u32, d: u32) -> u32
 
 // 74 interrupt in.
 pub fn interrupt_in(state: &mut State, q: Call) -> Answer
-    ensures { with_answer result (new state) ≡ answered (old state) (in_call (old state) by q) }
+    ensures { with_answer result state.new ≡ answered state.old (in_call state.old by q) }
 {
     let code = in_code(state, q.a, q.b, q.c, q.d);
     if code != 0 {
@@ -177,7 +176,7 @@ pub fn interrupt_code(x: u32, a: u32, b: u32, c: u32, d: u32) -> u32
 
 // 75 interrupt out.
 pub fn interrupt_out(state: &mut State, x: u32, q: Call) -> Answer
-    ensures { with_answer result (new state) ≡ answered (old state) (out_call (old state) x by q) }
+    ensures { with_answer result state.new ≡ answered state.old (out_call state.old x by q) }
 {
     let code = interrupt_code(x, q.a, q.b, q.c, q.d);
     if code != 0 {

@@ -1,17 +1,17 @@
 // The tick: the count, then the clocks in rising number, then the tasks in rising number; and call 76.
 ghost use Rattle.std.specs.Prelude.{◌≡◌};
-ghost use Rattle.rules.specs.Tick.{posted_if, clock_tick, clocks_ticked, one_less, ended_with, task_tick, tasks_ticked, ticked, tick_call};
+ghost use Rattle.rules.specs.Tick.{posted_if, clock_tick, clocks_ticked, one_less, ended_with, task_tick, tasks_ticked, ticked, tick_call, clock_tables, tick_tables};
 ghost use Rattle.switches.specs.Still.{clocks_still, eight_still, eight_tick};
 ghost use Rattle.rules.specs.Answer.{with_answer, answered, ◌by◌};
-ghost use Rattle.tables.specs.Lent.{old, task_queues_old, task_queues_new, swi_queues_old, swi_queues_new, clock_tables_old, clock_tables_new, tick_tables_old};
-ghost use Rattle.tables.specs.Lent.{tick_tables_new};
+ghost use Rattle.rules.specs.Swis.{swi_queues};
+ghost use Rattle.rules.specs.Lines.{task_queues};
 
 use rules::numbers::{CLOCK_LEFT, CLOCK_ROWS, DONE, NOT_MET, SLEEPING, TASK_LEFT, TICK};
 use rules::{Answer, Call, Clocks, Lines, State, Swis, Task, Tasks};
 
 // The Swi of a clock that has come to 0 is posted.
 pub fn post_if(fired: bool, swis: &mut Swis, lines: &mut Lines, i: u32)
-    ensures { swi_queues_new swis lines ≡ posted_if fired i (swi_queues_old swis lines) }
+    ensures { swi_queues swis.new lines.new ≡ posted_if fired i (swi_queues swis.old lines.old) }
 {
     if fired {
         swis::posts::post_swi(swis, lines, i);
@@ -20,7 +20,7 @@ pub fn post_if(fired: bool, swis: &mut Swis, lines: &mut Lines, i: u32)
 
 // Clock n, one tick older.
 pub fn clock_tick(clocks: &mut Clocks, swis: &mut Swis, lines: &mut Lines, n: usize)
-    ensures { clock_tables_new clocks swis lines ≡ clock_tick (clock_tables_old clocks swis lines) n }
+    ensures { clock_tables clocks.new swis.new lines.new ≡ clock_tick (clock_tables clocks.old swis.old lines.old) n }
 {
     let k = rows::clock(clocks, n);
     if k.left == 0 {
@@ -33,7 +33,7 @@ pub fn clock_tick(clocks: &mut Clocks, swis: &mut Swis, lines: &mut Lines, n: us
 
 // No clock has ticks left. The words are put together first, so that one test serves all sixteen.
 pub fn clocks_still(clocks: &Clocks) -> bool
-    ensures { result ≡ clocks_still (old clocks) }
+    ensures { result ≡ clocks_still clocks.now }
 {
     let mut left: u32 = 0;
     let mut n: usize = 0;
@@ -46,7 +46,7 @@ pub fn clocks_still(clocks: &Clocks) -> bool
 
 // All clocks, one tick older: nothing to do where none has ticks left.
 pub fn clocks_tick(clocks: &mut Clocks, swis: &mut Swis, lines: &mut Lines)
-    ensures { clock_tables_new clocks swis lines ≡ clocks_ticked (old clocks) (old swis) (old lines) }
+    ensures { clock_tables clocks.new swis.new lines.new ≡ clocks_ticked clocks.old swis.old lines.old }
 {
     if clocks_still(clocks) {
         return;
@@ -86,7 +86,7 @@ pub fn ended_with(mode: u32) -> u32
 
 // Task i, one tick older.
 pub fn task_tick(tasks: &mut Tasks, lines: &mut Lines, i: u32)
-    ensures { task_queues_new tasks lines ≡ task_tick (task_queues_old tasks lines) i }
+    ensures { task_queues tasks.new lines.new ≡ task_tick (task_queues tasks.old lines.old) i }
 {
     let left = rows::task_word(tasks, i as usize, TASK_LEFT);
     if left == 0 {
@@ -102,7 +102,7 @@ pub fn task_tick(tasks: &mut Tasks, lines: &mut Lines, i: u32)
 
 // None of the eight tasks from 8 g on has ticks left: one test for them all.
 pub fn eight_still(tasks: &Tasks, g: u8) -> bool
-    ensures { result ≡ eight_still (old tasks) g }
+    ensures { result ≡ eight_still tasks.now g }
 {
     let at = (g as usize) * 8;
     let mut left: u32 = 0;
@@ -116,7 +116,7 @@ pub fn eight_still(tasks: &Tasks, g: u8) -> bool
 
 // The eight tasks from 8 g on, one tick older: nothing to do where none has ticks left.
 pub fn eight_tick(tasks: &mut Tasks, lines: &mut Lines, g: u8)
-    ensures { task_queues_new tasks lines ≡ eight_tick (task_queues_old tasks lines) g }
+    ensures { task_queues tasks.new lines.new ≡ eight_tick (task_queues tasks.old lines.old) g }
 {
     if eight_still(tasks, g) {
         return;
@@ -131,7 +131,7 @@ pub fn eight_tick(tasks: &mut Tasks, lines: &mut Lines, g: u8)
 
 // All tasks, one tick older, by eights.
 pub fn tasks_tick(tasks: &mut Tasks, lines: &mut Lines)
-    ensures { task_queues_new tasks lines ≡ tasks_ticked (old tasks) (old lines) }
+    ensures { task_queues tasks.new lines.new ≡ tasks_ticked tasks.old lines.old }
 {
     let mut g: u8 = 0;
     while g < 4 {
@@ -148,7 +148,7 @@ pub fn tick(
     clocks: &mut Clocks,
     state: &mut State,
 )
-    ensures { tick_tables_new tasks lines swis clocks state ≡ ticked (tick_tables_old tasks lines swis clocks state) }
+    ensures { tick_tables tasks.new lines.new swis.new clocks.new state.new ≡ ticked (tick_tables tasks.old lines.old swis.old clocks.old state.old) }
 {
     state[TICK] = std::num::wrapping_add_u32(state[TICK], 1);
     clocks_tick(clocks, swis, lines);
@@ -165,8 +165,8 @@ pub fn tick_call(
     x: u32,
     q: Call,
 ) -> Answer
-    ensures { with_answer result (tick_tables_new tasks lines swis clocks state)
-        ≡ answered (tick_tables_old tasks lines swis clocks state) (tick_call (tick_tables_old tasks lines swis clocks state) x by q) }
+    ensures { with_answer result (tick_tables tasks.new lines.new swis.new clocks.new state.new)
+        ≡ answered (tick_tables tasks.old lines.old swis.old clocks.old state.old) (tick_call (tick_tables tasks.old lines.old swis.old clocks.old state.old) x by q) }
 {
     let code = super::state::interrupt_code(x, q.a, q.b, q.c, q.d);
     if code != 0 {

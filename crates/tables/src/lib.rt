@@ -1,5 +1,7 @@
 // All nine tables at once: what a function that is lent them gets and leaves, as one value (specs/); that their arrays have their types' lengths;
 // and fresh ones.
+#![tactic(auto)]
+
 ghost use Rattle.rules.specs.Tables.{tables, Typed};
 ghost use Rattle.std.specs.Prelude.{◌≡◌};
 ghost use Rattle.rules.specs.Fresh.{fresh_with};

@@ -5,7 +5,6 @@ ghost use Rattle.rules.specs.Answer.{code_of, with_answer, answered, ◌by◌};
 ghost use Rattle.rules.specs.Lines.{task_queues};
 ghost use Rattle.rules.specs.Tasks.{create_cases, create_effect, delete_cases, delete_effect, set_priority_cases, reprioritized, set_priority_effect, last_result_cases};
 ghost use Rattle.rules.specs.Tasks.{create_call, delete_call, set_priority_call, last_result_call};
-ghost use Rattle.tables.specs.Lent.{old, new, task_queues_old, task_queues_new};
 ghost use Rattle.rules.specs.Tables.{LineTable};
 
 use super::table::{blocked, current, free_task, is_priority, no_task, placed_at, with_priority};
@@ -18,7 +17,7 @@ use rules::{Answer, Call, Lines, State, Tasks};
 
 // 4 for a bad priority, 6 where no number is free.
 pub fn create_code(tasks: &Tasks, state: &State, x: u32, a: u32, b: u32, c: u32, d: u32) -> u32
-    ensures { result ≡ code_of (create_cases (old tasks) (old state) x a b c d) }
+    ensures { result ≡ code_of (create_cases tasks.now state.now x a b c d) }
 {
     if x != T {
         return 2;
@@ -34,7 +33,7 @@ pub fn create_code(tasks: &Tasks, state: &State, x: u32, a: u32, b: u32, c: u32,
 
 // A task at the lowest free number, ready at once unless at -1: value its number.
 pub fn create_effect(tasks: &mut Tasks, lines: &mut Lines, a: u32) -> Answer
-    ensures { with_answer result (task_queues_new tasks lines) ≡ create_effect (task_queues_old tasks lines) a }
+    ensures { with_answer result (task_queues tasks.new lines.new) ≡ create_effect (task_queues tasks.old lines.old) a }
 {
     let i = free_task(tasks) as u32;
     moves::move_back(tasks, lines, i, placed_at(no_task(), a));
@@ -43,8 +42,8 @@ pub fn create_effect(tasks: &mut Tasks, lines: &mut Lines, a: u32) -> Answer
 
 // 00 create.
 pub fn create(tasks: &mut Tasks, lines: &mut Lines, state: &State, x: u32, q: Call) -> Answer
-    ensures { with_answer result (task_queues_new tasks lines)
-        ≡ answered (task_queues_old tasks lines) (create_call (task_queues_old tasks lines) (old state) x by q) }
+    ensures { with_answer result (task_queues tasks.new lines.new)
+        ≡ answered (task_queues tasks.old lines.old) (create_call (task_queues tasks.old lines.old) state.now x by q) }
 {
     let code = create_code(tasks, state, x, q.a, q.b, q.c, q.d);
     if code != 0 {
@@ -57,7 +56,7 @@ pub fn create(tasks: &mut Tasks, lines: &mut Lines, state: &State, x: u32, q: Ca
 
 // 5 but for a terminated or inactive task.
 pub fn delete_code(tasks: &Tasks, x: u32, a: u32, b: u32, c: u32, d: u32) -> u32
-    ensures { result ≡ code_of (delete_cases (old tasks) x a b c d) }
+    ensures { result ≡ code_of (delete_cases tasks.now x a b c d) }
 {
     if x != T {
         return 2;
@@ -77,7 +76,7 @@ pub fn delete_code(tasks: &Tasks, x: u32, a: u32, b: u32, c: u32, d: u32) -> u32
 
 // The number is free again. No line is touched: such a task stands in none.
 pub fn delete_effect(tasks: &mut Tasks, a: u32) -> Answer
-    ensures { (ls : LineTable) → with_answer result (task_queues (new tasks) ls) ≡ delete_effect (task_queues (old tasks) ls) a }
+    ensures { (ls : LineTable) → with_answer result (task_queues tasks.new ls) ≡ delete_effect (task_queues tasks.old ls) a }
 {
     rows::set_task(tasks, a as usize, no_task());
     answers::accepted(DONE, 0)
@@ -85,8 +84,8 @@ pub fn delete_effect(tasks: &mut Tasks, a: u32) -> Answer
 
 // 01 delete.
 pub fn delete(tasks: &mut Tasks, x: u32, q: Call) -> Answer
-    ensures { (ls : LineTable) → with_answer result (task_queues (new tasks) ls)
-        ≡ answered (task_queues (old tasks) ls) (delete_call (task_queues (old tasks) ls) x by q) }
+    ensures { (ls : LineTable) → with_answer result (task_queues tasks.new ls)
+        ≡ answered (task_queues tasks.old ls) (delete_call (task_queues tasks.old ls) x by q) }
 {
     let code = delete_code(tasks, x, q.a, q.b, q.c, q.d);
     if code != 0 {
@@ -99,7 +98,7 @@ pub fn delete(tasks: &mut Tasks, x: u32, q: Call) -> Answer
 
 // 5 for task 0, a terminated task, or -1 for the current or a blocked task.
 pub fn set_priority_code(tasks: &Tasks, state: &State, x: u32, q: Call) -> u32
-    ensures { result ≡ code_of (set_priority_cases (old tasks) (old state) x by q) }
+    ensures { result ≡ code_of (set_priority_cases tasks.now state.now x by q) }
 {
     if x == I {
         return 2;
@@ -123,7 +122,7 @@ pub fn set_priority_code(tasks: &Tasks, state: &State, x: u32, q: Call) -> u32
 // The same priority changes nothing; a blocked task keeps its place in line; a ready or inactive
 // one joins the new queue at the back, or is inactive at -1.
 pub fn reprioritize(tasks: &mut Tasks, lines: &mut Lines, a: u32, p: u32)
-    ensures { task_queues_new tasks lines ≡ reprioritized (task_queues_old tasks lines) a p }
+    ensures { task_queues tasks.new lines.new ≡ reprioritized (task_queues tasks.old lines.old) a p }
 {
     let old = rows::task(tasks, a as usize);
     if p != old.priority {
@@ -137,7 +136,7 @@ pub fn reprioritize(tasks: &mut Tasks, lines: &mut Lines, a: u32, p: u32)
 
 // Value the old priority.
 pub fn set_priority_effect(tasks: &mut Tasks, lines: &mut Lines, a: u32, b: u32) -> Answer
-    ensures { with_answer result (task_queues_new tasks lines) ≡ set_priority_effect (task_queues_old tasks lines) a b }
+    ensures { with_answer result (task_queues tasks.new lines.new) ≡ set_priority_effect (task_queues tasks.old lines.old) a b }
 {
     let old = rows::task_word(tasks, a as usize, TASK_PRIORITY);
     reprioritize(tasks, lines, a, b);
@@ -146,8 +145,8 @@ pub fn set_priority_effect(tasks: &mut Tasks, lines: &mut Lines, a: u32, b: u32)
 
 // 02 set priority.
 pub fn set_priority(tasks: &mut Tasks, lines: &mut Lines, state: &State, x: u32, q: Call) -> Answer
-    ensures { with_answer result (task_queues_new tasks lines)
-        ≡ answered (task_queues_old tasks lines) (set_priority_call (task_queues_old tasks lines) (old state) x by q) }
+    ensures { with_answer result (task_queues tasks.new lines.new)
+        ≡ answered (task_queues tasks.old lines.old) (set_priority_call (task_queues tasks.old lines.old) state.now x by q) }
 {
     let code = set_priority_code(tasks, state, x, q);
     if code != 0 {
@@ -160,7 +159,7 @@ pub fn set_priority(tasks: &mut Tasks, lines: &mut Lines, state: &State, x: u32,
 
 // 3 for a number outside the table, 11 for a task not in use.
 pub fn last_result_code(tasks: &Tasks, a: u32, b: u32, c: u32, d: u32) -> u32
-    ensures { result ≡ code_of (last_result_cases (old tasks) a b c d) }
+    ensures { result ≡ code_of (last_result_cases tasks.now a b c d) }
 {
     if rows::task_word(tasks, a as usize, MODE) == NOT_IN_USE {
         return answers::absent_code(a, rules::numbers::TASK_COUNT);
@@ -173,8 +172,8 @@ pub fn last_result_code(tasks: &Tasks, a: u32, b: u32, c: u32, d: u32) -> u32
 
 // 06 last result: outcome and value of its last ended wait or sleep. Nothing is changed.
 pub fn last_result(tasks: &Tasks, q: Call) -> Answer
-    ensures { (ls : LineTable) → with_answer result (task_queues (old tasks) ls)
-        ≡ answered (task_queues (old tasks) ls) (last_result_call (task_queues (old tasks) ls) by q) }
+    ensures { (ls : LineTable) → with_answer result (task_queues tasks.now ls)
+        ≡ answered (task_queues tasks.now ls) (last_result_call (task_queues tasks.now ls) by q) }
 {
     let code = last_result_code(tasks, q.a, q.b, q.c, q.d);
     if code != 0 {

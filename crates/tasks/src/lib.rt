@@ -1,4 +1,6 @@
 // The calls of tasks, 00 to 06.
+#![tactic(auto)]
+
 pub mod calls;
 pub mod running;
 pub mod table;
@@ -6,14 +8,14 @@ pub mod table;
 ghost use Rattle.std.specs.Prelude.{◌≡◌};
 ghost use Rattle.rules.specs.Answer.{with_answer, answered, ◌by◌};
 ghost use Rattle.rules.specs.Tasks.{task_call};
-ghost use Rattle.tables.specs.Lent.{old, task_queues_old, task_queues_new};
+ghost use Rattle.rules.specs.Lines.{task_queues};
 
 use rules::{Answer, Call, Lines, State, Tasks};
 
 // 00 to 06; 1 for another number.
 pub fn task_call(tasks: &mut Tasks, lines: &mut Lines, state: &State, x: u32, q: Call) -> Answer
-    ensures { with_answer result (task_queues_new tasks lines)
-        ≡ answered (task_queues_old tasks lines) (task_call (task_queues_old tasks lines) (old state) x q.number by q) }
+    ensures { with_answer result (task_queues tasks.new lines.new)
+        ≡ answered (task_queues tasks.old lines.old) (task_call (task_queues tasks.old lines.old) state.now x q.number by q) }
 {
     let number = q.number;
     match number {

@@ -3,7 +3,7 @@
 ghost use Rattle.std.specs.Prelude.{◌≡◌};
 ghost use Rattle.rules.specs.Answer.{code_of, with_answer, answered, ◌by◌};
 ghost use Rattle.rules.specs.Tasks.{yield_cases, yield_effect, end_cases, end_effect, sleep_cases, sleep_effect, yield_call, end_call, sleep_call};
-ghost use Rattle.tables.specs.Lent.{old, task_queues_old, task_queues_new};
+ghost use Rattle.rules.specs.Lines.{task_queues};
 
 use super::table::{current, ended};
 use rules::numbers::{DONE, FOREVER, NOW_WAITING, SLEEPING, T};
@@ -13,7 +13,7 @@ use rules::{Answer, Call, Lines, State, Tasks};
 
 // 9 while either switch is off.
 pub fn yield_code(state: &State, x: u32, a: u32, b: u32, c: u32, d: u32) -> u32
-    ensures { result ≡ code_of (yield_cases (old state) x a b c d) }
+    ensures { result ≡ code_of (yield_cases state.now x a b c d) }
 {
     if x != T {
         return 2;
@@ -29,7 +29,7 @@ pub fn yield_code(state: &State, x: u32, a: u32, b: u32, c: u32, d: u32) -> u32
 
 // The current task goes to the back of its queue.
 pub fn yield_effect(tasks: &mut Tasks, lines: &mut Lines, state: &State) -> Answer
-    ensures { with_answer result (task_queues_new tasks lines) ≡ yield_effect (task_queues_old tasks lines) (old state) }
+    ensures { with_answer result (task_queues tasks.new lines.new) ≡ yield_effect (task_queues tasks.old lines.old) state.now }
 {
     let i = current(state);
     let k = rows::task(tasks, i as usize);
@@ -39,8 +39,8 @@ pub fn yield_effect(tasks: &mut Tasks, lines: &mut Lines, state: &State) -> Answ
 
 // 03 yield.
 pub fn yield_task(tasks: &mut Tasks, lines: &mut Lines, state: &State, x: u32, q: Call) -> Answer
-    ensures { with_answer result (task_queues_new tasks lines)
-        ≡ answered (task_queues_old tasks lines) (yield_call (task_queues_old tasks lines) (old state) x by q) }
+    ensures { with_answer result (task_queues tasks.new lines.new)
+        ≡ answered (task_queues tasks.old lines.old) (yield_call (task_queues tasks.old lines.old) state.now x by q) }
 {
     let code = yield_code(state, x, q.a, q.b, q.c, q.d);
     if code != 0 {
@@ -53,7 +53,7 @@ pub fn yield_task(tasks: &mut Tasks, lines: &mut Lines, state: &State, x: u32, q
 
 // 5 for task 0, 9 while either switch is off.
 pub fn end_code(state: &State, x: u32, a: u32, b: u32, c: u32, d: u32) -> u32
-    ensures { result ≡ code_of (end_cases (old state) x a b c d) }
+    ensures { result ≡ code_of (end_cases state.now x a b c d) }
 {
     if x != T {
         return 2;
@@ -66,7 +66,7 @@ pub fn end_code(state: &State, x: u32, a: u32, b: u32, c: u32, d: u32) -> u32
 
 // The current task is terminated.
 pub fn end_effect(tasks: &mut Tasks, lines: &mut Lines, state: &State) -> Answer
-    ensures { with_answer result (task_queues_new tasks lines) ≡ end_effect (task_queues_old tasks lines) (old state) }
+    ensures { with_answer result (task_queues tasks.new lines.new) ≡ end_effect (task_queues tasks.old lines.old) state.now }
 {
     let i = current(state);
     let k = rows::task(tasks, i as usize);
@@ -76,8 +76,8 @@ pub fn end_effect(tasks: &mut Tasks, lines: &mut Lines, state: &State) -> Answer
 
 // 04 end.
 pub fn end(tasks: &mut Tasks, lines: &mut Lines, state: &State, x: u32, q: Call) -> Answer
-    ensures { with_answer result (task_queues_new tasks lines)
-        ≡ answered (task_queues_old tasks lines) (end_call (task_queues_old tasks lines) (old state) x by q) }
+    ensures { with_answer result (task_queues tasks.new lines.new)
+        ≡ answered (task_queues tasks.old lines.old) (end_call (task_queues tasks.old lines.old) state.now x by q) }
 {
     let code = end_code(state, x, q.a, q.b, q.c, q.d);
     if code != 0 {
@@ -90,7 +90,7 @@ pub fn end(tasks: &mut Tasks, lines: &mut Lines, state: &State, x: u32, q: Call)
 
 // 4 for n = 4,294,967,295; above 0, 5 for task 0 and 9 while either switch is off.
 pub fn sleep_code(state: &State, x: u32, n: u32, b: u32, c: u32, d: u32) -> u32
-    ensures { result ≡ code_of (sleep_cases (old state) x n b c d) }
+    ensures { result ≡ code_of (sleep_cases state.now x n b c d) }
 {
     if x != T {
         return 2;
@@ -103,7 +103,7 @@ pub fn sleep_code(state: &State, x: u32, n: u32, b: u32, c: u32, d: u32) -> u32
 
 // n = 0 does nothing; else the current task sleeps for n ticks: outcome 2.
 pub fn sleep_effect(tasks: &mut Tasks, lines: &mut Lines, state: &State, n: u32) -> Answer
-    ensures { with_answer result (task_queues_new tasks lines) ≡ sleep_effect (task_queues_old tasks lines) (old state) n }
+    ensures { with_answer result (task_queues tasks.new lines.new) ≡ sleep_effect (task_queues tasks.old lines.old) state.now n }
 {
     if n == 0 {
         return answers::accepted(DONE, 0);
@@ -114,8 +114,8 @@ pub fn sleep_effect(tasks: &mut Tasks, lines: &mut Lines, state: &State, n: u32)
 
 // 05 sleep.
 pub fn sleep(tasks: &mut Tasks, lines: &mut Lines, state: &State, x: u32, q: Call) -> Answer
-    ensures { with_answer result (task_queues_new tasks lines)
-        ≡ answered (task_queues_old tasks lines) (sleep_call (task_queues_old tasks lines) (old state) x by q) }
+    ensures { with_answer result (task_queues tasks.new lines.new)
+        ≡ answered (task_queues tasks.old lines.old) (sleep_call (task_queues tasks.old lines.old) state.now x by q) }
 {
     let code = sleep_code(state, x, q.a, q.b, q.c, q.d);
     if code != 0 {

@@ -2,7 +2,6 @@
 ghost use Rattle.std.specs.Prelude.{◌≡◌, cond as if, eqb, ◌≤◌};
 ghost use Rattle.rules.specs.Tables.{minus_one, ready, inactive, no_task, current};
 ghost use Rattle.rules.specs.Tasks.{is_priority, free_task, blocked, placed_at, with_priority, ended};
-ghost use Rattle.tables.specs.Lent.{old};
 
 use rules::numbers::{
     INACTIVE, MINUS_ONE, MODE, NOT_IN_USE, READY, SLEEPING, TASK_ROWS, TERMINATED, WRITING,
@@ -20,7 +19,7 @@ pub fn is_priority(n: u32, p: u32) -> bool
 
 // The lowest free number; 32 where none is free.
 pub fn free_task(tasks: &Tasks) -> usize
-    ensures { (result ≡ free_task (old tasks)) × (result ≤ 32) }
+    ensures { (result ≡ free_task tasks.now) × (result ≤ 32) }
 {
     let mut i = 0;
     while i < TASK_ROWS {
@@ -41,7 +40,7 @@ pub fn blocked(mode: u32) -> bool
 
 // The current task.
 pub fn current(state: &State) -> u32
-    ensures { result ≡ current (old state) }
+    ensures { result ≡ current state.now }
 {
     basics::wide(rows::readings::current(state)) as u32
 }

@@ -2,7 +2,6 @@
 ghost use Rattle.runs.specs.CallList.{handed};
 ghost use Rattle.demands.specs.Lists.{PromisedList};
 ghost use Rattle.test_calls.specs.Trial.{Left};
-ghost use Rattle.tables.specs.Lent.{old, new};
 
 use rules::{Call, Step, Tables, Thread};
 
@@ -72,7 +71,7 @@ pub(crate) fn call(t: Tables, q: Call) -> InPlace
 
 // Many calls at once, with room for their answers.
 pub fn call_list(t: Tables, calls: &[u32], answers: &mut [u32]) -> Step
-    ensures { PromisedList t (old calls) (old answers) (handed result.tables (new answers) result.answer result.thread) }
+    ensures { PromisedList t calls.now answers.old (handed result.tables answers.new result.answer result.thread) }
 {
     let mut tasks = t.tasks;
     let mut lines = t.lines;

@@ -3,14 +3,13 @@ ghost use Rattle.std.specs.Prelude.{◌++◌};
 ghost use Rattle.rules.specs.Text.{line_feed};
 ghost use Rattle.text.specs.Put.{Put};
 ghost use Rattle.test_calls.specs.Lines.{call_text};
-ghost use Rattle.tables.specs.Lent.{old, new};
 
 use super::trial::Tried;
 use text::Text;
 
 // The rest of a line: a text, and the line's end.
 pub fn put_rest(out: &mut Text, at: usize, text: &[u8]) -> usize
-    ensures { Put (old out) at (old text ++ line_feed) (new out) result }
+    ensures { Put out.old at (text.now ++ line_feed) out.new result }
 {
     let p = text::put_text(out, at, text);
     text::put_byte(out, p, b'\n')
@@ -18,7 +17,7 @@ pub fn put_rest(out: &mut Text, at: usize, text: &[u8]) -> usize
 
 // The line of call n with a note behind it, or that the entries differ.
 pub fn put_call(out: &mut Text, n: u64, tried: Tried, note: &[u8]) -> usize
-    ensures { Put (old out) 0 (call_text n tried (old note) ++ line_feed) (new out) result }
+    ensures { Put out.old 0 (call_text n tried note.now ++ line_feed) out.new result }
 {
     if !tried.agrees {
         return put_rest(out, 0, b"differs");

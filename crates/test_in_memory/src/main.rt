@@ -1,5 +1,6 @@
 // Replays logs that are whole in memory, fronts of the log on standard input: document 01's sample, and then the last result of task 0, 130 times.
 // The buffers are full of dots, and what a text leaves free is a dot still.
+#![tactic(auto)]
 
 type Log = [u8; 2700];
 

@@ -1,5 +1,7 @@
 // Trials of the call core: the log of each kind, each call by value and in place. The calls and their answers were worked out by hand from
 // document 01 (reference/threads.c, pends.c, machine.c and levels.c).
+#![tactic(auto)]
+
 mod logs;
 mod print;
 

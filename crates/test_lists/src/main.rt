@@ -1,5 +1,7 @@
 // Lists of calls by hand on one set of tables: good ones and bad ones, and at last on tables that are not sound. Each row has its line, how many words of
 // the answer room are filled, and a sum over these.
+#![tactic(auto)]
+
 ghost use Rattle.std.specs.Prelude.{◌≤◌};
 
 use call_lists::front;

@@ -1,7 +1,8 @@
 // A worked example of the reader: it reads a log of two records and a fault, and hands out each record's arguments when it has read it.
+#![tactic(auto)]
+
 ghost use Rattle.std.specs.Prelude.{◌≡◌};
 ghost use Rattle.test_reader.specs.Walk.{start_of, arguments_in, walked, is_record, is_version, are_in};
-ghost use Rattle.tables.specs.Lent.{old};
 
 use call_log::reader::Reader;
 use rules::Read;
@@ -30,7 +31,7 @@ struct Arguments {
 }
 
 fn arguments_in(bytes: &[u8]) -> Arguments
-    ensures { result ≡ arguments_in (old bytes) }
+    ensures { result ≡ arguments_in bytes.now }
 {
     Arguments {
         len: bytes.len(),
@@ -53,7 +54,7 @@ struct Walked {
 }
 
 fn walk(log: &[u8]) -> Walked
-    ensures { result ≡ walked (old log) }
+    ensures { result ≡ walked log.now }
 {
     let mut reader = Reader::new(log);
     let first = reader.next();

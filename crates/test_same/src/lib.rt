@@ -1,13 +1,14 @@
 // Whether two answers, two threads or two sets of tables are the same, to the last byte.
+#![tactic(auto)]
+
 ghost use Rattle.std.specs.Prelude.{◌≡◌};
 ghost use Rattle.test_same.specs.Tells.{Tells};
-ghost use Rattle.tables.specs.Lent.{old};
 
 use rules::{Answer, Tables, Thread};
 
 // Whether two slices hold the same words.
 fn same_words(a: &[u32], b: &[u32]) -> bool
-    ensures { Tells result (old a ≡ old b) }
+    ensures { Tells result (a.now ≡ b.now) }
 {
     if a.len() != b.len() {
         return false;

@@ -1,4 +1,6 @@
 // The rules of sound tables: sound tables accept a call, by value and in place, and refuse it with code 10, unchanged, once a rule is broken.
+#![tactic(auto)]
+
 mod calls;
 mod changes;
 mod far;

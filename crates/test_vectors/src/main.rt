@@ -1,4 +1,6 @@
 // Replays each log that an argument names, whole in memory, under a line with its name, and makes its calls by lists.
+#![tactic(auto)]
+
 mod lists;
 
 use lists::print_sums;

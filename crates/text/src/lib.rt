@@ -1,9 +1,10 @@
 // The text of a replay in a lent buffer. Each function writes at a place and says where the text ends; what does not fit is left off.
+#![tactic(auto)]
+
 ghost use Rattle.std.specs.Prelude.{◌∷◌, [], ◌++◌, length};
 ghost use Rattle.rules.specs.Text.{digits, decimal, space, line_feed, thread_text, line_text, word_text};
 ghost use Rattle.text.specs.Part.{FrontOf};
 ghost use Rattle.text.specs.Put.{PutIn, Put};
-ghost use Rattle.tables.specs.Lent.{old, new};
 
 use rules::{Answer, Thread};
 
@@ -11,7 +12,7 @@ use rules::{Answer, Thread};
 pub type Text = [u8; 16384];
 
 pub fn put_byte(out: &mut Text, at: usize, b: u8) -> usize
-    ensures { Put (old out) at (b ∷ []) (new out) result }
+    ensures { Put out.old at (b ∷ []) out.new result }
 {
     if at < 16384 {
         out[at] = b;
@@ -22,7 +23,7 @@ pub fn put_byte(out: &mut Text, at: usize, b: u8) -> usize
 
 // n in decimal, of at most k digits.
 fn put_digits(out: &mut Text, at: usize, k: usize, n: u64) -> usize
-    ensures { Put (old out) at (digits k n) (new out) result }
+    ensures { Put out.old at (digits k n) out.new result }
 {
     if k == 0 {
         return at;
@@ -36,14 +37,14 @@ fn put_digits(out: &mut Text, at: usize, k: usize, n: u64) -> usize
 
 // n in plain decimal.
 pub fn put_decimal(out: &mut Text, at: usize, n: u64) -> usize
-    ensures { Put (old out) at (decimal n) (new out) result }
+    ensures { Put out.old at (decimal n) out.new result }
 {
     put_digits(out, at, 20, n)
 }
 
 // A number and a space.
 pub fn put_column(out: &mut Text, at: usize, n: u64) -> usize
-    ensures { Put (old out) at (decimal n ++ space) (new out) result }
+    ensures { Put out.old at (decimal n ++ space) out.new result }
 {
     let p = put_decimal(out, at, n);
     put_byte(out, p, b' ')
@@ -51,7 +52,7 @@ pub fn put_column(out: &mut Text, at: usize, n: u64) -> usize
 
 // A letter and a number.
 fn put_lettered(out: &mut Text, at: usize, letter: u8, n: u32) -> usize
-    ensures { Put (old out) at (letter ∷ decimal n) (new out) result }
+    ensures { Put out.old at (letter ∷ decimal n) out.new result }
 {
     let p = put_byte(out, at, letter);
     put_decimal(out, p, n as u64)
@@ -59,7 +60,7 @@ fn put_lettered(out: &mut Text, at: usize, letter: u8, n: u32) -> usize
 
 // The thread: T or S with its number, or I.
 pub fn put_thread(out: &mut Text, at: usize, thread: Thread) -> usize
-    ensures { Put (old out) at (thread_text thread) (new out) result }
+    ensures { Put out.old at (thread_text thread) out.new result }
 {
     match thread {
         Thread::Task(n) => put_lettered(out, at, b'T', n),
@@ -70,7 +71,7 @@ pub fn put_thread(out: &mut Text, at: usize, thread: Thread) -> usize
 
 // The line of record n.
 pub fn put_line(out: &mut Text, at: usize, n: u64, answer: Answer, thread: Thread) -> usize
-    ensures { Put (old out) at (line_text n answer thread ++ line_feed) (new out) result }
+    ensures { Put out.old at (line_text n answer thread ++ line_feed) out.new result }
 {
     let code = put_column(out, at, n);
     let outcome = put_column(out, code, answer.code as u64);
@@ -82,7 +83,7 @@ pub fn put_line(out: &mut Text, at: usize, n: u64, answer: Answer, thread: Threa
 
 // A text as it is.
 pub fn put_text(out: &mut Text, at: usize, text: &[u8]) -> usize
-    ensures { Put (old out) at (old text) (new out) result }
+    ensures { Put out.old at text.now out.new result }
 {
     let mut p = at;
     let mut i = 0;
@@ -95,7 +96,7 @@ pub fn put_text(out: &mut Text, at: usize, text: &[u8]) -> usize
 
 // A text in a buffer of any length.
 pub fn put_in(out: &mut [u8], at: usize, text: &[u8]) -> usize
-    ensures { PutIn (length (old out)) (old out) at (old text) (new out) result }
+    ensures { PutIn (length out.old) out.old at text.now out.new result }
 {
     let mut p = at;
     let mut i = 0;
@@ -109,7 +110,7 @@ pub fn put_in(out: &mut [u8], at: usize, text: &[u8]) -> usize
 
 // The last line: a word and a number.
 pub fn put_word(out: &mut Text, at: usize, word: &[u8], n: u64) -> usize
-    ensures { Put (old out) at (word_text (old word) n ++ line_feed) (new out) result }
+    ensures { Put out.old at (word_text word.now n ++ line_feed) out.new result }
 {
     let p = put_text(out, at, word);
     let q = put_byte(out, p, b' ');

@@ -1,9 +1,10 @@
 // For the desk's views: replays each log that an argument names, or standard input where there is none, and prints a line of numbers for each
 // record (docs/TRACE.md), last the line that ends every replay.
 // A record is read and its call made by the step that every replay stands on, `desk_reads::next`; the tables before it are kept beside those after it.
+#![tactic(auto)]
+
 ghost use Rattle.std.specs.Prelude.{◌≡◌, ◌+◌, ◌/◌, ◌≤◌, cond as if, length};
 ghost use Rattle.kernel.specs.Safe.{Safe};
-ghost use Rattle.tables.specs.Lent.{old};
 
 use desk::Part;
 use desk_reads::Replayed;
@@ -95,8 +96,8 @@ struct Traced {
 
 // How many places of a part are read: that of each whole record, and where nothing follows that at which the log ends.
 fn places(log: &[u8], last: bool) -> usize
-    ensures value { result ≡ if last (length (old log) / 20 + 1) (length (old log) / 20) }
-    ensures upper_bound { result ≤ length (old log) / 20 + 1 }
+    ensures value { result ≡ if last (length log.now / 20 + 1) (length log.now / 20) }
+    ensures upper_bound { result ≤ length log.now / 20 + 1 }
 {
     if last {
         return log.len() / 20 + 1;

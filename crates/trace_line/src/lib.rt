@@ -1,9 +1,10 @@
 // The line of a record in the trace: its parts one after the other, in a lent text.
+#![tactic(auto)]
+
 ghost use Rattle.std.specs.Prelude.{[], ◌∷◌, ◌++◌};
 ghost use Rattle.rules.specs.Tables.{word_end};
 ghost use Rattle.rules.specs.Text.{space, thread_text};
 ghost use Rattle.text.specs.Put.{Put};
-ghost use Rattle.tables.specs.Lent.{old, new};
 ghost use Rattle.trace_changes.specs.Numbers.{PutNumbers};
 ghost use Rattle.trace_changes.specs.Changes.{changed_semaphores, changed_events, changed_mailboxes};
 ghost use Rattle.trace_changes.specs.Line.{bar, barred, call_text, trace_line, Under, Typical, Lined};
@@ -21,14 +22,14 @@ use trace_threads::{put_posted, put_posts, put_started, put_state, put_tasks};
 
 // What stands between two parts.
 fn put_bar(out: &mut Text, at: usize) -> usize
-    ensures { Put (old out) at bar (new out) result }
+    ensures { Put out.old at bar out.new result }
 {
     let p = text::put_byte(out, at, b';');
     text::put_byte(out, p, b' ')
 }
 
 fn put_thread(out: &mut Text, at: usize, thread: Thread) -> usize
-    ensures { Put (old out) at (thread_text thread ++ space) (new out) result }
+    ensures { Put out.old at (thread_text thread ++ space) out.new result }
 {
     let p = text::put_thread(out, at, thread);
     text::put_byte(out, p, b' ')
@@ -56,7 +57,7 @@ fn put_answer(out: &mut Text, at: usize, answer: Answer) -> usize
 
 // The call, by the tables before it.
 fn put_call<'a>(out: &mut Text, at: usize, made: Made, lines: &'a Lines, state: &'a State) -> usize
-    ensures { Put (old out) at (call_text made (old lines) (old state)) (new out) result }
+    ensures { Put out.old at (call_text made lines.now state.now) out.new result }
 {
     let tick = put_long(out, at, made.n);
     let caller = put(out, tick, state[TICK]);
@@ -82,13 +83,13 @@ fn put_waited<'a, 'b>(
     events: &'b Events,
     mailboxes: &'b Mailboxes,
 ) -> usize
-    ensures { Put (old out) at
+    ensures { Put out.old at
         (barred
-        (changed_semaphores (old semaphores_before) (old lines_before) (old semaphores) (old lines)
-        ∷ changed_events (old events_before) (old lines_before) (old events) (old lines)
-        ∷ changed_mailboxes (old mailboxes_before) (old lines_before) (old mailboxes) (old lines)
+        (changed_semaphores semaphores_before.now lines_before.now semaphores.now lines.now
+        ∷ changed_events events_before.now lines_before.now events.now lines.now
+        ∷ changed_mailboxes mailboxes_before.now lines_before.now mailboxes.now lines.now
         ∷ []))
-        (new out) result }
+        out.new result }
 {
     let s = put_bar(out, at);
     let after_s = put_lined(
@@ -122,7 +123,7 @@ fn put_waited<'a, 'b>(
 
 // A table's numbers are words: its type tells a proof so where one is read, and nothing is left of this in a compiled program.
 fn are_words(t: &[u32])
-    ensures { Under word_end (old t) }
+    ensures { Under word_end t.now }
 {
     if 0 < t.len() {
         let _first = t[0];
@@ -131,7 +132,7 @@ fn are_words(t: &[u32])
 
 // The same of bytes.
 fn are_bytes(t: &[u8])
-    ensures { Under 256 (old t) }
+    ensures { Under 256 t.now }
 {
     if 0 < t.len() {
         let _first = t[0];
@@ -153,7 +154,7 @@ fn are_typical(t: Tables)
 
 // The line of a record, by the tables before its call and after it.
 pub fn put_trace(out: &mut Text, at: usize, made: Made, before: Tables, after: Tables) -> usize
-    ensures { Lined (old out) at (trace_line made before after) (new out) result }
+    ensures { Lined out.old at (trace_line made before after) out.new result }
 {
     are_typical(after);
     let told = put_call(out, at, made, &before.lines, &before.state);

@@ -1,11 +1,12 @@
 // The objects that changed: rows alone, rows with a line, mailboxes, clocks, and the heap.
+#![tactic(auto)]
+
 ghost use Rattle.std.specs.Prelude.{◌≡◌, not, ◌&&◌, ◌∷◌, ◌++◌, ◌+◌, ◌≤◌};
 ghost use Rattle.rules.specs.Tables.{messages};
 ghost use Rattle.rules.specs.Lines.{line};
 ghost use Rattle.trace_changes.specs.Numbers.{PutNumbers, told, same_list};
 ghost use Rattle.trace_changes.specs.Changes.{row, same_row, waiting, changed_rows, changed_lined, mailbox_numbers, same_mailbox, changed_mailboxes, runs_out, ran_out};
 ghost use Rattle.trace_changes.specs.Changes.{changed_clocks, same_heap, units_with, changed_heap};
-ghost use Rattle.tables.specs.Lent.{old};
 
 use rules::numbers::{
     CAPACITY, CLOCK_ROWS_U8, CLOCK_WIDTH_U8, FIRST_OF, HEAP_UNITS, LATER_IN, MAILBOX_LINES,
@@ -20,7 +21,7 @@ use trace_put::{bit, put, put_long, put_row, put_small, put_waiting, same_line, 
 
 // A row's number and its words.
 fn put_object(out: &mut Text, at: usize, t: &[u32], w: u8, n: u8, i: u8) -> usize
-    ensures { PutNumbers out at (i ∷ row w n (old t) i) result }
+    ensures { PutNumbers out at (i ∷ row w n t.now i) result }
 {
     let p = put_small(out, at, i);
     put_row(out, p, t, w, n, i)
@@ -36,7 +37,7 @@ fn put_if_changed(
     n: u8,
     i: u8,
 ) -> usize
-    ensures { PutNumbers out at (told (not (same_row w n (old before) (old t) i)) (i ∷ row w n (old t) i)) result }
+    ensures { PutNumbers out at (told (not (same_row w n before.now t.now i)) (i ∷ row w n t.now i)) result }
 {
     if same_row(before, t, w, n, i) {
         return at;
@@ -46,7 +47,7 @@ fn put_if_changed(
 
 // Of n rows of w words, those that changed.
 pub fn put_rows(out: &mut Text, at: usize, before: &[u32], t: &[u32], w: u8, n: u8) -> usize
-    ensures { PutNumbers out at (changed_rows w n (old before) (old t)) result }
+    ensures { PutNumbers out at (changed_rows w n before.now t.now) result }
 {
     let mut p = at;
     let mut i: u8 = 0;
@@ -73,8 +74,8 @@ fn put_lined_if_changed(
     i: u8,
 ) -> usize
     ensures { PutNumbers out at
-        (told (not (same_row w n (old before) (old t) i && same_list (line (old lines_before) (from + i)) (line (old lines) (from + i))))
-        (i ∷ (row w n (old t) i ++ waiting (old lines) (from + i)))) result }
+        (told (not (same_row w n before.now t.now i && same_list (line lines_before.now (from + i)) (line lines.now (from + i))))
+        (i ∷ (row w n t.now i ++ waiting lines.now (from + i)))) result }
 {
     let j = basics::wide(from) + basics::wide(i);
     if same_row(before, t, w, n, i) & same_line(lines_before, lines, j) {
@@ -96,7 +97,7 @@ pub fn put_lined(
     lines: &Lines,
     from: u8,
 ) -> usize
-    ensures { PutNumbers out at (changed_lined w n from (old before) (old lines_before) (old t) (old lines)) result }
+    ensures { PutNumbers out at (changed_lined w n from before.now lines_before.now t.now lines.now) result }
 {
     let mut p = at;
     let mut i: u8 = 0;
@@ -111,7 +112,7 @@ pub fn put_lined(
 
 // The messages of mailbox i, the oldest first.
 fn put_messages(out: &mut Text, at: usize, mailboxes: &Mailboxes, i: usize) -> usize
-    ensures { PutNumbers out at (messages (old mailboxes) i) result }
+    ensures { PutNumbers out at (messages mailboxes.now i) result }
 {
     let n = mailboxes::messages::count(mailboxes, i);
     let mut p = at;
@@ -124,7 +125,7 @@ fn put_messages(out: &mut Text, at: usize, mailboxes: &Mailboxes, i: usize) -> u
 }
 
 fn put_mailbox(out: &mut Text, at: usize, mailboxes: &Mailboxes, lines: &Lines, i: u8) -> usize
-    ensures { PutNumbers out at (mailbox_numbers (old mailboxes) (old lines) i) result }
+    ensures { PutNumbers out at (mailbox_numbers mailboxes.now lines.now i) result }
 {
     let n = basics::wide(i);
     let capacity = put_small(out, at, i);
@@ -141,7 +142,7 @@ fn same_mailbox(
     lines: &Lines,
     i: u8,
 ) -> bool
-    ensures { result ≡ same_mailbox (old before) (old lines_before) (old mailboxes) (old lines) i }
+    ensures { result ≡ same_mailbox before.now lines_before.now mailboxes.now lines.now i }
 {
     same_row(before, mailboxes, MAILBOX_WIDTH_U8, MAILBOX_ROWS_U8, i)
         & same_line(lines_before, lines, MAILBOX_LINES + basics::wide(i))
@@ -158,7 +159,7 @@ fn put_mailbox_if_changed(
     i: u8,
 ) -> usize
     ensures { PutNumbers out at
-        (told (not (same_mailbox (old before) (old lines_before) (old mailboxes) (old lines) i)) (mailbox_numbers (old mailboxes) (old lines) i)) result }
+        (told (not (same_mailbox before.now lines_before.now mailboxes.now lines.now i)) (mailbox_numbers mailboxes.now lines.now i)) result }
 {
     if same_mailbox(before, lines_before, mailboxes, lines, i) {
         return at;
@@ -174,7 +175,7 @@ pub fn put_mailboxes(
     mailboxes: &Mailboxes,
     lines: &Lines,
 ) -> usize
-    ensures { PutNumbers out at (changed_mailboxes (old before) (old lines_before) (old mailboxes) (old lines)) result }
+    ensures { PutNumbers out at (changed_mailboxes before.now lines_before.now mailboxes.now lines.now) result }
 {
     let mut p = at;
     let mut i: u8 = 0;
@@ -189,7 +190,7 @@ pub fn put_mailboxes(
 
 // Clock i as it is now, if it ran out.
 fn put_if_ran_out(out: &mut Text, at: usize, before: &Clocks, clocks: &Clocks, i: u8) -> usize
-    ensures { PutNumbers out at (told (runs_out (old before) i) (i ∷ row 5 16 (old clocks) i)) result }
+    ensures { PutNumbers out at (told (runs_out before.now i) (i ∷ row 5 16 clocks.now i)) result }
 {
     if trace_put::runs_out(rows::clock(before, basics::wide(i))) {
         return put_object(out, at, clocks, CLOCK_WIDTH_U8, CLOCK_ROWS_U8, i);
@@ -199,7 +200,7 @@ fn put_if_ran_out(out: &mut Text, at: usize, before: &Clocks, clocks: &Clocks, i
 
 // The clocks that ran out.
 fn put_ran_out(out: &mut Text, at: usize, before: &Clocks, clocks: &Clocks) -> usize
-    ensures { PutNumbers out at (ran_out (old before) (old clocks)) result }
+    ensures { PutNumbers out at (ran_out before.now clocks.now) result }
 {
     let mut p = at;
     let mut i: u8 = 0;
@@ -211,7 +212,7 @@ fn put_ran_out(out: &mut Text, at: usize, before: &Clocks, clocks: &Clocks) -> u
 }
 
 pub fn put_clocks(out: &mut Text, at: usize, made: Made, before: &Clocks, clocks: &Clocks) -> usize
-    ensures { PutNumbers out at (changed_clocks made (old before) (old clocks)) result }
+    ensures { PutNumbers out at (changed_clocks made before.now clocks.now) result }
 {
     let answer = made.answer;
     let asked = made.asked;
@@ -224,7 +225,7 @@ pub fn put_clocks(out: &mut Text, at: usize, made: Made, before: &Clocks, clocks
 // ---- the heap
 
 fn same_heap(before: &Heap, heap: &Heap) -> bool
-    ensures { result ≡ same_heap (old before) (old heap) }
+    ensures { result ≡ same_heap before.now heap.now }
 {
     let mut same = true;
     let mut u = 0;
@@ -237,7 +238,7 @@ fn same_heap(before: &Heap, heap: &Heap) -> bool
 
 // How many units have this entry.
 fn count_units(heap: &Heap, e: u8) -> usize
-    ensures { (result ≡ units_with e (old heap)) × (result ≤ 256) }
+    ensures { (result ≡ units_with e heap.now) × (result ≤ 256) }
 {
     let mut n = 0;
     let mut u = 0;
@@ -249,7 +250,7 @@ fn count_units(heap: &Heap, e: u8) -> usize
 }
 
 pub fn put_heap(out: &mut Text, at: usize, before: &Heap, heap: &Heap) -> usize
-    ensures { PutNumbers out at (changed_heap (old before) (old heap)) result }
+    ensures { PutNumbers out at (changed_heap before.now heap.now) result }
 {
     if same_heap(before, heap) {
         return at;

@@ -1,5 +1,7 @@
 // What the parts of a line of the trace share: numbers in a lent text, a row's words, those who stand in a line, whether rows and lines are the same,
 // and whether a clock runs out.
+#![tactic(auto)]
+
 ghost use Rattle.std.specs.Prelude.{◌≡◌, ◌∷◌, [], eqb, get_or};
 ghost use Rattle.basics.specs.Lists.{bit};
 ghost use Rattle.basics.specs.Find.{all_below};
@@ -8,7 +10,6 @@ ghost use Rattle.rules.specs.Lines.{line};
 ghost use Rattle.rules.specs.Tick.{aged};
 ghost use Rattle.trace_changes.specs.Numbers.{PutNumbers, same_list};
 ghost use Rattle.trace_changes.specs.Changes.{row, same_row, waiting};
-ghost use Rattle.tables.specs.Lent.{old};
 
 use rules::{Clock, Lines};
 use text::Text;
@@ -36,7 +37,7 @@ pub fn put_small(out: &mut Text, at: usize, n: u8) -> usize
 
 // The word at a place; 0 past the end.
 fn word(t: &[u32], k: usize) -> u32
-    ensures { result ≡ get_or (old t) k 0 }
+    ensures { result ≡ get_or t.now k 0 }
 {
     if k < t.len() {
         return t[k];
@@ -46,7 +47,7 @@ fn word(t: &[u32], k: usize) -> u32
 
 // Field f of row i of a table of n rows of w words; 0 where there is none.
 fn field(t: &[u32], w: u8, n: u8, i: u8, f: u8) -> u32
-    ensures { result ≡ field w n (old t) i f }
+    ensures { result ≡ field w n t.now i f }
 {
     if i < n {
         if f < w {
@@ -59,7 +60,7 @@ fn field(t: &[u32], w: u8, n: u8, i: u8, f: u8) -> u32
 
 // A row's words.
 pub fn put_row(out: &mut Text, at: usize, t: &[u32], w: u8, n: u8, i: u8) -> usize
-    ensures { PutNumbers out at (row w n (old t) i) result }
+    ensures { PutNumbers out at (row w n t.now i) result }
 {
     let mut p = at;
     let mut f: u8 = 0;
@@ -72,7 +73,7 @@ pub fn put_row(out: &mut Text, at: usize, t: &[u32], w: u8, n: u8, i: u8) -> usi
 
 // Whether a row's words are the same in both tables.
 pub fn same_row(t: &[u32], u: &[u32], w: u8, n: u8, i: u8) -> bool
-    ensures { result ≡ same_row w n (old t) (old u) i }
+    ensures { result ≡ same_row w n t.now u.now i }
 {
     let mut same = true;
     let mut f: u8 = 0;
@@ -85,7 +86,7 @@ pub fn same_row(t: &[u32], u: &[u32], w: u8, n: u8, i: u8) -> bool
 
 // Those who stand in line j.
 pub fn put_line(out: &mut Text, at: usize, lines: &Lines, j: usize) -> usize
-    ensures { PutNumbers out at (line (old lines) j) result }
+    ensures { PutNumbers out at (line lines.now j) result }
 {
     let n = lines::len(lines, j);
     let mut p = at;
@@ -99,7 +100,7 @@ pub fn put_line(out: &mut Text, at: usize, lines: &Lines, j: usize) -> usize
 
 // How many stand in line j, and who.
 pub fn put_waiting(out: &mut Text, at: usize, lines: &Lines, j: usize) -> usize
-    ensures { PutNumbers out at (waiting (old lines) j) result }
+    ensures { PutNumbers out at (waiting lines.now j) result }
 {
     let p = put_long(out, at, lines::len(lines, j) as u64);
     put_line(out, p, lines, j)
@@ -107,7 +108,7 @@ pub fn put_waiting(out: &mut Text, at: usize, lines: &Lines, j: usize) -> usize
 
 // Whether the first n of line j are the same in both tables.
 fn same_front(lines: &Lines, after: &Lines, j: usize, n: usize) -> bool
-    ensures { result ≡ all_below n (λ k. eqb (get_or (line (old lines) j) k 0) (get_or (line (old after) j) k 0)) }
+    ensures { result ≡ all_below n (λ k. eqb (get_or (line lines.now j) k 0) (get_or (line after.now j) k 0)) }
 {
     let mut same = true;
     let mut k = 0;
@@ -120,7 +121,7 @@ fn same_front(lines: &Lines, after: &Lines, j: usize, n: usize) -> bool
 
 // Whether the same stand in line j of both tables.
 pub fn same_line(lines: &Lines, after: &Lines, j: usize) -> bool
-    ensures { result ≡ same_list (line (old lines) j) (line (old after) j) }
+    ensures { result ≡ same_list (line lines.now j) (line after.now j) }
 {
     let n = lines::len(lines, j);
     (n == lines::len(after, j)) & same_front(lines, after, j, n)

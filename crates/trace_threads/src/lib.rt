@@ -1,10 +1,11 @@
 // The state, the tasks that changed, the posts that were made, the Swi that was started, and those posted and active.
+#![tactic(auto)]
+
 ghost use Rattle.std.specs.Prelude.{◌≡◌, not};
 ghost use Rattle.rules.specs.Tables.{task};
 ghost use Rattle.trace_changes.specs.Numbers.{PutNumbers, told};
 ghost use Rattle.trace_changes.specs.Changes.{state_now, same_task, task_numbers, changed_tasks, post, is_posted, call_posts, call_post, posted_below, clock_post};
 ghost use Rattle.trace_changes.specs.Changes.{clock_posts, posts_made, is_started, started_swi, posted_swis};
-ghost use Rattle.tables.specs.Lent.{old};
 
 use rules::numbers::{
     ACTIVE_LINE, CLOCK_COUNT, CURRENT, DEPTH, LEVELS, POSTED, POSTED_LINES, SWI_HIGHEST,
@@ -18,7 +19,7 @@ use trace_put::{bit, put, put_line, put_long, put_small, runs_out};
 // ---- the state
 
 pub fn put_state(out: &mut Text, at: usize, state: &State) -> usize
-    ensures { PutNumbers out at (state_now (old state)) result }
+    ensures { PutNumbers out at (state_now state.now) result }
 {
     let p = put(out, at, state[DEPTH]);
     let q = put(out, p, state[rules::numbers::SWIS]);
@@ -55,7 +56,7 @@ fn put_task(out: &mut Text, at: usize, i: usize, k: Task) -> usize
 
 // Task i, if it changed.
 fn put_if_changed(out: &mut Text, at: usize, before: &Tasks, tasks: &Tasks, i: usize) -> usize
-    ensures { PutNumbers out at (told (not (same_task (task (old before) i) (task (old tasks) i))) (task_numbers i (task (old tasks) i))) result }
+    ensures { PutNumbers out at (told (not (same_task (task before.now i) (task tasks.now i))) (task_numbers i (task tasks.now i))) result }
 {
     let k = rows::task(tasks, i);
     if same_task(rows::task(before, i), k) {
@@ -65,7 +66,7 @@ fn put_if_changed(out: &mut Text, at: usize, before: &Tasks, tasks: &Tasks, i: u
 }
 
 pub fn put_tasks(out: &mut Text, at: usize, before: &Tasks, tasks: &Tasks) -> usize
-    ensures { PutNumbers out at (changed_tasks (old before) (old tasks)) result }
+    ensures { PutNumbers out at (changed_tasks before.now tasks.now) result }
 {
     let mut p = at;
     let mut i = 0;
@@ -88,14 +89,14 @@ fn put_post(out: &mut Text, at: usize, c: u32, i: u32, already: bool) -> usize
 }
 
 fn is_posted(swis: &Swis, i: u32) -> bool
-    ensures { result ≡ is_posted (old swis) i }
+    ensures { result ≡ is_posted swis.now i }
 {
     rows::swi(swis, basics::index(i), POSTED) != 0
 }
 
 // Whether an accepted call with this number posts Swi a: 14 and 16 only if its trigger is now 0.
 fn call_posts(swis: &Swis, number: u32, a: u32, b: u32) -> bool
-    ensures { result ≡ call_posts (old swis) number a b }
+    ensures { result ≡ call_posts swis.now number a b }
 {
     let trigger = rows::swi(swis, basics::index(a), TRIGGER);
     (number == 0x12)
@@ -106,7 +107,7 @@ fn call_posts(swis: &Swis, number: u32, a: u32, b: u32) -> bool
 }
 
 fn put_call_post(out: &mut Text, at: usize, swis: &Swis, number: u32, a: u32, b: u32) -> usize
-    ensures { PutNumbers out at (call_post (old swis) number a b) result }
+    ensures { PutNumbers out at (call_post swis.now number a b) result }
 {
     if call_posts(swis, number, a, b) {
         return put_post(out, at, 16, a, is_posted(swis, a));
@@ -116,7 +117,7 @@ fn put_call_post(out: &mut Text, at: usize, swis: &Swis, number: u32, a: u32, b:
 
 // Whether a clock below c runs out and posts Swi i.
 fn posted_below(clocks: &Clocks, i: u32, c: u32) -> bool
-    ensures { result ≡ posted_below (old clocks) i c }
+    ensures { result ≡ posted_below clocks.now i c }
 {
     let mut none = true;
     let mut n: u32 = 0;
@@ -130,7 +131,7 @@ fn posted_below(clocks: &Clocks, i: u32, c: u32) -> bool
 
 // The post of clock c, if it runs out.
 fn put_clock_post(out: &mut Text, at: usize, clocks: &Clocks, swis: &Swis, c: u32) -> usize
-    ensures { PutNumbers out at (clock_post (old clocks) (old swis) c) result }
+    ensures { PutNumbers out at (clock_post clocks.now swis.now c) result }
 {
     let k = rows::clock(clocks, basics::index(c));
     if runs_out(k) {
@@ -141,7 +142,7 @@ fn put_clock_post(out: &mut Text, at: usize, clocks: &Clocks, swis: &Swis, c: u3
 }
 
 fn put_clock_posts(out: &mut Text, at: usize, clocks: &Clocks, swis: &Swis) -> usize
-    ensures { PutNumbers out at (clock_posts (old clocks) (old swis)) result }
+    ensures { PutNumbers out at (clock_posts clocks.now swis.now) result }
 {
     let mut p = at;
     let mut c: u32 = 0;
@@ -160,7 +161,7 @@ pub fn put_posts<'a>(
     clocks: &'a Clocks,
     swis: &'a Swis,
 ) -> usize
-    ensures { PutNumbers out at (posts_made made (old clocks) (old swis)) result }
+    ensures { PutNumbers out at (posts_made made clocks.now swis.now) result }
 {
     let answer = made.answer;
     if answer.code != 0 {
@@ -177,7 +178,7 @@ pub fn put_posts<'a>(
 
 // Whether dispatch started a Swi.
 fn is_started(made: Made, before: &Lines, lines: &Lines) -> bool
-    ensures { result ≡ is_started made (old before) (old lines) }
+    ensures { result ≡ is_started made before.now lines.now }
 {
     let answer = made.answer;
     let asked = made.asked;
@@ -186,7 +187,7 @@ fn is_started(made: Made, before: &Lines, lines: &Lines) -> bool
 }
 
 pub fn put_started(out: &mut Text, at: usize, made: Made, before: &Lines, lines: &Lines) -> usize
-    ensures { PutNumbers out at (started_swi made (old before) (old lines)) result }
+    ensures { PutNumbers out at (started_swi made before.now lines.now) result }
 {
     if is_started(made, before, lines) {
         return put_small(out, at, lines::top(lines));
@@ -196,7 +197,7 @@ pub fn put_started(out: &mut Text, at: usize, made: Made, before: &Lines, lines:
 
 // The posted Swis, the highest priority first.
 pub fn put_posted(out: &mut Text, at: usize, lines: &Lines) -> usize
-    ensures { PutNumbers out at (posted_swis (old lines)) result }
+    ensures { PutNumbers out at (posted_swis lines.now) result }
 {
     let mut p = at;
     let mut k = 0;

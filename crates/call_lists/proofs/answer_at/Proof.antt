@@ -41,8 +41,8 @@ mul-t13 c = search rules
 shared-slice-read-t15 : tie.Need-shared-slice-read-t15
 shared-slice-read-t15 c = search rules
 
-pub answer-at-spec : {M : Type 1} → statement M
-answer-at-spec =
+pub answer_at_spec : {M : Type 1} → statement M
+answer_at_spec =
     tie.close
     (tie.spec
     returns

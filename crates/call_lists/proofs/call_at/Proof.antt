@@ -59,8 +59,8 @@ mul-t21 c = search rules
 shared-slice-read-t23 : tie.Need-shared-slice-read-t23
 shared-slice-read-t23 c = search rules
 
-pub call-at-spec : {M : Type 1} → statement M
-call-at-spec =
+pub call_at_spec : {M : Type 1} → statement M
+call_at_spec =
     tie.close
     (tie.spec
     returns

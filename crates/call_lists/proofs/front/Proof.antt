@@ -17,5 +17,5 @@ returns c = (refl, refl)
 returns-2 : tie.Need-returns-2
 returns-2 c = (sym (take_all c.before.args.n c.before.args.words.now c.if1.false), refl)
 
-pub front-spec : {M : Type 1} → statement M
-front-spec = tie.close (tie.spec slice-aggregate-result returns returns-2)
+pub front_spec : {M : Type 1} → statement M
+front_spec = tie.close (tie.spec slice-aggregate-result returns returns-2)

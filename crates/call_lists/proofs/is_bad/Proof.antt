@@ -9,8 +9,8 @@ returns : tie.Need-returns
 unfolding bad_list
 returns c = refl
 
-pub is-bad-spec : {M : Type 1} → statement M
-is-bad-spec =
+pub is_bad_spec : {M : Type 1} → statement M
+is_bad_spec =
     tie.close
     (tie.spec
     (λ c. search rules)

@@ -41,8 +41,8 @@ mul-answers-3 c = search rules
 same_length : tie.Need-same-length
 same_length c = search rules
 
-pub put-answer-spec : {M : Type 1} → statement M
-put-answer-spec =
+pub put_answer_spec : {M : Type 1} → statement M
+put_answer_spec =
     tie.close
     (tie.spec
     returns

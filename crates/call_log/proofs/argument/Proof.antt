@@ -3,8 +3,8 @@ use Rattle.call_log.proofs.Records.{word_out}
 use Rattle.call_log.proofs.argument.Statement.{statement}
 use Rattle.call_log.proofs.argument.Tie as tie
 
-pub argument-spec : {M : Type 1} → statement M
-argument-spec =
+pub argument_spec : {M : Type 1} → statement M
+argument_spec =
     tie.close
     (tie.spec
     (λ c. search rules)

@@ -53,8 +53,8 @@ part-result-start-2 c = search rules
 part-result-end-2 : tie.Need-slice-bounds-result-end-2
 part-result-end-2 c = search rules
 
-pub arguments-spec : {M : Type 1} → statement M
-arguments-spec =
+pub arguments_spec : {M : Type 1} → statement M
+arguments_spec =
     tie.close
     (tie.spec
     slice-aggregate-result

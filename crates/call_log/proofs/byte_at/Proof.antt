@@ -3,8 +3,8 @@ use Rattle.std.proofs.Common.{rules}
 use Rattle.call_log.proofs.byte_at.Statement.{statement}
 use Rattle.call_log.proofs.byte_at.Tie as tie
 
-pub byte-at-spec : {M : Type 1} → statement M
-byte-at-spec =
+pub byte_at_spec : {M : Type 1} → statement M
+byte_at_spec =
     tie.close
     (tie.spec
     (λ c. search rules)

@@ -29,8 +29,8 @@ add-result c = search rules
 returns : tie.Need-returns
 returns c = search rules
 
-pub half-at-spec : {M : Type 1} → statement M
-half-at-spec =
+pub half_at_spec : {M : Type 1} → statement M
+half_at_spec =
     tie.close
     (tie.spec
     shared-slice-read-wide

@@ -3,8 +3,8 @@ use Rattle.std.proofs.Common.{rules}
 use Rattle.call_log.proofs.read_at.Statement.{statement}
 use Rattle.call_log.proofs.read_at.Tie as tie
 
-pub read-at-spec : {M : Type 1} → statement M
-read-at-spec =
+pub read_at_spec : {M : Type 1} → statement M
+read_at_spec =
     tie.close
     (tie.spec
     (λ c κs. search rules)

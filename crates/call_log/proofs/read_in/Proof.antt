@@ -112,8 +112,8 @@ shared-slice-read-t10 c = search rules
 add-t4 : tie.Need-overflow-add-t4
 add-t4 c = search rules
 
-pub read-in-spec : {M : Type 1} → statement M
-read-in-spec =
+pub read_in_spec : {M : Type 1} → statement M
+read_in_spec =
     tie.close
     (tie.spec
     returns

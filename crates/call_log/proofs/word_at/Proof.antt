@@ -23,8 +23,8 @@ add-result c = search rules
 returns : tie.Need-returns
 returns c = search rules
 
-pub word-at-spec : {M : Type 1} → statement M
-word-at-spec =
+pub word_at_spec : {M : Type 1} → statement M
+word_at_spec =
     tie.close
     (tie.spec
     half-at-requires

@@ -29,9 +29,9 @@ stop-requires c κs = search rules
 refused-requires : tie.Need-refused-requires
 refused-requires c κs = search rules
 
-pub clock-call-spec : {M : Type 1} → statement M
+pub clock_call_spec : {M : Type 1} → statement M
 unfolding clock_call first_given
-clock-call-spec =
+clock_call_spec =
     tie.close
     (tie.spec
     create-requires

@@ -3,8 +3,8 @@ use Rattle.std.proofs.Common.{rules}
 use Rattle.desk.proofs.come_to.Statement.{statement}
 use Rattle.desk.proofs.come_to.Tie as tie
 
-pub come-to-spec : {M : Type 1} → statement M
-come-to-spec =
+pub come_to_spec : {M : Type 1} → statement M
+come_to_spec =
     tie.close
     (tie.spec
     (λ c κs. search rules)

@@ -155,8 +155,8 @@ returns c =
       l.loop.invariant.1,
     )
 
-pub replay-part-spec : {M : Type 1} → statement M
-replay-part-spec =
+pub replay_part_spec : {M : Type 1} → statement M
+replay_part_spec =
     tie.close
     (tie.spec
     invariant-loop

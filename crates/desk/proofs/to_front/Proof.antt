@@ -53,8 +53,8 @@ returns c =
     let a = (at-start l).args in
     moved_all a.part.now a.at a.n l.loop.invariant.0 l.loop.invariant.1 c.loop-test.false
 
-pub to-front-spec : {M : Type 1} → statement M
-to-front-spec =
+pub to_front_spec : {M : Type 1} → statement M
+to_front_spec =
     tie.close
     (tie.spec
     invariant-loop

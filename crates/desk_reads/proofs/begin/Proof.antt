@@ -4,9 +4,9 @@ use Rattle.desk_parts.specs.Part.{begun_state}
 use Rattle.desk_reads.proofs.begin.Statement.{statement}
 use Rattle.desk_reads.proofs.begin.Tie as tie
 
-pub begin-spec : {M : Type 1} → statement M
+pub begin_spec : {M : Type 1} → statement M
 unfolding begun_state
-begin-spec =
+begin_spec =
     tie.close
     (tie.spec
     (λ c κs. search rules)

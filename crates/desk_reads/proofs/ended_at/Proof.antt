@@ -3,8 +3,8 @@ use Rattle.std.proofs.Common.{rules}
 use Rattle.desk_reads.proofs.ended_at.Statement.{statement}
 use Rattle.desk_reads.proofs.ended_at.Tie as tie
 
-pub ended-at-spec : {M : Type 1} → statement M
-ended-at-spec =
+pub ended_at_spec : {M : Type 1} → statement M
+ended_at_spec =
     tie.close
     (tie.spec
     (λ c κs. search rules)

@@ -70,8 +70,8 @@ step-requires c κs = search rules
 called-requires : tie.Need-called-requires
 called-requires c κs = search rules
 
-pub next-spec : {M : Type 1} → statement M
-next-spec =
+pub next_spec : {M : Type 1} → statement M
+next_spec =
     tie.close
     (tie.spec
     version-by-requires

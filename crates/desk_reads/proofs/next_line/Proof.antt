@@ -55,8 +55,8 @@ put-replayed-requires c κs = search rules
 place-at-requires : tie.Need-place-at-requires
 place-at-requires c κs = search rules
 
-pub next-line-spec : {M : Type 1} → statement M
-next-line-spec =
+pub next_line_spec : {M : Type 1} → statement M
+next_line_spec =
     tie.close
     (tie.spec
     next-requires

@@ -20,8 +20,8 @@ argument-requires-3 c κs = search rules
 argument-requires-4 : tie.Need-argument-requires-4
 argument-requires-4 c κs = search rules
 
-pub record-call-spec : {M : Type 1} → statement M
-record-call-spec =
+pub record_call_spec : {M : Type 1} → statement M
+record_call_spec =
     tie.close
     (tie.spec
     read-arguments-requires

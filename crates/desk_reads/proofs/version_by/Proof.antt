@@ -4,9 +4,9 @@ use Rattle.desk_parts.specs.Part.{version_by}
 use Rattle.desk_reads.proofs.version_by.Statement.{statement}
 use Rattle.desk_reads.proofs.version_by.Tie as tie
 
-pub version-by-spec : {M : Type 1} → statement M
+pub version_by_spec : {M : Type 1} → statement M
 unfolding version_by
-version-by-spec =
+version_by_spec =
     tie.close
     (tie.spec
     (λ c κs. search rules)

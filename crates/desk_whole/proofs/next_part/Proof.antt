@@ -10,5 +10,5 @@ sub-result c = put-past c.put_in.ensures
 returns : tie.Need-returns
 returns c = put-behind c.before.before.put-in-arg.given.0.1 c.before.rest.ensures c.put_in.ensures
 
-pub next-part-spec : {M : Type 1} → statement M
-next-part-spec = tie.close (tie.spec (λ c κs. search rules) (λ c κs. search rules) sub-result returns)
+pub next_part_spec : {M : Type 1} → statement M
+next_part_spec = tie.close (tie.spec (λ c κs. search rules) (λ c κs. search rules) sub-result returns)

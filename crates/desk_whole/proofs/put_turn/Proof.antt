@@ -6,6 +6,6 @@ use Rattle.desk_whole.proofs.put_turn.Tie as tie
 returns : tie.Need-returns
 returns c = rw c.before.before.before.front.ensures.bytes at c.before.before.put_in.ensures
 
-pub put-turn-spec : {M : Type 1} → statement M
-put-turn-spec =
+pub put_turn_spec : {M : Type 1} → statement M
+put_turn_spec =
     tie.close (tie.spec (λ c κs. search rules) (λ c κs. search rules) (λ c. search rules) returns)

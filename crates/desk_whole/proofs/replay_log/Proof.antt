@@ -127,8 +127,8 @@ next-part-requires c κs = tt
 put-turn-requires : tie.Need-put-turn-requires invariant-loop decreases-loop
 put-turn-requires c κs = tt
 
-pub replay-log-spec : {M : Type 1} → statement M
-replay-log-spec =
+pub replay_log_spec : {M : Type 1} → statement M
+replay_log_spec =
     tie.close
     (tie.spec
     invariant-loop

@@ -12,9 +12,9 @@ element-copy-out-if1 c = search rules
 anyone-requires : tie.Need-anyone-requires
 anyone-requires c κs = search rules
 
-pub context-spec : {M : Type 1} → statement M
+pub context_spec : {M : Type 1} → statement M
 unfolding context
-context-spec =
+context_spec =
     tie.close
     (tie.spec
     element-copy-out-if1

@@ -84,8 +84,8 @@ first-requires c κs = search rules
 start-requires : tie.Need-start-requires
 start-requires c κs = search rules
 
-pub dispatch-swis-spec : {M : Type 1} → statement M
-dispatch-swis-spec =
+pub dispatch_swis_spec : {M : Type 1} → statement M
+dispatch_swis_spec =
     tie.close
     (tie.spec
     element-copy-out-if1

@@ -17,8 +17,8 @@ number-requires c κs = search rules
 element-write-state : tie.Need-element-write-state
 element-write-state c = search rules
 
-pub dispatch-tasks-spec : {M : Type 1} → statement M
-dispatch-tasks-spec =
+pub dispatch_tasks_spec : {M : Type 1} → statement M
+dispatch_tasks_spec =
     tie.close
     (tie.spec
     task-due-requires

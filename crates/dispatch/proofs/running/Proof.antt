@@ -25,9 +25,9 @@ current-requires c κs = search rules
 number-requires-2 : tie.Need-number-requires-2
 number-requires-2 c κs = search rules
 
-pub running-spec : {M : Type 1} → statement M
+pub running_spec : {M : Type 1} → statement M
 unfolding running
-running-spec =
+running_spec =
     tie.close
     (tie.spec
     element-copy-out-if1

@@ -35,8 +35,8 @@ tasks-only-requires-5 c κs = search rules
 both-parts-requires-2 : tie.Need-both-parts-requires-2
 both-parts-requires-2 c κs = search rules
 
-pub left-by-spec : {M : Type 1} → statement M
-left-by-spec =
+pub left_by_spec : {M : Type 1} → statement M
+left_by_spec =
     tie.close
     (tie.spec
     tasks-only-requires

@@ -14,8 +14,8 @@ settle-swis-requires c κs = search rules
 settle-tasks-requires : tie.Need-settle-tasks-requires
 settle-tasks-requires c κs = search rules
 
-pub settle-spec : {M : Type 1} → statement M
-settle-spec =
+pub settle_spec : {M : Type 1} → statement M
+settle_spec =
     tie.close
     (tie.spec
     (λ c. settled-refused _ _ _ _ _ c.if1.true)

@@ -3,8 +3,8 @@ use Rattle.dispatch_after.proofs.ByParts.{swis-done, swis-left}
 use Rattle.dispatch_after.proofs.settle_swis.Statement.{statement}
 use Rattle.dispatch_after.proofs.settle_swis.Tie as tie
 
-pub settle-swis-spec : {M : Type 1} → statement M
-settle-swis-spec =
+pub settle_swis_spec : {M : Type 1} → statement M
+settle_swis_spec =
     tie.close
     (tie.spec
     (λ c. search rules)

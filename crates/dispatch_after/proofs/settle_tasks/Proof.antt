@@ -3,8 +3,8 @@ use Rattle.dispatch_after.proofs.ByParts.{if-done, if-left}
 use Rattle.dispatch_after.proofs.settle_tasks.Statement.{statement}
 use Rattle.dispatch_after.proofs.settle_tasks.Tie as tie
 
-pub settle-tasks-spec : {M : Type 1} → statement M
-settle-tasks-spec =
+pub settle_tasks_spec : {M : Type 1} → statement M
+settle_tasks_spec =
     tie.close
     (tie.spec
     (λ c κs. search rules)

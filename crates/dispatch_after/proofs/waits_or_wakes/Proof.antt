@@ -2,5 +2,5 @@ use mathlib.Core.Path.{refl}
 use Rattle.dispatch_after.proofs.waits_or_wakes.Statement.{statement}
 use Rattle.dispatch_after.proofs.waits_or_wakes.Tie as tie
 
-pub waits-or-wakes-spec : {M : Type 1} → statement M
-waits-or-wakes-spec = tie.close (tie.spec (λ c. refl))
+pub waits_or_wakes_spec : {M : Type 1} → statement M
+waits_or_wakes_spec = tie.close (tie.spec (λ c. refl))

@@ -7,8 +7,8 @@ use Rattle.entries.proofs.call.Tie as tie
 returns : tie.Need-returns
 returns c = promised-same c.stepped.ensures c.before.call-in-place.ensures
 
-pub call-spec : {M : Type 1} → statement M
-call-spec =
+pub call_spec : {M : Type 1} → statement M
+call_spec =
     tie.close
     (tie.spec
     (λ c κs. search rules)

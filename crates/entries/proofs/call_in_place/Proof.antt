@@ -27,8 +27,8 @@ unsound-requires c κs = search rules
 step-requires : tie.Need-step-requires
 step-requires c κs = search rules
 
-pub call-in-place-spec : {M : Type 1} → statement M
-call-in-place-spec =
+pub call_in_place_spec : {M : Type 1} → statement M
+call_in_place_spec =
     tie.close
     (tie.spec
     is-sound-requires

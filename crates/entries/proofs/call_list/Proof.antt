@@ -68,8 +68,8 @@ all_made c =
     of-good _ _ _ past-test.if1.left (list-tested at-running).is-bad.ensures good.if2.left at-calls.make-calls.ensures
     at_last.running2.ensures c.with-code2.ensures (tables-tested at-running).is-sound.ensures
 
-pub call-list-spec : {M : Type 1} → statement M
-call-list-spec =
+pub call_list_spec : {M : Type 1} → statement M
+call_list_spec =
     tie.close
     (tie.spec
     is-sound-requires

@@ -18,9 +18,9 @@ fresh-requires-2 c κs = search rules
 refused-requires : tie.Need-refused-requires
 refused-requires c κs = search rules
 
-pub fresh-spec : {M : Type 1} → statement M
+pub fresh_spec : {M : Type 1} → statement M
 unfolding made_fresh
-fresh-spec =
+fresh_spec =
     tie.close
     (tie.spec
     fresh-requires

@@ -80,8 +80,8 @@ step-requires c κs = search rules
 put-answer-requires : tie.Need-put-answer-requires invariant-loop decreases-loop
 put-answer-requires c κs = search rules
 
-pub make-calls-spec : {M : Type 1} → statement M
-make-calls-spec =
+pub make_calls_spec : {M : Type 1} → statement M
+make_calls_spec =
     tie.close
     (tie.spec
     invariant-loop

@@ -4,8 +4,8 @@ use Rattle.entries.proofs.Threads.{thread-sound, thread-unsound}
 use Rattle.entries.proofs.thread.Statement.{statement}
 use Rattle.entries.proofs.thread.Tie as tie
 
-pub thread-spec : {M : Type 1} → statement M
-thread-spec =
+pub thread_spec : {M : Type 1} → statement M
+thread_spec =
     tie.close
     (tie.spec
     (λ c κs. search rules)

@@ -46,9 +46,9 @@ post-requires c κs = search rules
 refused-requires : tie.Need-refused-requires
 refused-requires c κs = search rules
 
-pub event-call-spec : {M : Type 1} → statement M
+pub event_call_spec : {M : Type 1} → statement M
 unfolding event_call
-event-call-spec =
+event_call_spec =
     tie.close
     (tie.spec
     create-requires

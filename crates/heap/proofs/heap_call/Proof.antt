@@ -15,9 +15,9 @@ give-back-requires c κs = search rules
 refused-requires : tie.Need-refused-requires
 refused-requires c κs = search rules
 
-pub heap-call-spec : {M : Type 1} → statement M
+pub heap_call_spec : {M : Type 1} → statement M
 unfolding heap_call first_given
-heap-call-spec =
+heap_call_spec =
     tie.close
     (tie.spec
     take-requires

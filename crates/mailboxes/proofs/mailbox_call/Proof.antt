@@ -60,8 +60,8 @@ pend-requires c κs = search rules
 refused-requires : tie.Need-refused-requires
 refused-requires c κs = search rules
 
-pub mailbox-call-spec : {M : Type 1} → statement M
-mailbox-call-spec =
+pub mailbox_call_spec : {M : Type 1} → statement M
+mailbox_call_spec =
     tie.close
     (tie.spec
     create-requires

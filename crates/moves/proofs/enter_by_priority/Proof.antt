@@ -10,8 +10,8 @@ returns c =
     let a = at_place.before.before.args in
     entered_at (by_priority a.tasks.now a.p) a.j a.x a.lines.now at_place.place.ensures c.insert.ensures
 
-pub enter-by-priority-spec : {M : Type 1} → statement M
-enter-by-priority-spec =
+pub enter_by_priority_spec : {M : Type 1} → statement M
+enter_by_priority_spec =
     tie.close
     (tie.spec
     (λ c κs. search rules)

@@ -47,8 +47,8 @@ join-requires c κs = search rules
 set-task-requires : tie.Need-set-task-requires
 set-task-requires c κs = search rules
 
-pub move-back-spec : {M : Type 1} → statement M
-move-back-spec =
+pub move_back_spec : {M : Type 1} → statement M
+move_back_spec =
     tie.close
     (tie.spec
     task-requires

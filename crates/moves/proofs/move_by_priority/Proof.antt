@@ -48,8 +48,8 @@ enter-by-priority-requires c κs = search rules
 set-task-requires : tie.Need-set-task-requires
 set-task-requires c κs = search rules
 
-pub move-by-priority-spec : {M : Type 1} → statement M
-move-by-priority-spec =
+pub move_by_priority_spec : {M : Type 1} → statement M
+move_by_priority_spec =
     tie.close
     (tie.spec
     task-requires

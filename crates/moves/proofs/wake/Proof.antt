@@ -14,8 +14,8 @@ returns c =
     moved-from at_back a.i (λ (k : Task). readied k a.outcome a.value) a.tasks.now a.lines.now at-task.task.ensures refl
     c.move-back.ensures
 
-pub wake-spec : {M : Type 1} → statement M
-wake-spec =
+pub wake_spec : {M : Type 1} → statement M
+wake_spec =
     tie.close
     (tie.spec
     (λ c κs. search rules)

@@ -24,8 +24,8 @@ wake-requires c κs = search rules
 accepted-requires : tie.Need-accepted-requires
 accepted-requires c κs = search rules
 
-pub wake-first-spec : {M : Type 1} → statement M
-wake-first-spec =
+pub wake_first_spec : {M : Type 1} → statement M
+wake_first_spec =
     tie.close
     (tie.spec
     first-requires

@@ -41,8 +41,8 @@ loop-again c = search rules
 returns : tie.Need-returns invariant-loop decreases-loop
 returns c = search rules
 
-pub make-calls-spec : {M : Type 1} → statement M
-make-calls-spec =
+pub make_calls_spec : {M : Type 1} → statement M
+make_calls_spec =
     tie.close
     (tie.spec
     invariant-loop

@@ -37,8 +37,8 @@ loop-again c = search rules
 returns : tie.Need-returns invariant-loop decreases-loop
 returns c = search rules
 
-pub by-value-spec : {M : Type 1} → statement M
-by-value-spec =
+pub by_value_spec : {M : Type 1} → statement M
+by_value_spec =
     tie.close
     (tie.spec
     invariant-loop

@@ -45,8 +45,8 @@ loop-again c = search rules
 returns : tie.Need-returns invariant-loop decreases-loop
 returns c = search rules
 
-pub in-place-spec : {M : Type 1} → statement M
-in-place-spec =
+pub in_place_spec : {M : Type 1} → statement M
+in_place_spec =
     tie.close
     (tie.spec
     invariant-loop

@@ -48,8 +48,8 @@ loop-again c = search rules
 returns : tie.Need-returns invariant-loop decreases-loop
 returns c = search rules
 
-pub one-round-spec : {M : Type 1} → statement M
-one-round-spec =
+pub one_round_spec : {M : Type 1} → statement M
+one_round_spec =
     tie.close
     (tie.spec
     invariant-loop

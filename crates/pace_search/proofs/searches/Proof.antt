@@ -40,8 +40,8 @@ loop-again c = search rules
 returns : tie.Need-returns invariant-loop decreases-loop
 returns c = search rules
 
-pub searches-spec : {M : Type 1} → statement M
-searches-spec =
+pub searches_spec : {M : Type 1} → statement M
+searches_spec =
     tie.close
     (tie.spec
     invariant-loop

@@ -141,8 +141,8 @@ add-k c = search rules
 loop-less : tie.Need-loop-smaller invariant-loop decreases-loop
 loop-less c = search rules
 
-pub as-calls-spec : {M : Type 1} → statement M
-as-calls-spec =
+pub as_calls_spec : {M : Type 1} → statement M
+as_calls_spec =
     tie.close
     (tie.spec
     invariant-loop

@@ -3,8 +3,8 @@ use Rattle.std.proofs.Common.{rules}
 use Rattle.pace_sums.proofs.levels_of.Statement.{statement}
 use Rattle.pace_sums.proofs.levels_of.Tie as tie
 
-pub levels-of-spec : {M : Type 1} → statement M
-levels-of-spec =
+pub levels_of_spec : {M : Type 1} → statement M
+levels_of_spec =
     tie.close
     (tie.spec
     (λ c κs. search rules)

@@ -7,8 +7,8 @@ use Rattle.pace_sums.proofs.rounds_for.Tie as tie
 shared-slice-read-match : tie.Need-shared-slice-read-match
 shared-slice-read-match c = search rules
 
-pub rounds-for-spec : {M : Type 1} → statement M
-rounds-for-spec =
+pub rounds_for_spec : {M : Type 1} → statement M
+rounds_for_spec =
     tie.close
     (tie.spec
     (λ c. rounds-none c.before.args.argument.now c.if1.true)

@@ -13,9 +13,9 @@ enum-known-thread-2 c = search rules
 enum_told : tie.Need-enum-told
 enum_told c = search rules
 
-pub thread-word-spec : {M : Type 1} → statement M
+pub thread_word_spec : {M : Type 1} → statement M
 unfolding thread_word
-thread-word-spec =
+thread_word_spec =
     tie.close
     (tie.spec
     enum-known-thread

@@ -14,5 +14,5 @@ returns c =
     let a = (at-start c).args in
     rw (c.count.ensures.1, to_z-of_z (at-start c).ranges.got) (by_answer a.got (length a.room.now))
 
-pub brought-spec : {M : Type 1} → statement M
-brought-spec = tie.close (tie.spec (λ c κs. search rules) returns)
+pub brought_spec : {M : Type 1} → statement M
+brought_spec = tie.close (tie.spec (λ c κs. search rules) returns)

@@ -75,8 +75,8 @@ tell-failed-requires c κs = search rules
 same_length : tie.Need-same-length
 same_length c = search rules
 
-pub read-behind-spec : {M : Type 1} → statement M
-read-behind-spec =
+pub read_behind_spec : {M : Type 1} → statement M
+read_behind_spec =
     tie.close
     (tie.spec
     returns

@@ -76,8 +76,8 @@ returns c =
     let l : tie.At-loop invariant-loop decreases-loop = c.before.before in
     sofar-tables fresh l.loop.invariant.0 l.loop.invariant.1.sound
 
-pub replay-all-spec : {M : Type 1} → statement M
-replay-all-spec =
+pub replay_all_spec : {M : Type 1} → statement M
+replay_all_spec =
     tie.close
     (tie.spec
     invariant-loop

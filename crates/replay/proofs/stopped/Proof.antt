@@ -3,5 +3,5 @@ use mathlib.Core.Path.{refl}
 use Rattle.replay.proofs.stopped.Statement.{statement}
 use Rattle.replay.proofs.stopped.Tie as tie
 
-pub stopped-spec : {M : Type 1} → statement M
-stopped-spec = tie.close (tie.spec (λ c. refl))
+pub stopped_spec : {M : Type 1} → statement M
+stopped_spec = tie.close (tie.spec (λ c. refl))

@@ -62,9 +62,9 @@ reset-requires c κs = search rules
 refused-requires : tie.Need-refused-requires
 refused-requires c κs = search rules
 
-pub semaphore-call-spec : {M : Type 1} → statement M
+pub semaphore_call_spec : {M : Type 1} → statement M
 unfolding semaphore_call
-semaphore-call-spec =
+semaphore_call_spec =
     tie.close
     (tie.spec
     create-requires

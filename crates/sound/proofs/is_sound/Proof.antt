@@ -71,8 +71,8 @@ active-sound-requires c κs = search rules
 dispatch-sound-requires : tie.Need-dispatch-sound-requires
 dispatch-sound-requires c κs = search rules
 
-pub is-sound-spec : {M : Type 1} → statement M
-is-sound-spec =
+pub is_sound_spec : {M : Type 1} → statement M
+is_sound_spec =
     tie.close
     (tie.spec
     state-sound-requires

@@ -83,8 +83,8 @@ taken-requires c κs = search rules
 refused-requires : tie.Need-refused-requires
 refused-requires c κs = search rules
 
-pub swi-call-spec : {M : Type 1} → statement M
-swi-call-spec =
+pub swi_call_spec : {M : Type 1} → statement M
+swi_call_spec =
     tie.close
     (tie.spec
     create-requires

@@ -79,8 +79,8 @@ restore-requires c κs = search rules
 refused-requires : tie.Need-refused-requires
 refused-requires c κs = search rules
 
-pub switch-call-spec : {M : Type 1} → statement M
-switch-call-spec =
+pub switch_call_spec : {M : Type 1} → statement M
+switch_call_spec =
     tie.close
     (tie.spec
     interrupt-in-requires

@@ -4,9 +4,9 @@ use borrow.Author.Rules.{rules}
 use Rattle.tables.proofs.fresh.Statement.{statement}
 use Rattle.tables.proofs.fresh.Tie as tie
 
-pub fresh-spec : {M : Type 1} → statement M
+pub fresh_spec : {M : Type 1} → statement M
 unfolding fresh_with
-fresh-spec =
+fresh_spec =
     tie.close
     (tie.spec
     (λ c. search rules)

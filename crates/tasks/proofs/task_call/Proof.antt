@@ -67,8 +67,8 @@ last-result-requires c κs = search rules
 refused-requires : tie.Need-refused-requires
 refused-requires c κs = search rules
 
-pub task-call-spec : {M : Type 1} → statement M
-task-call-spec =
+pub task_call_spec : {M : Type 1} → statement M
+task_call_spec =
     tie.close
     (tie.spec
     create-requires

@@ -33,8 +33,8 @@ print-row-requires c κs = search rules
 returns : tie.Need-returns
 returns c = search rules
 
-pub hand-over-spec : {M : Type 1} → statement M
-hand-over-spec =
+pub hand_over_spec : {M : Type 1} → statement M
+hand_over_spec =
     tie.close
     (tie.spec
     row-of-requires

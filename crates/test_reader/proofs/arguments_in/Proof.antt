@@ -26,8 +26,8 @@ argument-requires-3 c κs = search rules
 argument-requires-4 : tie.Need-argument-requires-4
 argument-requires-4 c κs = search rules
 
-pub arguments-in-spec : {M : Type 1} → statement M
-arguments-in-spec =
+pub arguments_in_spec : {M : Type 1} → statement M
+arguments_in_spec =
     tie.close
     (tie.spec
     argument-requires

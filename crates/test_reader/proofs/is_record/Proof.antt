@@ -31,8 +31,8 @@ returns-4 c = search rules
 returns-5 : tie.Need-returns-5
 returns-5 c = search rules
 
-pub is-record-spec : {M : Type 1} → statement M
-is-record-spec =
+pub is_record_spec : {M : Type 1} → statement M
+is_record_spec =
     tie.close
     (tie.spec
     enum-known-found

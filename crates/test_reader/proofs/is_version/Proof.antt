@@ -31,8 +31,8 @@ returns-3 c = search rules
 returns-4 : tie.Need-returns-4
 returns-4 c = search rules
 
-pub is-version-spec : {M : Type 1} → statement M
-is-version-spec =
+pub is_version_spec : {M : Type 1} → statement M
+is_version_spec =
     tie.close
     (tie.spec
     enum_told

@@ -299,9 +299,9 @@ walk-meets-it {𝓤 = 𝓤} 𝓛 mem run 𝓣 on-new on-next on-start on-hand on
     (WpFn 𝓤 𝓛.H 𝓣.C 𝓣.Λ code.function) (WpFn-mono 𝓤 𝓛.H 𝓛.laws 𝓣 code.function)
     (walk-walks 𝓛 mem run 𝓣.C 𝓣.Λ (fm_of 𝓤 𝓛.H 𝓛.laws 𝓣) on-new on-next on-start on-hand on_in)
 
-pub walk-spec : {M : Type 1} → stated.statement M
+pub walk_spec : {M : Type 1} → stated.statement M
 unfolding code.routine tables_of
-walk-spec 𝓤 𝓛 𝓜 𝓡 =
+walk_spec 𝓤 𝓛 𝓜 𝓡 =
     entered 𝓤 𝓛.H (triple_of 𝓛 the-fn.signature (the-fn.spec 𝓛 𝓜.mem 𝓡.run))
     (tables 𝓤 𝓛.H 𝓜 𝓡 code.env).C (tables 𝓤 𝓛.H 𝓜 𝓡 code.env).Λ #walk code.function (code.unfolded 𝓤 𝓛.H 𝓜 𝓡)
     (walk-meets-it 𝓛 𝓜.mem 𝓡.run (tables_of 𝓤 𝓛.H 𝓜 (tables 𝓤 𝓛.H 𝓜 𝓡 code.env))

@@ -56,8 +56,8 @@ returns c =
     (exactly heap.same2.ensures)
     c.same-words7.ensures
 
-pub same-tables-spec : {M : Type 1} → statement M
-same-tables-spec =
+pub same_tables_spec : {M : Type 1} → statement M
+same_tables_spec =
     tie.close
     (tie.spec
     same-words-requires

@@ -67,8 +67,8 @@ interrupt-swi c = unlike (λ e. cc)
 two-interrupts : tie.Need-returns-9
 two-interrupts c = is-so (cc)
 
-pub same-thread-spec : {M : Type 1} → statement M
-same-thread-spec =
+pub same_thread_spec : {M : Type 1} → statement M
+same_thread_spec =
     tie.close
     (tie.spec
     enum-known-a

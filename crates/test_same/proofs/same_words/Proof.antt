@@ -57,8 +57,8 @@ same c =
     let (within, lengths, so_far) = at-loop.loop.invariant in
     is-so (same_whole start.a.now start.b.now at-loop.loop.i lengths so_far (search rules))
 
-pub same-words-spec : {M : Type 1} → statement M
-same-words-spec =
+pub same_words_spec : {M : Type 1} → statement M
+same_words_spec =
     tie.close
     (tie.spec
     invariant-loop

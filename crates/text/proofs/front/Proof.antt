@@ -6,8 +6,8 @@ use borrow.Author.Rules.{rules}
 use Rattle.text.proofs.front.Statement.{statement}
 use Rattle.text.proofs.front.Tie as tie
 
-pub front-spec : {M : Type 1} → statement M
-front-spec =
+pub front_spec : {M : Type 1} → statement M
+front_spec =
     tie.close
     (tie.spec
     (λ c. let b = c.before.before in sym (length-take-le b.args.n b.args.bytes.now (le_of_lt c.before.if1.true)))

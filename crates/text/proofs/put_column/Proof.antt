@@ -3,8 +3,8 @@ use borrow.Author.Rules.{rules}
 use Rattle.text.proofs.put_column.Statement.{statement}
 use Rattle.text.proofs.put_column.Tie as tie
 
-pub put-column-spec : {M : Type 1} → statement M
-put-column-spec =
+pub put_column_spec : {M : Type 1} → statement M
+put_column_spec =
     tie.close
     (tie.spec
     (λ c κs. search rules)

@@ -3,9 +3,9 @@ use borrow.Author.Rules.{rules}
 use Rattle.text.proofs.put_decimal.Statement.{statement}
 use Rattle.text.proofs.put_decimal.Tie as tie
 
-pub put-decimal-spec : {M : Type 1} → statement M
+pub put_decimal_spec : {M : Type 1} → statement M
 unfolding decimal
-put-decimal-spec =
+put_decimal_spec =
     tie.close
     (tie.spec
     (λ c κs. search rules)

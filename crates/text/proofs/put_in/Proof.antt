@@ -67,8 +67,8 @@ returns c =
     put_full c.before.before.args.text.now l.i (omega (arith, l.invariant.0)) l.invariant.1.1)
     (none-or-full _ _ _ _ c.loop-test.false)
 
-pub put-in-spec : {M : Type 1} → statement M
-put-in-spec =
+pub put_in_spec : {M : Type 1} → statement M
+put_in_spec =
     tie.close
     (tie.spec
     invariant-loop

@@ -3,8 +3,8 @@ use borrow.Author.Rules.{rules}
 use Rattle.text.proofs.put_lettered.Statement.{statement}
 use Rattle.text.proofs.put_lettered.Tie as tie
 
-pub put-lettered-spec : {M : Type 1} → statement M
-put-lettered-spec =
+pub put_lettered_spec : {M : Type 1} → statement M
+put_lettered_spec =
     tie.close
     (tie.spec
     (λ c κs. search rules)

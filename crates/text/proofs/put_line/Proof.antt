@@ -32,8 +32,8 @@ put-thread-requires c κs = search rules
 put-byte-requires : tie.Need-put-byte-requires
 put-byte-requires c κs = search rules
 
-pub put-line-spec : {M : Type 1} → statement M
-put-line-spec =
+pub put_line_spec : {M : Type 1} → statement M
+put_line_spec =
     tie.close
     (tie.spec
     put-column-requires

@@ -23,9 +23,9 @@ enum_told c = search rules
 put-byte-requires : tie.Need-put-byte-requires
 put-byte-requires c κs = search rules
 
-pub put-thread-spec : {M : Type 1} → statement M
+pub put_thread_spec : {M : Type 1} → statement M
 unfolding thread_text
-put-thread-spec =
+put_thread_spec =
     tie.close
     (tie.spec
     enum-known-thread

@@ -9,5 +9,5 @@ returns c = (rw c.if1.true, omega arith)
 returns-2 : tie.Need-returns-2
 returns-2 c = (rw c.if1.false, omega arith)
 
-pub places-spec : {M : Type 1} → statement M
-places-spec = tie.close (tie.spec (λ c. search rules) returns returns-2)
+pub places_spec : {M : Type 1} → statement M
+places_spec = tie.close (tie.spec (λ c. search rules) returns returns-2)

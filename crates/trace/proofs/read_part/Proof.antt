@@ -67,8 +67,8 @@ written-requires c κs = search rules
 returns : tie.Need-returns invariant-loop decreases-loop
 returns c = c.before.before.before.loop.invariant.1
 
-pub read-part-spec : {M : Type 1} → statement M
-read-part-spec =
+pub read_part_spec : {M : Type 1} → statement M
+read_part_spec =
     tie.close
     (tie.spec
     invariant-loop

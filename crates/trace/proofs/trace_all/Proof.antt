@@ -34,8 +34,8 @@ returns c = search rules
 returns-2 : tie.Need-returns-2 invariant-loop decreases-loop
 returns-2 c = search rules
 
-pub trace-all-spec : {M : Type 1} → statement M
-trace-all-spec =
+pub trace_all_spec : {M : Type 1} → statement M
+trace_all_spec =
     tie.close
     (tie.spec
     invariant-loop

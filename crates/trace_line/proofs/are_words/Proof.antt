@@ -11,8 +11,8 @@ returns c = λ k. omega (arith, c.shared-slice-known.given k)
 returns-2 : tie.Need-returns-2
 returns-2 c = let start = c.before in λ k. let none = get_or-eq_default start.args.t.now 0 {n = k} (omega (arith, c.if1.false)) in omega arith
 
-pub are-words-spec : {M : Type 1} → statement M
-are-words-spec =
+pub are_words_spec : {M : Type 1} → statement M
+are_words_spec =
     tie.close
     (tie.spec
     (λ c. search rules)

@@ -10,8 +10,8 @@ returns c =
     let at-put = at-put2.before.before in
     tells_more _ _ at-put.put.ensures (tells_more _ _ at-put2.put2.ensures c.put3.ensures)
 
-pub put-answer-spec : {M : Type 1} → statement M
-put-answer-spec =
+pub put_answer_spec : {M : Type 1} → statement M
+put_answer_spec =
     tie.close
     (tie.spec
     (λ c κs. search rules)

@@ -29,8 +29,8 @@ put-requires-4 c κs = search rules
 put-requires-5 : tie.Need-put-requires-5
 put-requires-5 c κs = search rules
 
-pub put-asked-spec : {M : Type 1} → statement M
-put-asked-spec =
+pub put_asked_spec : {M : Type 1} → statement M
+put_asked_spec =
     tie.close
     (tie.spec
     put-requires

@@ -7,8 +7,8 @@ use Rattle.trace_line.proofs.put_bar.Tie as tie
 returns : tie.Need-returns
 returns c = put-more c.before.before.put_byte.ensures c.put-byte2.ensures
 
-pub put-bar-spec : {M : Type 1} → statement M
-put-bar-spec =
+pub put_bar_spec : {M : Type 1} → statement M
+put_bar_spec =
     tie.close
     (tie.spec
     (λ c κs. search rules)

@@ -44,8 +44,8 @@ returns c =
     put-more n (put-more caller (put-more (tells_more _ _ at-put-asked.put-asked.ensures at-put-answer.put-answer.ensures)
     c.put-thread2.ensures))
 
-pub put-call-spec : {M : Type 1} → statement M
-put-call-spec =
+pub put_call_spec : {M : Type 1} → statement M
+put_call_spec =
     tie.close
     (tie.spec
     put-long-requires

@@ -7,8 +7,8 @@ use Rattle.trace_line.proofs.put_thread.Tie as tie
 returns : tie.Need-returns
 returns c = put-more c.before.before.put-thread.ensures c.put_byte.ensures
 
-pub put-thread-spec : {M : Type 1} → statement M
-put-thread-spec =
+pub put_thread_spec : {M : Type 1} → statement M
+put_thread_spec =
     tie.close
     (tie.spec
     (λ c κs. search rules)

@@ -126,8 +126,8 @@ returns c =
       short = trace-most _ _ _ typical.are-typical.ensures;
     }
 
-pub put-trace-spec : {M : Type 1} → statement M
-put-trace-spec =
+pub put_trace_spec : {M : Type 1} → statement M
+put_trace_spec =
     tie.close
     (tie.spec
     are-typical-requires

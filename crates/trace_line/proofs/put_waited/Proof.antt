@@ -34,8 +34,8 @@ put-bar-requires-3 c κs = search rules
 put-mailboxes-requires : tie.Need-put-mailboxes-requires
 put-mailboxes-requires c κs = search rules
 
-pub put-waited-spec : {M : Type 1} → statement M
-put-waited-spec =
+pub put_waited_spec : {M : Type 1} → statement M
+put_waited_spec =
     tie.close
     (tie.spec
     put-bar-requires

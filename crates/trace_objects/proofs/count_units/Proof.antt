@@ -68,8 +68,8 @@ add-u c = search rules
 loop-less : tie.Need-loop-smaller invariant-loop decreases-loop
 loop-less c = search rules
 
-pub count-units-spec : {M : Type 1} → statement M
-count-units-spec =
+pub count_units_spec : {M : Type 1} → statement M
+count_units_spec =
     tie.close
     (tie.spec
     invariant-loop

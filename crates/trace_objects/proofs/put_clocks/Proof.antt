@@ -14,8 +14,8 @@ returns-2 c =
     let at-if1 = c.before.before.before.before in
     rw at-if1.if1.false c.put-rows.ensures
 
-pub put-clocks-spec : {M : Type 1} → statement M
-put-clocks-spec =
+pub put_clocks_spec : {M : Type 1} → statement M
+put_clocks_spec =
     tie.close
     (tie.spec
     (λ c κs. search rules)

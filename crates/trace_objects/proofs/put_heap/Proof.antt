@@ -41,8 +41,8 @@ put-long-requires c κs = search rules
 put-long-requires-2 : tie.Need-put-long-requires-2
 put-long-requires-2 c κs = search rules
 
-pub put-heap-spec : {M : Type 1} → statement M
-put-heap-spec =
+pub put_heap_spec : {M : Type 1} → statement M
+put_heap_spec =
     tie.close
     (tie.spec
     same-heap-requires

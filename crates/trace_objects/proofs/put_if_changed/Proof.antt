@@ -13,8 +13,8 @@ returns-2 c =
     let at-same-row = at-if1.before in
     told-changed at-same-row.same_row.ensures _ at-if1.if1.false c.put-object.ensures
 
-pub put-if-changed-spec : {M : Type 1} → statement M
-put-if-changed-spec =
+pub put_if_changed_spec : {M : Type 1} → statement M
+put_if_changed_spec =
     tie.close
     (tie.spec
     (λ c κs. search rules)

@@ -33,8 +33,8 @@ runs-out-requires c κs = search rules
 put-object-requires : tie.Need-put-object-requires
 put-object-requires c κs = search rules
 
-pub put-if-ran-out-spec : {M : Type 1} → statement M
-put-if-ran-out-spec =
+pub put_if_ran_out_spec : {M : Type 1} → statement M
+put_if_ran_out_spec =
     tie.close
     (tie.spec
     wide-requires

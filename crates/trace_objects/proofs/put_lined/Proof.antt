@@ -46,8 +46,8 @@ add-i c = search rules
 loop-less : tie.Need-loop-smaller invariant-loop decreases-loop
 loop-less c = search rules
 
-pub put-lined-spec : {M : Type 1} → statement M
-put-lined-spec =
+pub put_lined_spec : {M : Type 1} → statement M
+put_lined_spec =
     tie.close
     (tie.spec
     invariant-loop

@@ -48,8 +48,8 @@ put-object-requires c κs = search rules
 put-waiting-requires : tie.Need-put-waiting-requires
 put-waiting-requires c κs = search rules
 
-pub put-lined-if-changed-spec : {M : Type 1} → statement M
-put-lined-if-changed-spec =
+pub put_lined_if_changed_spec : {M : Type 1} → statement M
+put_lined_if_changed_spec =
     tie.close
     (tie.spec
     wide-requires

@@ -49,8 +49,8 @@ add-put-waiting c = search rules
 put-waiting-requires : tie.Need-put-waiting-requires
 put-waiting-requires c κs = search rules
 
-pub put-mailbox-spec : {M : Type 1} → statement M
-put-mailbox-spec =
+pub put_mailbox_spec : {M : Type 1} → statement M
+put_mailbox_spec =
     tie.close
     (tie.spec
     wide-requires

@@ -13,8 +13,8 @@ returns-2 c =
     let at-same-mailbox = at-if1.before in
     told-changed at-same-mailbox.same-mailbox.ensures _ at-if1.if1.false c.put-mailbox.ensures
 
-pub put-mailbox-if-changed-spec : {M : Type 1} → statement M
-put-mailbox-if-changed-spec =
+pub put_mailbox_if_changed_spec : {M : Type 1} → statement M
+put_mailbox_if_changed_spec =
     tie.close
     (tie.spec
     (λ c κs. search rules)

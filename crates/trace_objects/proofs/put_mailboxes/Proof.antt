@@ -40,8 +40,8 @@ add-i c = search rules
 loop-less : tie.Need-loop-smaller invariant-loop decreases-loop
 loop-less c = search rules
 
-pub put-mailboxes-spec : {M : Type 1} → statement M
-put-mailboxes-spec =
+pub put_mailboxes_spec : {M : Type 1} → statement M
+put_mailboxes_spec =
     tie.close
     (tie.spec
     invariant-loop

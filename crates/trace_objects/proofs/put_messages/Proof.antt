@@ -69,8 +69,8 @@ add-k c = search rules
 loop-less : tie.Need-loop-smaller invariant-loop decreases-loop
 loop-less c = search rules
 
-pub put-messages-spec : {M : Type 1} → statement M
-put-messages-spec =
+pub put_messages_spec : {M : Type 1} → statement M
+put_messages_spec =
     tie.close
     (tie.spec
     invariant-loop

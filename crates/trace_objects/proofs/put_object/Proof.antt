@@ -7,8 +7,8 @@ use Rattle.trace_objects.proofs.put_object.Tie as tie
 returns : tie.Need-returns
 returns c = tells_more _ _ c.before.before.put_small.ensures c.put-row.ensures
 
-pub put-object-spec : {M : Type 1} → statement M
-put-object-spec =
+pub put_object_spec : {M : Type 1} → statement M
+put_object_spec =
     tie.close
     (tie.spec
     (λ c κs. search rules)

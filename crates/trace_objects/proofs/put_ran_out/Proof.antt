@@ -39,8 +39,8 @@ add-i c = search rules
 loop-less : tie.Need-loop-smaller invariant-loop decreases-loop
 loop-less c = search rules
 
-pub put-ran-out-spec : {M : Type 1} → statement M
-put-ran-out-spec =
+pub put_ran_out_spec : {M : Type 1} → statement M
+put_ran_out_spec =
     tie.close
     (tie.spec
     invariant-loop

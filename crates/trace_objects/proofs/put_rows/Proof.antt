@@ -42,8 +42,8 @@ add-i c = search rules
 loop-less : tie.Need-loop-smaller invariant-loop decreases-loop
 loop-less c = search rules
 
-pub put-rows-spec : {M : Type 1} → statement M
-put-rows-spec =
+pub put_rows_spec : {M : Type 1} → statement M
+put_rows_spec =
     tie.close
     (tie.spec
     invariant-loop

@@ -44,8 +44,8 @@ add-u c = search rules
 loop-less : tie.Need-loop-smaller invariant-loop decreases-loop
 loop-less c = search rules
 
-pub same-heap-spec : {M : Type 1} → statement M
-same-heap-spec =
+pub same_heap_spec : {M : Type 1} → statement M
+same_heap_spec =
     tie.close
     (tie.spec
     invariant-loop

@@ -21,8 +21,8 @@ add-same-line c = search rules
 same-line-requires : tie.Need-same-line-requires
 same-line-requires c κs = search rules
 
-pub same-mailbox-spec : {M : Type 1} → statement M
-same-mailbox-spec =
+pub same_mailbox_spec : {M : Type 1} → statement M
+same_mailbox_spec =
     tie.close
     (tie.spec
     same-row-requires

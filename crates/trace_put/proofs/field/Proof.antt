@@ -47,8 +47,8 @@ wide-requires-3 c κs = search rules
 word-requires : tie.Need-word-requires
 word-requires c κs = search rules
 
-pub field-spec : {M : Type 1} → statement M
-field-spec =
+pub field_spec : {M : Type 1} → statement M
+field_spec =
     tie.close
     (tie.spec
     wide-requires

@@ -7,8 +7,8 @@ use Rattle.trace_put.proofs.put_long.Tie as tie
 returns : tie.Need-returns
 returns c = let start = c.before.before in tells-one start.args.n c.put-column.ensures
 
-pub put-long-spec : {M : Type 1} → statement M
-put-long-spec =
+pub put_long_spec : {M : Type 1} → statement M
+put_long_spec =
     tie.close
     (tie.spec
     (λ c κs. search rules)

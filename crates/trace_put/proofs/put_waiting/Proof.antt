@@ -12,8 +12,8 @@ returns c =
     let at_len = at-put-long.before in
     tells_more _ _ (rw at_len.len.ensures at at-put-long.put-long.ensures) c.put-line.ensures
 
-pub put-waiting-spec : {M : Type 1} → statement M
-put-waiting-spec =
+pub put_waiting_spec : {M : Type 1} → statement M
+put_waiting_spec =
     tie.close
     (tie.spec
     (λ c κs. search rules)

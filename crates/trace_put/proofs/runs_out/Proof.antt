@@ -6,8 +6,8 @@ use Rattle.trace_put.proofs.runs_out.Tie as tie
 returns : tie.Need-returns
 returns c = rw c.aged.ensures
 
-pub runs-out-spec : {M : Type 1} → statement M
-runs-out-spec =
+pub runs_out_spec : {M : Type 1} → statement M
+runs_out_spec =
     tie.close
     (tie.spec
     (λ c κs. search rules)

@@ -45,8 +45,8 @@ add-k c = search rules
 loop-less : tie.Need-loop-smaller invariant-loop decreases-loop
 loop-less c = search rules
 
-pub same-front-spec : {M : Type 1} → statement M
-same-front-spec =
+pub same_front_spec : {M : Type 1} → statement M
+same_front_spec =
     tie.close
     (tie.spec
     invariant-loop

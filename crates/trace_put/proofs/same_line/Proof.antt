@@ -8,8 +8,8 @@ returns : tie.Need-returns
 unfolding same_list
 returns c = rw (c.same-front.ensures, c.before.len2.ensures, c.before.before.len.ensures)
 
-pub same-line-spec : {M : Type 1} → statement M
-same-line-spec =
+pub same_line_spec : {M : Type 1} → statement M
+same_line_spec =
     tie.close
     (tie.spec
     (λ c κs. search rules)

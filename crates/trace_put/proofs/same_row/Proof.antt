@@ -46,8 +46,8 @@ add-f c = search rules
 loop-less : tie.Need-loop-smaller invariant-loop decreases-loop
 loop-less c = search rules
 
-pub same-row-spec : {M : Type 1} → statement M
-same-row-spec =
+pub same_row_spec : {M : Type 1} → statement M
+same_row_spec =
     tie.close
     (tie.spec
     invariant-loop

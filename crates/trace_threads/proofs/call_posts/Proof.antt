@@ -8,8 +8,8 @@ returns : tie.Need-returns
 unfolding call_posts
 returns c = rw (c.one_down.ensures, c.before.swi.ensures, c.before.before.index.ensures)
 
-pub call-posts-spec : {M : Type 1} → statement M
-call-posts-spec =
+pub call_posts_spec : {M : Type 1} → statement M
+call_posts_spec =
     tie.close
     (tie.spec
     (λ c κs. search rules)

@@ -6,8 +6,8 @@ use Rattle.trace_threads.proofs.is_posted.Tie as tie
 returns : tie.Need-returns
 returns c = rw (c.swi.ensures, c.before.index.ensures)
 
-pub is-posted-spec : {M : Type 1} → statement M
-is-posted-spec =
+pub is_posted_spec : {M : Type 1} → statement M
+is_posted_spec =
     tie.close
     (tie.spec
     (λ c κs. search rules)

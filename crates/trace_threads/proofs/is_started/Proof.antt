@@ -38,8 +38,8 @@ len-requires c κs = search rules
 len-requires-2 : tie.Need-len-requires-2
 len-requires-2 c κs = search rules
 
-pub is-started-spec : {M : Type 1} → statement M
-is-started-spec =
+pub is_started_spec : {M : Type 1} → statement M
+is_started_spec =
     tie.close
     (tie.spec
     bit-requires

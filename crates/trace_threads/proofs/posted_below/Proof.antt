@@ -52,8 +52,8 @@ add-n c = search rules
 loop-less : tie.Need-loop-smaller invariant-loop decreases-loop
 loop-less c = search rules
 
-pub posted-below-spec : {M : Type 1} → statement M
-posted-below-spec =
+pub posted_below_spec : {M : Type 1} → statement M
+posted_below_spec =
     tie.close
     (tie.spec
     invariant-loop

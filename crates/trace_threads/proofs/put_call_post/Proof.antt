@@ -27,8 +27,8 @@ is-posted-requires c κs = search rules
 put-post-requires : tie.Need-put-post-requires
 put-post-requires c κs = search rules
 
-pub put-call-post-spec : {M : Type 1} → statement M
-put-call-post-spec =
+pub put_call_post_spec : {M : Type 1} → statement M
+put_call_post_spec =
     tie.close
     (tie.spec
     call-posts-requires

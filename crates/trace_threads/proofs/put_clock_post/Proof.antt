@@ -46,8 +46,8 @@ posted-below-requires c κs = search rules
 put-post-requires : tie.Need-put-post-requires
 put-post-requires c κs = search rules
 
-pub put-clock-post-spec : {M : Type 1} → statement M
-put-clock-post-spec =
+pub put_clock_post_spec : {M : Type 1} → statement M
+put_clock_post_spec =
     tie.close
     (tie.spec
     index-requires

@@ -37,8 +37,8 @@ add-c c = search rules
 loop-less : tie.Need-loop-smaller invariant-loop decreases-loop
 loop-less c = search rules
 
-pub put-clock-posts-spec : {M : Type 1} → statement M
-put-clock-posts-spec =
+pub put_clock_posts_spec : {M : Type 1} → statement M
+put_clock_posts_spec =
     tie.close
     (tie.spec
     invariant-loop

@@ -33,8 +33,8 @@ same-task-requires c κs = search rules
 put-task-requires : tie.Need-put-task-requires
 put-task-requires c κs = search rules
 
-pub put-if-changed-spec : {M : Type 1} → statement M
-put-if-changed-spec =
+pub put_if_changed_spec : {M : Type 1} → statement M
+put_if_changed_spec =
     tie.close
     (tie.spec
     task-requires

@@ -24,8 +24,8 @@ bit-requires c κs = search rules
 put-requires-3 : tie.Need-put-requires-3
 put-requires-3 c κs = search rules
 
-pub put-post-spec : {M : Type 1} → statement M
-put-post-spec =
+pub put_post_spec : {M : Type 1} → statement M
+put_post_spec =
     tie.close
     (tie.spec
     put-requires

@@ -44,8 +44,8 @@ add-k c = search rules
 loop-less : tie.Need-loop-smaller invariant-loop decreases-loop
 loop-less c = search rules
 
-pub put-posted-spec : {M : Type 1} → statement M
-put-posted-spec =
+pub put_posted_spec : {M : Type 1} → statement M
+put_posted_spec =
     tie.close
     (tie.spec
     invariant-loop

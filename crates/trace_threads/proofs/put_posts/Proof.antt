@@ -31,8 +31,8 @@ put-clock-posts-requires c κs = search rules
 put-call-post-requires : tie.Need-put-call-post-requires
 put-call-post-requires c κs = search rules
 
-pub put-posts-spec : {M : Type 1} → statement M
-put-posts-spec =
+pub put_posts_spec : {M : Type 1} → statement M
+put_posts_spec =
     tie.close
     (tie.spec
     returns

@@ -27,8 +27,8 @@ top-requires c κs = search rules
 put-small-requires : tie.Need-put-small-requires
 put-small-requires c κs = search rules
 
-pub put-started-spec : {M : Type 1} → statement M
-put-started-spec =
+pub put_started_spec : {M : Type 1} → statement M
+put_started_spec =
     tie.close
     (tie.spec
     is-started-requires

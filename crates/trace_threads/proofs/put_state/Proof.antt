@@ -53,8 +53,8 @@ element-copy-out-put-6 c = search rules
 put-requires-6 : tie.Need-put-requires-6
 put-requires-6 c κs = search rules
 
-pub put-state-spec : {M : Type 1} → statement M
-put-state-spec =
+pub put_state_spec : {M : Type 1} → statement M
+put_state_spec =
     tie.close
     (tie.spec
     element-copy-out-put

@@ -40,8 +40,8 @@ put-requires-5 c κs = search rules
 put-requires-6 : tie.Need-put-requires-6
 put-requires-6 c κs = search rules
 
-pub put-task-spec : {M : Type 1} → statement M
-put-task-spec =
+pub put_task_spec : {M : Type 1} → statement M
+put_task_spec =
     tie.close
     (tie.spec
     put-long-requires

@@ -39,8 +39,8 @@ add-i c = search rules
 loop-less : tie.Need-loop-smaller invariant-loop decreases-loop
 loop-less c = search rules
 
-pub put-tasks-spec : {M : Type 1} → statement M
-put-tasks-spec =
+pub put_tasks_spec : {M : Type 1} → statement M
+put_tasks_spec =
     tie.close
     (tie.spec
     invariant-loop

@@ -8,8 +8,8 @@ returns : tie.Need-returns
 unfolding same_task
 returns c = refl
 
-pub same-task-spec : {M : Type 1} → statement M
-same-task-spec =
+pub same_task_spec : {M : Type 1} → statement M
+same_task_spec =
     tie.close
     (tie.spec
     returns)

@@ -140,9 +140,9 @@ read-arguments-meets {𝓤 = 𝓤} 𝓛 mem run 𝓣 known =
     (WpFn-mono 𝓤 𝓛.H 𝓛.laws 𝓣 code.function)
     (read-arguments-walks 𝓛 mem run 𝓣.C 𝓣.Λ (fm_of 𝓤 𝓛.H 𝓛.laws 𝓣) known)
 
-pub read-arguments-spec : {M : Type 1} → stated.statement M
+pub read_arguments_spec : {M : Type 1} → stated.statement M
 unfolding code.routine tables_of
-read-arguments-spec 𝓤 𝓛 𝓜 𝓡 =
+read_arguments_spec 𝓤 𝓛 𝓜 𝓡 =
     entered 𝓤 𝓛.H (triple_of 𝓛 read-arguments.signature (read-arguments.spec 𝓛 𝓜.mem 𝓡.run))
     (tables 𝓤 𝓛.H 𝓜 𝓡 code.env).C (tables 𝓤 𝓛.H 𝓜 𝓡 code.env).Λ #reader·read-arguments code.function (code.unfolded 𝓤 𝓛.H 𝓜 𝓡)
     (read-arguments-meets 𝓛 𝓜.mem 𝓡.run (tables_of 𝓤 𝓛.H 𝓜 (tables 𝓤 𝓛.H 𝓜 𝓡 code.env))

@@ -3,8 +3,8 @@ use Rattle.std.proofs.Common.{rules}
 use Rattle.call_log.proofs.reader.step_at.Statement.{statement}
 use Rattle.call_log.proofs.reader.step_at.Tie as tie
 
-pub step-at-spec : {M : Type 1} → statement M
-step-at-spec =
+pub step_at_spec : {M : Type 1} → statement M
+step_at_spec =
     tie.close
     (tie.spec
     (λ c κs. search rules)

@@ -4,8 +4,8 @@ use Rattle.call_log.proofs.Records.{step_is}
 use Rattle.call_log.proofs.reader.step_in.Statement.{statement}
 use Rattle.call_log.proofs.reader.step_in.Tie as tie
 
-pub step-in-spec : {M : Type 1} → statement M
-step-in-spec =
+pub step_in_spec : {M : Type 1} → statement M
+step_in_spec =
     tie.close
     (tie.spec
     (λ c κs. search rules)

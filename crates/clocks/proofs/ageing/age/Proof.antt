@@ -129,9 +129,9 @@ age-meets : {M : Type 1} {𝓤 : Ura M} (𝓛 : Logic 𝓤) → (mem : Memory �
 age-meets {𝓤 = 𝓤} 𝓛 mem run 𝓣 known = walk_Meets 𝓛 age.ended stayed (Goes-ref 𝓛 1 0 tt (plain (λ _. T.the_row)), tt) (age.clauses 𝓛 mem run) (WpFn 𝓤 𝓛.H 𝓣.C 𝓣.Λ code.function) (WpFn-mono 𝓤 𝓛.H 𝓛.laws 𝓣 code.function)
     (age-walks 𝓛 mem run 𝓣.C 𝓣.Λ (fm_of 𝓤 𝓛.H 𝓛.laws 𝓣) known)
 
-pub age-spec : {M : Type 1} → stated.statement M
+pub age_spec : {M : Type 1} → stated.statement M
 unfolding code.routine tables_of
-age-spec 𝓤 𝓛 𝓜 𝓡 =
+age_spec 𝓤 𝓛 𝓜 𝓡 =
     entered 𝓤 𝓛.H (triple_of 𝓛 age.signature (age.spec 𝓛 𝓜.mem 𝓡.run))
     (tables 𝓤 𝓛.H 𝓜 𝓡 code.env).C (tables 𝓤 𝓛.H 𝓜 𝓡 code.env).Λ #clocks·age code.function (code.unfolded 𝓤 𝓛.H 𝓜 𝓡)
     (age-meets 𝓛 𝓜.mem 𝓡.run (tables_of 𝓤 𝓛.H 𝓜 (tables 𝓤 𝓛.H 𝓜 𝓡 code.env))

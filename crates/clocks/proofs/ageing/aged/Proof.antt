@@ -29,9 +29,9 @@ sub-with-left c = search rules
 with-left-requires-2 : tie.Need-with-left-requires-2
 with-left-requires-2 c κs = search rules
 
-pub aged-spec : {M : Type 1} → statement M
+pub aged_spec : {M : Type 1} → statement M
 unfolding aged
-aged-spec =
+aged_spec =
     tie.close
     (tie.spec
     (λ c. rw (eq-eqb _ 0 c.if1.true))

@@ -83,8 +83,8 @@ unused-requires c κs = search rules
 free-clock-requires : tie.Need-free-clock-requires
 free-clock-requires c κs = search rules
 
-pub create-code-spec : {M : Type 1} → statement M
-create-code-spec =
+pub create_code_spec : {M : Type 1} → statement M
+create_code_spec =
     tie.close
     (tie.spec
     code-2

@@ -5,9 +5,9 @@ use borrow.Author.Rules.{rules}
 use Rattle.clocks.proofs.calls.delete_effect.Statement.{statement}
 use Rattle.clocks.proofs.calls.delete_effect.Tie as tie
 
-pub delete-effect-spec : {M : Type 1} → statement M
+pub delete_effect_spec : {M : Type 1} → statement M
 unfolding delete_effect
-delete-effect-spec =
+delete_effect_spec =
     tie.close
     (tie.spec
     (λ c κs. search rules)

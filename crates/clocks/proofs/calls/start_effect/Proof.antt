@@ -29,8 +29,8 @@ set-clock-requires c κs = search rules
 accepted-requires : tie.Need-accepted-requires
 accepted-requires c κs = search rules
 
-pub start-effect-spec : {M : Type 1} → statement M
-start-effect-spec =
+pub start_effect_spec : {M : Type 1} → statement M
+start_effect_spec =
     tie.close
     (tie.spec
     clock-requires

@@ -46,8 +46,8 @@ absent-code-requires c κs = search rules
 unused-requires : tie.Need-unused-requires
 unused-requires c κs = search rules
 
-pub start-stop-code-spec : {M : Type 1} → statement M
-start-stop-code-spec =
+pub start_stop_code_spec : {M : Type 1} → statement M
+start_stop_code_spec =
     tie.close
     (tie.spec
     clock-requires

@@ -19,8 +19,8 @@ refused-requires c κs = search rules
 stop-effect-requires : tie.Need-stop-effect-requires
 stop-effect-requires c κs = search rules
 
-pub stop-spec : {M : Type 1} → statement M
-stop-spec =
+pub stop_spec : {M : Type 1} → statement M
+stop_spec =
     tie.close
     (tie.spec
     start-stop-code-requires

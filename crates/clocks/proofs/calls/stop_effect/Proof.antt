@@ -29,8 +29,8 @@ set-clock-requires c κs = search rules
 accepted-requires : tie.Need-accepted-requires
 accepted-requires c κs = search rules
 
-pub stop-effect-spec : {M : Type 1} → statement M
-stop-effect-spec =
+pub stop_effect_spec : {M : Type 1} → statement M
+stop_effect_spec =
     tie.close
     (tie.spec
     clock-requires

@@ -43,9 +43,9 @@ add-i c = search rules
 loop-less : tie.Need-loop-smaller invariant-loop decreases-loop
 loop-less c = search rules
 
-pub free-clock-spec : {M : Type 1} → statement M
+pub free_clock_spec : {M : Type 1} → statement M
 unfolding free_clock
-free-clock-spec =
+free_clock_spec =
     tie.close
     (tie.spec
     invariant-loop

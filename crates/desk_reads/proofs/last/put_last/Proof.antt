@@ -54,9 +54,9 @@ wrapping-add-u64-requires-3 c κs = search rules
 put-word-requires-4 : tie.Need-put-word-requires-4
 put-word-requires-4 c κs = search rules
 
-pub put-last-spec : {M : Type 1} → statement M
+pub put_last_spec : {M : Type 1} → statement M
 unfolding last_text
-put-last-spec =
+put_last_spec =
     tie.close
     (tie.spec
     enum_told

@@ -25,9 +25,9 @@ cast-result c = search rules
 add-result : tie.Need-overflow-add-result
 add-result c = search rules
 
-pub active-level-spec : {M : Type 1} → statement M
+pub active_level_spec : {M : Type 1} → statement M
 unfolding active_level
-active-level-spec =
+active_level_spec =
     tie.close
     (tie.spec
     anyone-requires

@@ -4,8 +4,8 @@ use borrow.Author.Rules.{rules}
 use Rattle.dispatch.proofs.due.empty.Statement.{statement}
 use Rattle.dispatch.proofs.due.empty.Tie as tie
 
-pub empty-spec : {M : Type 1} → statement M
-empty-spec =
+pub empty_spec : {M : Type 1} → statement M
+empty_spec =
     tie.close
     (tie.spec
     (λ c κs. search rules)

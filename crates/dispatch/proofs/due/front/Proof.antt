@@ -30,9 +30,9 @@ sub-first c = search rules
 first-requires : tie.Need-first-requires
 first-requires c κs = search rules
 
-pub front-spec : {M : Type 1} → statement M
+pub front_spec : {M : Type 1} → statement M
 unfolding front
-front-spec =
+front_spec =
     tie.close
     (tie.spec
     highest-ready-requires

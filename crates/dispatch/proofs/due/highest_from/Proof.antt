@@ -11,8 +11,8 @@ use Rattle.dispatch.proofs.due.highest_from.Tie as tie
 least-most : (n : ℕ) → min n 32 ≤ 32
 least-most n = omega arith
 
-pub highest-from-spec : {M : Type 1} → statement M
-highest-from-spec =
+pub highest_from_spec : {M : Type 1} → statement M
+highest_from_spec =
     tie.close
     (tie.spec
     (λ c κs. search rules)

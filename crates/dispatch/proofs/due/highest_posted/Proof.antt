@@ -34,9 +34,9 @@ sub-level c = search rules
 loop-less : tie.Need-loop-smaller invariant-loop decreases-loop
 loop-less c = search rules
 
-pub highest-posted-spec : {M : Type 1} → statement M
+pub highest_posted_spec : {M : Type 1} → statement M
 unfolding highest_posted
-highest-posted-spec =
+highest_posted_spec =
     tie.close
     (tie.spec
     invariant-loop

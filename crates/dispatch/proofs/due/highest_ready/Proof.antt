@@ -18,8 +18,8 @@ highest-from-requires-2 c κs = search rules
 highest-from-requires-3 : tie.Need-highest-from-requires-3
 highest-from-requires-3 c κs = search rules
 
-pub highest-ready-spec : {M : Type 1} → statement M
-highest-ready-spec =
+pub highest_ready_spec : {M : Type 1} → statement M
+highest_ready_spec =
     tie.close
     (tie.spec
     element-copy-out-if1

@@ -18,8 +18,8 @@ cast-result c = search rules
 shl-result : tie.Need-overflow-shl-result
 shl-result c = search rules
 
-pub ones-spec : {M : Type 1} → statement M
-ones-spec =
+pub ones_spec : {M : Type 1} → statement M
+ones_spec =
     tie.close
     (tie.spec
     cast-result

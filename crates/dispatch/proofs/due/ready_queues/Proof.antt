@@ -43,8 +43,8 @@ loop-less c = search rules
 ones-requires : tie.Need-ones-requires invariant-loop decreases-loop
 ones-requires c κs = search rules
 
-pub ready-queues-spec : {M : Type 1} → statement M
-ready-queues-spec =
+pub ready_queues_spec : {M : Type 1} → statement M
+ready_queues_spec =
     tie.close
     (tie.spec
     invariant-loop

@@ -18,9 +18,9 @@ active-level-requires c κs = search rules
 highest-posted-requires : tie.Need-highest-posted-requires
 highest-posted-requires c κs = search rules
 
-pub swi-due-spec : {M : Type 1} → statement M
+pub swi_due_spec : {M : Type 1} → statement M
 unfolding swi_due
-swi-due-spec =
+swi_due_spec =
     tie.close
     (tie.spec
     element-copy-out-if1

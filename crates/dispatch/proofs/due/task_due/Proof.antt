@@ -19,9 +19,9 @@ element-copy-out-result c = search rules
 element-copy-out-result-2 : tie.Need-element-copy-out-result-2
 element-copy-out-result-2 c = search rules
 
-pub task-due-spec : {M : Type 1} → statement M
+pub task_due_spec : {M : Type 1} → statement M
 unfolding task_due
-task-due-spec =
+task_due_spec =
     tie.close
     (tie.spec
     element-copy-out-if1

@@ -19,8 +19,8 @@ refused-requires c κs = search rules
 delete-effect-requires : tie.Need-delete-effect-requires
 delete-effect-requires c κs = search rules
 
-pub delete-spec : {M : Type 1} → statement M
-delete-spec =
+pub delete_spec : {M : Type 1} → statement M
+delete_spec =
     tie.close
     (tie.spec
     delete-code-requires

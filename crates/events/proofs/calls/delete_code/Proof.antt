@@ -77,8 +77,8 @@ add-len c = search rules
 len-requires : tie.Need-len-requires
 len-requires c κs = search rules
 
-pub delete-code-spec : {M : Type 1} → statement M
-delete-code-spec =
+pub delete_code_spec : {M : Type 1} → statement M
+delete_code_spec =
     tie.close
     (tie.spec
     code-2

@@ -2,8 +2,8 @@ use borrow.Author.Rules.{rules}
 use Rattle.events.proofs.pends.event_match.Statement.{statement}
 use Rattle.events.proofs.pends.event_match.Tie as tie
 
-pub event-match-spec : {M : Type 1} → statement M
-event-match-spec =
+pub event_match_spec : {M : Type 1} → statement M
+event_match_spec =
     tie.close
     (tie.spec
     (λ c κs. search rules)

@@ -100,8 +100,8 @@ pend-waits-requires c κs = search rules
 wait-code-requires : tie.Need-wait-code-requires
 wait-code-requires c κs = search rules
 
-pub pend-code-spec : {M : Type 1} → statement M
-pend-code-spec =
+pub pend_code_spec : {M : Type 1} → statement M
+pend_code_spec =
     tie.close
     (tie.spec
     outside-requires

@@ -63,8 +63,8 @@ wait-requires c κs = search rules
 accepted-requires-3 : tie.Need-accepted-requires-3
 accepted-requires-3 c κs = search rules
 
-pub pend-effect-spec : {M : Type 1} → statement M
-pend-effect-spec =
+pub pend_effect_spec : {M : Type 1} → statement M
+pend_effect_spec =
     tie.close
     (tie.spec
     event-match-requires

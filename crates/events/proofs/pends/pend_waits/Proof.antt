@@ -3,9 +3,9 @@ use borrow.Author.Rules.{rules}
 use Rattle.events.proofs.pends.pend_waits.Statement.{statement}
 use Rattle.events.proofs.pends.pend_waits.Tie as tie
 
-pub pend-waits-spec : {M : Type 1} → statement M
+pub pend_waits_spec : {M : Type 1} → statement M
 unfolding pend_waits
-pend-waits-spec =
+pend_waits_spec =
     tie.close
     (tie.spec
     (λ c κs. search rules)

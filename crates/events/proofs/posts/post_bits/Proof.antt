@@ -41,8 +41,8 @@ add-wake-first c = search rules
 wake-first-requires : tie.Need-wake-first-requires
 wake-first-requires c κs = search rules
 
-pub post-bits-spec : {M : Type 1} → statement M
-post-bits-spec =
+pub post_bits_spec : {M : Type 1} → statement M
+post_bits_spec =
     tie.close
     (tie.spec
     waiter-match-requires

@@ -11,8 +11,8 @@ returns c =
     posted-with (wait_tables args.tasks.now args.lines.now args.events.now) args.a args.mask at-event.event.ensures
     c.post-bits.ensures
 
-pub post-effect-spec : {M : Type 1} → statement M
-post-effect-spec =
+pub post_effect_spec : {M : Type 1} → statement M
+post_effect_spec =
     tie.close
     (tie.spec
     (λ c κs. search rules)

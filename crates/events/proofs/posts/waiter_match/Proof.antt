@@ -40,8 +40,8 @@ task-requires c κs = search rules
 matched-requires : tie.Need-matched-requires
 matched-requires c κs = search rules
 
-pub waiter-match-spec : {M : Type 1} → statement M
-waiter-match-spec =
+pub waiter_match_spec : {M : Type 1} → statement M
+waiter_match_spec =
     tie.close
     (tie.spec
     add-j

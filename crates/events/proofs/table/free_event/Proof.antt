@@ -41,9 +41,9 @@ add-i c = search rules
 loop-less : tie.Need-loop-smaller invariant-loop decreases-loop
 loop-less c = search rules
 
-pub free-event-spec : {M : Type 1} → statement M
+pub free_event_spec : {M : Type 1} → statement M
 unfolding free_event
-free-event-spec =
+free_event_spec =
     tie.close
     (tie.spec
     invariant-loop

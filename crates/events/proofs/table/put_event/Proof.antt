@@ -29,8 +29,8 @@ mul-events-2 c = search rules
 element-write-events-2 : tie.Need-element-write-events-2
 element-write-events-2 c = search rules
 
-pub put-event-spec : {M : Type 1} → statement M
-put-event-spec =
+pub put_event_spec : {M : Type 1} → statement M
+put_event_spec =
     tie.close
     (tie.spec
     mul_at

@@ -15,8 +15,8 @@ sub-adjacent c = search rules
 adjacent-requires : tie.Need-adjacent-requires
 adjacent-requires c κs = search rules
 
-pub block-size-spec : {M : Type 1} → statement M
-block-size-spec =
+pub block_size_spec : {M : Type 1} → statement M
+block_size_spec =
     tie.close
     (tie.spec
     (λ c. alone _ _ c.if1.true)

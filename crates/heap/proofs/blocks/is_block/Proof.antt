@@ -32,9 +32,9 @@ units-requires c κs = search rules
 block-size-requires : tie.Need-block-size-requires
 block-size-requires c κs = search rules
 
-pub is-block-spec : {M : Type 1} → statement M
+pub is_block_spec : {M : Type 1} → statement M
 unfolding is_block
-is-block-spec =
+is_block_spec =
     tie.close
     (tie.spec
     (λ c. rw (ne_eqb _ 0 c.if1.true))

@@ -59,9 +59,9 @@ mark-requires c κs = search rules
 accepted-requires : tie.Need-accepted-requires
 accepted-requires c κs = search rules
 
-pub give-back-spec : {M : Type 1} → statement M
+pub give_back_spec : {M : Type 1} → statement M
 unfolding first_given give_cases
-give-back-spec =
+give_back_spec =
     tie.close
     (tie.spec
     refused-requires

@@ -40,8 +40,8 @@ add-k c = search rules
 loop-less : tie.Need-loop-smaller invariant-loop decreases-loop
 loop-less c = search rules
 
-pub adjacent-spec : {M : Type 1} → statement M
-adjacent-spec =
+pub adjacent_spec : {M : Type 1} → statement M
+adjacent_spec =
     tie.close
     (tie.spec
     invariant-loop

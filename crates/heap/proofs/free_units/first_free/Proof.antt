@@ -97,8 +97,8 @@ loop-less c = search rules
 next-free-requires : tie.Need-next-free-requires invariant-loop decreases-loop
 next-free-requires c κs = search rules
 
-pub first-free-spec : {M : Type 1} → statement M
-first-free-spec =
+pub first_free_spec : {M : Type 1} → statement M
+first_free_spec =
     tie.close
     (tie.spec
     invariant-loop

@@ -38,8 +38,8 @@ sub-p c = search rules
 loop-less : tie.Need-loop-smaller invariant-loop decreases-loop
 loop-less c = search rules
 
-pub free-from-spec : {M : Type 1} → statement M
-free-from-spec =
+pub free_from_spec : {M : Type 1} → statement M
+free_from_spec =
     tie.close
     (tie.spec
     invariant-loop

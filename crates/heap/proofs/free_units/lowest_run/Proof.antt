@@ -47,8 +47,8 @@ free-from-requires c κs = search rules
 first-free-requires : tie.Need-first-free-requires invariant-loop decreases-loop
 first-free-requires c κs = search rules
 
-pub lowest-run-spec : {M : Type 1} → statement M
-lowest-run-spec =
+pub lowest_run_spec : {M : Type 1} → statement M
+lowest_run_spec =
     tie.close
     (tie.spec
     invariant-loop

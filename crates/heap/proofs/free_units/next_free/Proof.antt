@@ -36,8 +36,8 @@ add-u c = search rules
 loop-less : tie.Need-loop-smaller invariant-loop decreases-loop
 loop-less c = search rules
 
-pub next-free-spec : {M : Type 1} → statement M
-next-free-spec =
+pub next_free_spec : {M : Type 1} → statement M
+next_free_spec =
     tie.close
     (tie.spec
     invariant-loop

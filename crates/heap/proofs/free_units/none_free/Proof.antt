@@ -24,8 +24,8 @@ add-k c = search rules
 loop-less : tie.Need-loop-smaller invariant-loop decreases-loop
 loop-less c = search rules
 
-pub none-free-spec : {M : Type 1} → statement M
-none-free-spec =
+pub none_free_spec : {M : Type 1} → statement M
+none_free_spec =
     tie.close
     (tie.spec
     invariant-loop

@@ -19,8 +19,8 @@ decreases-loop heap from u₀ u = heap_units - u
 none-free-requires : tie.Need-none-free-requires invariant-loop decreases-loop
 none-free-requires c κs = search rules
 
-pub past-full-spec : {M : Type 1} → statement M
-past-full-spec =
+pub past_full_spec : {M : Type 1} → statement M
+past_full_spec =
     tie.close
     (tie.spec
     invariant-loop

@@ -113,8 +113,8 @@ switch-call-requires c κs = search rules
 refused-requires : tie.Need-refused-requires
 refused-requires c κs = search rules
 
-pub any-call-spec : {M : Type 1} → statement M
-any-call-spec =
+pub any_call_spec : {M : Type 1} → statement M
+any_call_spec =
     tie.close
     (tie.spec
     context-requires

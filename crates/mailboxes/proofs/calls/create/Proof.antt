@@ -19,8 +19,8 @@ refused-requires c κs = search rules
 create-effect-requires : tie.Need-create-effect-requires
 create-effect-requires c κs = search rules
 
-pub create-spec : {M : Type 1} → statement M
-create-spec =
+pub create_spec : {M : Type 1} → statement M
+create_spec =
     tie.close
     (tie.spec
     create-code-requires

@@ -32,8 +32,8 @@ cast-accepted c = search rules
 accepted-requires : tie.Need-accepted-requires
 accepted-requires c κs = search rules
 
-pub create-effect-spec : {M : Type 1} → statement M
-create-effect-spec =
+pub create_effect_spec : {M : Type 1} → statement M
+create_effect_spec =
     tie.close
     (tie.spec
     free-mailbox-requires

@@ -91,8 +91,8 @@ mailbox-requires-2 c κs = search rules
 anyone-requires : tie.Need-anyone-requires
 anyone-requires c κs = search rules
 
-pub delete-code-spec : {M : Type 1} → statement M
-delete-code-spec =
+pub delete_code_spec : {M : Type 1} → statement M
+delete_code_spec =
     tie.close
     (tie.spec
     code-2

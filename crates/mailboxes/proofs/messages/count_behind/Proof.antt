@@ -16,8 +16,8 @@ returns-2 c =
     let a = at_count.before.args in
     omega (arith, behind-is a.mailboxes.now a.i, at_count.count.ensures)
 
-pub count-behind-spec : {M : Type 1} → statement M
-count-behind-spec =
+pub count_behind_spec : {M : Type 1} → statement M
+count_behind_spec =
     tie.close
     (tie.spec
     (λ c κs. search rules)

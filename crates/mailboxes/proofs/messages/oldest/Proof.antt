@@ -20,8 +20,8 @@ returns-2 c =
     let a = at_count.before.args in
     sym (get_or-eq_default (messages a.mailboxes.now a.i) 0 {n = 0} (omega (arith, at_count.count.ensures)))
 
-pub oldest-spec : {M : Type 1} → statement M
-oldest-spec =
+pub oldest_spec : {M : Type 1} → statement M
+oldest_spec =
     tie.close
     (tie.spec
     (λ c κs. search rules)

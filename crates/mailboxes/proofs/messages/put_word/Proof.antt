@@ -48,8 +48,8 @@ mul-mailboxes-2 c = search rules
 element-write-mailboxes-2 : tie.Need-element-write-mailboxes-2
 element-write-mailboxes-2 c = search rules
 
-pub put-word-spec : {M : Type 1} → statement M
-put-word-spec =
+pub put_word_spec : {M : Type 1} → statement M
+put_word_spec =
     tie.close
     (tie.spec
     mul_at

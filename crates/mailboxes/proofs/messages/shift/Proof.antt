@@ -114,8 +114,8 @@ mul-mailboxes-4 c = search rules
 element-write-mailboxes-3 : tie.Need-element-write-mailboxes-3 invariant-loop decreases-loop
 element-write-mailboxes-3 c = search rules
 
-pub shift-spec : {M : Type 1} → statement M
-shift-spec =
+pub shift_spec : {M : Type 1} → statement M
+shift_spec =
     tie.close
     (tie.spec
     invariant-loop

@@ -38,8 +38,8 @@ sub-set-mailbox c = search rules
 set-mailbox-requires : tie.Need-set-mailbox-requires
 set-mailbox-requires c κs = search rules
 
-pub take-word-spec : {M : Type 1} → statement M
-take-word-spec =
+pub take_word_spec : {M : Type 1} → statement M
+take_word_spec =
     tie.close
     (tie.spec
     count-requires

@@ -19,8 +19,8 @@ refused-requires c κs = search rules
 pend-effect-requires : tie.Need-pend-effect-requires
 pend-effect-requires c κs = search rules
 
-pub pend-spec : {M : Type 1} → statement M
-pend-spec =
+pub pend_spec : {M : Type 1} → statement M
+pend_spec =
     tie.close
     (tie.spec
     pend-code-requires

@@ -38,8 +38,8 @@ take-requires c κs = search rules
 accepted-requires : tie.Need-accepted-requires
 accepted-requires c κs = search rules
 
-pub pend-effect-spec : {M : Type 1} → statement M
-pend-effect-spec =
+pub pend_effect_spec : {M : Type 1} → statement M
+pend_effect_spec =
     tie.close
     (tie.spec
     mailbox-requires

@@ -77,8 +77,8 @@ post-waits-requires c κs = search rules
 wait-code-requires : tie.Need-wait-code-requires
 wait-code-requires c κs = search rules
 
-pub post-code-spec : {M : Type 1} → statement M
-post-code-spec =
+pub post_code_spec : {M : Type 1} → statement M
+post_code_spec =
     tie.close
     (tie.spec
     outside-requires

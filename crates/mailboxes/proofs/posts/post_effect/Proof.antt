@@ -57,8 +57,8 @@ put-word-requires c κs = search rules
 accepted-requires : tie.Need-accepted-requires
 accepted-requires c κs = search rules
 
-pub post-effect-spec : {M : Type 1} → statement M
-post-effect-spec =
+pub post_effect_spec : {M : Type 1} → statement M
+post_effect_spec =
     tie.close
     (tie.spec
     waits-first-requires

@@ -44,9 +44,9 @@ add-i c = search rules
 loop-less : tie.Need-loop-smaller invariant-loop decreases-loop
 loop-less c = search rules
 
-pub free-mailbox-spec : {M : Type 1} → statement M
+pub free_mailbox_spec : {M : Type 1} → statement M
 unfolding free_mailbox
-free-mailbox-spec =
+free_mailbox_spec =
     tie.close
     (tie.spec
     invariant-loop

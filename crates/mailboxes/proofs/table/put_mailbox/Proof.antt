@@ -55,8 +55,8 @@ mul-mailboxes-2 c = search rules
 element-write-mailboxes-2 : tie.Need-element-write-mailboxes-2 invariant-loop decreases-loop
 element-write-mailboxes-2 c = search rules
 
-pub put-mailbox-spec : {M : Type 1} → statement M
-put-mailbox-spec =
+pub put_mailbox_spec : {M : Type 1} → statement M
+put_mailbox_spec =
     tie.close
     (tie.spec
     invariant-loop

@@ -5,8 +5,8 @@ use borrow.Author.Rules.{rules}
 use Rattle.mailboxes.proofs.waiters.anyone.Statement.{statement}
 use Rattle.mailboxes.proofs.waiters.anyone.Tie as tie
 
-pub anyone-spec : {M : Type 1} → statement M
-anyone-spec =
+pub anyone_spec : {M : Type 1} → statement M
+anyone_spec =
     tie.close
     (tie.spec
     (λ c. search rules)

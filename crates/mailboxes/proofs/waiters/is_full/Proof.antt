@@ -3,9 +3,9 @@ use borrow.Author.Rules.{rules}
 use Rattle.mailboxes.proofs.waiters.is_full.Statement.{statement}
 use Rattle.mailboxes.proofs.waiters.is_full.Tie as tie
 
-pub is-full-spec : {M : Type 1} → statement M
+pub is_full_spec : {M : Type 1} → statement M
 unfolding is_full
-is-full-spec =
+is_full_spec =
     tie.close
     (tie.spec
     (λ c κs. search rules)

@@ -36,8 +36,8 @@ wait-requires c κs = search rules
 accepted-requires-2 : tie.Need-accepted-requires-2
 accepted-requires-2 c κs = search rules
 
-pub not-done-spec : {M : Type 1} → statement M
-not-done-spec =
+pub not_done_spec : {M : Type 1} → statement M
+not_done_spec =
     tie.close
     (tie.spec
     accepted-requires

@@ -3,9 +3,9 @@ use borrow.Author.Rules.{rules}
 use Rattle.mailboxes.proofs.waiters.post_waits.Statement.{statement}
 use Rattle.mailboxes.proofs.waiters.post_waits.Tie as tie
 
-pub post-waits-spec : {M : Type 1} → statement M
+pub post_waits_spec : {M : Type 1} → statement M
 unfolding post_waits
-post-waits-spec =
+post_waits_spec =
     tie.close
     (tie.spec
     (λ c κs. search rules)

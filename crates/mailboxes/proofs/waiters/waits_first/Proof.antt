@@ -26,8 +26,8 @@ task-requires c κs = search rules
 anyone-requires : tie.Need-anyone-requires
 anyone-requires c κs = search rules
 
-pub waits-first-spec : {M : Type 1} → statement M
-waits-first-spec =
+pub waits_first_spec : {M : Type 1} → statement M
+waits_first_spec =
     tie.close
     (tie.spec
     first-requires

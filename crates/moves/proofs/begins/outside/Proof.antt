@@ -3,9 +3,9 @@ use Rattle.rules.specs.Waits.{outside}
 use Rattle.moves.proofs.begins.outside.Statement.{statement}
 use Rattle.moves.proofs.begins.outside.Tie as tie
 
-pub outside-spec : {M : Type 1} → statement M
+pub outside_spec : {M : Type 1} → statement M
 unfolding outside
-outside-spec =
+outside_spec =
     tie.close
     (tie.spec
     (λ c. refl))

@@ -4,9 +4,9 @@ use borrow.Author.Rules.{rules}
 use Rattle.moves.proofs.begins.switch_off.Statement.{statement}
 use Rattle.moves.proofs.begins.switch_off.Tie as tie
 
-pub switch-off-spec : {M : Type 1} → statement M
+pub switch_off_spec : {M : Type 1} → statement M
 unfolding switch_off
-switch-off-spec =
+switch_off_spec =
     tie.close
     (tie.spec
     (λ c. search rules)

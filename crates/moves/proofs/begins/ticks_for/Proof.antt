@@ -3,9 +3,9 @@ use Rattle.rules.specs.Waits.{ticks_for}
 use Rattle.moves.proofs.begins.ticks_for.Statement.{statement}
 use Rattle.moves.proofs.begins.ticks_for.Tie as tie
 
-pub ticks-for-spec : {M : Type 1} → statement M
+pub ticks_for_spec : {M : Type 1} → statement M
 unfolding ticks_for
-ticks-for-spec =
+ticks_for_spec =
     tie.close
     (tie.spec
     (λ c. rw (eq-eqb _ _ c.if1.true))

@@ -19,8 +19,8 @@ idle-requires c κs = search rules
 switch-off-requires : tie.Need-switch-off-requires
 switch-off-requires c κs = search rules
 
-pub wait-code-spec : {M : Type 1} → statement M
-wait-code-spec =
+pub wait_code_spec : {M : Type 1} → statement M
+wait_code_spec =
     tie.close
     (tie.spec
     idle-requires

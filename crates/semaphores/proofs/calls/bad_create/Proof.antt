@@ -2,8 +2,8 @@ use borrow.Author.Rules.{rules}
 use Rattle.semaphores.proofs.calls.bad_create.Statement.{statement}
 use Rattle.semaphores.proofs.calls.bad_create.Tie as tie
 
-pub bad-create-spec : {M : Type 1} → statement M
-bad-create-spec =
+pub bad_create_spec : {M : Type 1} → statement M
+bad_create_spec =
     tie.close
     (tie.spec
     (λ c κs. search rules)

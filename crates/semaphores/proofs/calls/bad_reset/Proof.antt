@@ -2,8 +2,8 @@ use borrow.Author.Rules.{rules}
 use Rattle.semaphores.proofs.calls.bad_reset.Statement.{statement}
 use Rattle.semaphores.proofs.calls.bad_reset.Tie as tie
 
-pub bad-reset-spec : {M : Type 1} → statement M
-bad-reset-spec =
+pub bad_reset_spec : {M : Type 1} → statement M
+bad_reset_spec =
     tie.close
     (tie.spec
     (λ c κs. search rules)

@@ -55,8 +55,8 @@ bad-create-requires c κs = search rules
 free-semaphore-requires : tie.Need-free-semaphore-requires
 free-semaphore-requires c κs = search rules
 
-pub create-code-spec : {M : Type 1} → statement M
-create-code-spec =
+pub create_code_spec : {M : Type 1} → statement M
+create_code_spec =
     tie.close
     (tie.spec
     code-2

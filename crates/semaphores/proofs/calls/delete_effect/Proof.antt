@@ -12,8 +12,8 @@ returns c =
     let a = at-put-semaphore.before.before.args in
     λ ts ls. objects-is (wait_tables ts ls a.semaphores.now) 0 0 c.accepted.ensures at-put-semaphore.put-semaphore.ensures
 
-pub delete-effect-spec : {M : Type 1} → statement M
-delete-effect-spec =
+pub delete_effect_spec : {M : Type 1} → statement M
+delete_effect_spec =
     tie.close
     (tie.spec
     (λ c κs. search rules)

@@ -19,8 +19,8 @@ refused-requires c κs = search rules
 reset-effect-requires : tie.Need-reset-effect-requires
 reset-effect-requires c κs = search rules
 
-pub reset-spec : {M : Type 1} → statement M
-reset-spec =
+pub reset_spec : {M : Type 1} → statement M
+reset_spec =
     tie.close
     (tie.spec
     reset-code-requires

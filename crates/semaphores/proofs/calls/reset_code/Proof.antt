@@ -81,8 +81,8 @@ bad-reset-requires c κs = search rules
 len-requires : tie.Need-len-requires
 len-requires c κs = search rules
 
-pub reset-code-spec : {M : Type 1} → statement M
-reset-code-spec =
+pub reset_code_spec : {M : Type 1} → statement M
+reset_code_spec =
     tie.close
     (tie.spec
     code-2

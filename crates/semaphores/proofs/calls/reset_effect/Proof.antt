@@ -12,8 +12,8 @@ returns c =
     let a = at-set-semaphore.before.before.args in
     λ ts ls. objects-is (wait_tables ts ls a.semaphores.now) 0 0 c.accepted.ensures at-set-semaphore.set-semaphore.ensures
 
-pub reset-effect-spec : {M : Type 1} → statement M
-reset-effect-spec =
+pub reset_effect_spec : {M : Type 1} → statement M
+reset_effect_spec =
     tie.close
     (tie.spec
     (λ c κs. search rules)

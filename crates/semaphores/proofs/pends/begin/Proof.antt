@@ -35,8 +35,8 @@ move-back-requires c κs = search rules
 move-by-priority-requires : tie.Need-move-by-priority-requires
 move-by-priority-requires c κs = search rules
 
-pub begin-spec : {M : Type 1} → statement M
-begin-spec =
+pub begin_spec : {M : Type 1} → statement M
+begin_spec =
     tie.close
     (tie.spec
     task-requires

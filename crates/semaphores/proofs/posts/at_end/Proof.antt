@@ -2,8 +2,8 @@ use borrow.Author.Rules.{rules}
 use Rattle.semaphores.proofs.posts.at_end.Statement.{statement}
 use Rattle.semaphores.proofs.posts.at_end.Tie as tie
 
-pub at-end-spec : {M : Type 1} → statement M
-at-end-spec =
+pub at_end_spec : {M : Type 1} → statement M
+at_end_spec =
     tie.close
     (tie.spec
     (λ c κs. search rules)

@@ -4,9 +4,9 @@ use borrow.Author.Rules.{rules}
 use Rattle.semaphores.proofs.posts.count_up.Statement.{statement}
 use Rattle.semaphores.proofs.posts.count_up.Tie as tie
 
-pub count-up-spec : {M : Type 1} → statement M
+pub count_up_spec : {M : Type 1} → statement M
 unfolding count_up
-count-up-spec =
+count_up_spec =
     tie.close
     (tie.spec
     (λ c κs. search rules)

@@ -19,8 +19,8 @@ refused-requires c κs = search rules
 post-effect-requires : tie.Need-post-effect-requires
 post-effect-requires c κs = search rules
 
-pub post-spec : {M : Type 1} → statement M
-post-spec =
+pub post_spec : {M : Type 1} → statement M
+post_spec =
     tie.close
     (tie.spec
     post-code-requires

@@ -61,8 +61,8 @@ unused-requires c κs = search rules
 at-end-requires : tie.Need-at-end-requires
 at-end-requires c κs = search rules
 
-pub post-code-spec : {M : Type 1} → statement M
-post-code-spec =
+pub post_code_spec : {M : Type 1} → statement M
+post_code_spec =
     tie.close
     (tie.spec
     semaphore-requires

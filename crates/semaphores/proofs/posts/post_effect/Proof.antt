@@ -47,8 +47,8 @@ set-semaphore-requires c κs = search rules
 accepted-requires : tie.Need-accepted-requires
 accepted-requires c κs = search rules
 
-pub post-effect-spec : {M : Type 1} → statement M
-post-effect-spec =
+pub post_effect_spec : {M : Type 1} → statement M
+post_effect_spec =
     tie.close
     (tie.spec
     len-requires

@@ -38,8 +38,8 @@ mul-semaphores-3 c = search rules
 element-write-semaphores-3 : tie.Need-element-write-semaphores-3
 element-write-semaphores-3 c = search rules
 
-pub put-semaphore-spec : {M : Type 1} → statement M
-put-semaphore-spec =
+pub put_semaphore_spec : {M : Type 1} → statement M
+put_semaphore_spec =
     tie.close
     (tie.spec
     mul_at

@@ -3,8 +3,8 @@ use borrow.Author.Rules.{rules}
 use Rattle.sound.proofs.objects.active_priority.Statement.{statement}
 use Rattle.sound.proofs.objects.active_priority.Tie as tie
 
-pub active-priority-spec : {M : Type 1} → statement M
-active-priority-spec =
+pub active_priority_spec : {M : Type 1} → statement M
+active_priority_spec =
     tie.close
     (tie.spec
     (λ c κs. search rules)

@@ -42,8 +42,8 @@ add-k c = search rules
 loop-less : tie.Need-loop-smaller invariant-loop decreases-loop
 loop-less c = search rules
 
-pub active-rise-spec : {M : Type 1} → statement M
-active-rise-spec =
+pub active_rise_spec : {M : Type 1} → statement M
+active_rise_spec =
     tie.close
     (tie.spec
     invariant-loop

@@ -2,8 +2,8 @@ use borrow.Author.Rules.{rules}
 use Rattle.sound.proofs.objects.active_sound.Statement.{statement}
 use Rattle.sound.proofs.objects.active_sound.Tie as tie
 
-pub active-sound-spec : {M : Type 1} → statement M
-active-sound-spec =
+pub active_sound_spec : {M : Type 1} → statement M
+active_sound_spec =
     tie.close
     (tie.spec
     (λ c κs. search rules)

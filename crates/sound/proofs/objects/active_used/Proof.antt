@@ -37,8 +37,8 @@ add-k c = search rules
 loop-less : tie.Need-loop-smaller invariant-loop decreases-loop
 loop-less c = search rules
 
-pub active-used-spec : {M : Type 1} → statement M
-active-used-spec =
+pub active_used_spec : {M : Type 1} → statement M
+active_used_spec =
     tie.close
     (tie.spec
     invariant-loop

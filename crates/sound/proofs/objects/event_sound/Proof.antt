@@ -34,9 +34,9 @@ task-requires c κs = search rules
 matched-requires : tie.Need-matched-requires
 matched-requires c κs = search rules
 
-pub event-sound-spec : {M : Type 1} → statement M
+pub event_sound_spec : {M : Type 1} → statement M
 unfolding event_rule
-event-sound-spec =
+event_sound_spec =
     tie.close
     (tie.spec
     event-requires

@@ -27,8 +27,8 @@ add-e c = search rules
 loop-less : tie.Need-loop-smaller invariant-loop decreases-loop
 loop-less c = search rules
 
-pub events-sound-spec : {M : Type 1} → statement M
-events-sound-spec =
+pub events_sound_spec : {M : Type 1} → statement M
+events_sound_spec =
     tie.close
     (tie.spec
     invariant-loop

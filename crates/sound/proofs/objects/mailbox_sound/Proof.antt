@@ -29,9 +29,9 @@ add-waiters-sound c = search rules
 waiters-sound-requires : tie.Need-waiters-sound-requires
 waiters-sound-requires c κs = search rules
 
-pub mailbox-sound-spec : {M : Type 1} → statement M
+pub mailbox_sound_spec : {M : Type 1} → statement M
 unfolding mailbox_rule
-mailbox-sound-spec =
+mailbox_sound_spec =
     tie.close
     (tie.spec
     mailbox-requires

@@ -27,8 +27,8 @@ add-m c = search rules
 loop-less : tie.Need-loop-smaller invariant-loop decreases-loop
 loop-less c = search rules
 
-pub mailboxes-sound-spec : {M : Type 1} → statement M
-mailboxes-sound-spec =
+pub mailboxes_sound_spec : {M : Type 1} → statement M
+mailboxes_sound_spec =
     tie.close
     (tie.spec
     invariant-loop

@@ -22,9 +22,9 @@ len-requires c κs = search rules
 most-requires : tie.Need-most-requires
 most-requires c κs = search rules
 
-pub semaphore-sound-spec : {M : Type 1} → statement M
+pub semaphore_sound_spec : {M : Type 1} → statement M
 unfolding semaphore_rule
-semaphore-sound-spec =
+semaphore_sound_spec =
     tie.close
     (tie.spec
     semaphore-requires

@@ -26,8 +26,8 @@ add-s c = search rules
 loop-less : tie.Need-loop-smaller invariant-loop decreases-loop
 loop-less c = search rules
 
-pub semaphores-sound-spec : {M : Type 1} → statement M
-semaphores-sound-spec =
+pub semaphores_sound_spec : {M : Type 1} → statement M
+semaphores_sound_spec =
     tie.close
     (tie.spec
     invariant-loop

@@ -27,9 +27,9 @@ swi-requires-6 c κs = search rules
 times-requires : tie.Need-times-requires
 times-requires c κs = search rules
 
-pub swi-sound-spec : {M : Type 1} → statement M
+pub swi_sound_spec : {M : Type 1} → statement M
 unfolding swi_rule
-swi-sound-spec =
+swi_sound_spec =
     tie.close
     (tie.spec
     swi-requires

@@ -26,8 +26,8 @@ add-i c = search rules
 loop-less : tie.Need-loop-smaller invariant-loop decreases-loop
 loop-less c = search rules
 
-pub swis-sound-spec : {M : Type 1} → statement M
-swis-sound-spec =
+pub swis_sound_spec : {M : Type 1} → statement M
+swis_sound_spec =
     tie.close
     (tie.spec
     invariant-loop

@@ -42,8 +42,8 @@ add-k c = search rules
 loop-less : tie.Need-loop-smaller invariant-loop decreases-loop
 loop-less c = search rules
 
-pub waiters-sound-spec : {M : Type 1} → statement M
-waiters-sound-spec =
+pub waiters_sound_spec : {M : Type 1} → statement M
+waiters_sound_spec =
     tie.close
     (tie.spec
     invariant-loop

@@ -4,9 +4,9 @@ use borrow.Author.Rules.{rules}
 use Rattle.sound.proofs.records.clock_sound.Statement.{statement}
 use Rattle.sound.proofs.records.clock_sound.Tie as tie
 
-pub clock-sound-spec : {M : Type 1} → statement M
+pub clock_sound_spec : {M : Type 1} → statement M
 unfolding clock_rule
-clock-sound-spec =
+clock_sound_spec =
     tie.close
     (tie.spec
     (λ c. search rules)

@@ -37,8 +37,8 @@ add-k c = search rules
 loop-less : tie.Need-loop-smaller invariant-loop decreases-loop
 loop-less c = search rules
 
-pub at-home-spec : {M : Type 1} → statement M
-at-home-spec =
+pub at_home_spec : {M : Type 1} → statement M
+at_home_spec =
     tie.close
     (tie.spec
     invariant-loop

@@ -2,8 +2,8 @@ use borrow.Author.Rules.{rules}
 use Rattle.sound.proofs.standing.home_in.Statement.{statement}
 use Rattle.sound.proofs.standing.home_in.Tie as tie
 
-pub home-in-spec : {M : Type 1} → statement M
-home-in-spec =
+pub home_in_spec : {M : Type 1} → statement M
+home_in_spec =
     tie.close
     (tie.spec
     (λ c κs. search rules)

@@ -14,8 +14,8 @@ element-copy-out-n c = search rules
 zeros-behind-requires : tie.Need-zeros-behind-requires
 zeros-behind-requires c κs = search rules
 
-pub line-sound-spec : {M : Type 1} → statement M
-line-sound-spec =
+pub line_sound_spec : {M : Type 1} → statement M
+line_sound_spec =
     tie.close
     (tie.spec
     mul-n

@@ -30,8 +30,8 @@ add-j c = search rules
 loop-less : tie.Need-loop-smaller invariant-loop decreases-loop
 loop-less c = search rules
 
-pub lines-sound-spec : {M : Type 1} → statement M
-lines-sound-spec =
+pub lines_sound_spec : {M : Type 1} → statement M
+lines_sound_spec =
     tie.close
     (tie.spec
     invariant-loop

@@ -28,8 +28,8 @@ add-j c = search rules
 loop-less : tie.Need-loop-smaller invariant-loop decreases-loop
 loop-less c = search rules
 
-pub members-sound-spec : {M : Type 1} → statement M
-members-sound-spec =
+pub members_sound_spec : {M : Type 1} → statement M
+members_sound_spec =
     tie.close
     (tie.spec
     invariant-loop

@@ -2,8 +2,8 @@ use borrow.Author.Rules.{rules}
 use Rattle.sound.proofs.standing.stands_once.Statement.{statement}
 use Rattle.sound.proofs.standing.stands_once.Tie as tie
 
-pub stands-once-spec : {M : Type 1} → statement M
-stands-once-spec =
+pub stands_once_spec : {M : Type 1} → statement M
+stands_once_spec =
     tie.close
     (tie.spec
     (λ c κs. search rules)

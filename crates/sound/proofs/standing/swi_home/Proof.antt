@@ -19,9 +19,9 @@ cast-result c = search rules
 add-result : tie.Need-overflow-add-result
 add-result c = search rules
 
-pub swi-home-spec : {M : Type 1} → statement M
+pub swi_home_spec : {M : Type 1} → statement M
 unfolding swi_home
-swi-home-spec =
+swi_home_spec =
     tie.close
     (tie.spec
     swi-requires

@@ -31,8 +31,8 @@ add-i c = search rules
 loop-less : tie.Need-loop-smaller invariant-loop decreases-loop
 loop-less c = search rules
 
-pub swi-once-spec : {M : Type 1} → statement M
-swi-once-spec =
+pub swi_once_spec : {M : Type 1} → statement M
+swi_once_spec =
     tie.close
     (tie.spec
     invariant-loop

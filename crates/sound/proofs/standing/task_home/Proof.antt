@@ -3,8 +3,8 @@ use borrow.Author.Rules.{rules}
 use Rattle.sound.proofs.standing.task_home.Statement.{statement}
 use Rattle.sound.proofs.standing.task_home.Tie as tie
 
-pub task-home-spec : {M : Type 1} → statement M
-task-home-spec =
+pub task_home_spec : {M : Type 1} → statement M
+task_home_spec =
     tie.close
     (tie.spec
     (λ c κs. search rules)

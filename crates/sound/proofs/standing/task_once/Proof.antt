@@ -31,8 +31,8 @@ add-i c = search rules
 loop-less : tie.Need-loop-smaller invariant-loop decreases-loop
 loop-less c = search rules
 
-pub task-once-spec : {M : Type 1} → statement M
-task-once-spec =
+pub task_once_spec : {M : Type 1} → statement M
+task_once_spec =
     tie.close
     (tie.spec
     invariant-loop

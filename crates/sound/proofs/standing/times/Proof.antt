@@ -36,8 +36,8 @@ add-k c = search rules
 loop-less : tie.Need-loop-smaller invariant-loop decreases-loop
 loop-less c = search rules
 
-pub times-spec : {M : Type 1} → statement M
-times-spec =
+pub times_spec : {M : Type 1} → statement M
+times_spec =
     tie.close
     (tie.spec
     invariant-loop

@@ -42,8 +42,8 @@ add-k c = search rules
 loop-less : tie.Need-loop-smaller invariant-loop decreases-loop
 loop-less c = search rules
 
-pub zeros-behind-spec : {M : Type 1} → statement M
-zeros-behind-spec =
+pub zeros_behind_spec : {M : Type 1} → statement M
+zeros_behind_spec =
     tie.close
     (tie.spec
     invariant-loop

@@ -74,8 +74,8 @@ unused-requires c κs = search rules
 free-swi-requires : tie.Need-free-swi-requires
 free-swi-requires c κs = search rules
 
-pub create-code-spec : {M : Type 1} → statement M
-create-code-spec =
+pub create_code_spec : {M : Type 1} → statement M
+create_code_spec =
     tie.close
     (tie.spec
     code-2

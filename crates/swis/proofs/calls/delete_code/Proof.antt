@@ -73,8 +73,8 @@ unused-requires c κs = search rules
 is-held-requires : tie.Need-is-held-requires
 is-held-requires c κs = search rules
 
-pub delete-code-spec : {M : Type 1} → statement M
-delete-code-spec =
+pub delete_code_spec : {M : Type 1} → statement M
+delete_code_spec =
     tie.close
     (tie.spec
     code-2

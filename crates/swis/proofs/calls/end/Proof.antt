@@ -19,8 +19,8 @@ refused-requires c κs = search rules
 end-effect-requires : tie.Need-end-effect-requires
 end-effect-requires c κs = search rules
 
-pub end-spec : {M : Type 1} → statement M
-end-spec =
+pub end_spec : {M : Type 1} → statement M
+end_spec =
     tie.close
     (tie.spec
     end-code-requires

@@ -49,8 +49,8 @@ unused-requires c κs = search rules
 element-copy-out-if3 : tie.Need-element-copy-out-if3
 element-copy-out-if3 c = search rules
 
-pub end-code-spec : {M : Type 1} → statement M
-end-code-spec =
+pub end_code_spec : {M : Type 1} → statement M
+end_code_spec =
     tie.close
     (tie.spec
     code-2

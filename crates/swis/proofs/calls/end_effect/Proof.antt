@@ -29,8 +29,8 @@ leave-requires c κs = search rules
 accepted-requires : tie.Need-accepted-requires
 accepted-requires c κs = search rules
 
-pub end-effect-spec : {M : Type 1} → statement M
-end-effect-spec =
+pub end_effect_spec : {M : Type 1} → statement M
+end_effect_spec =
     tie.close
     (tie.spec
     top-requires

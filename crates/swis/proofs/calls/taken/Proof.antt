@@ -13,8 +13,8 @@ refused-requires c κs = search rules
 taken-effect-requires : tie.Need-taken-effect-requires
 taken-effect-requires c κs = search rules
 
-pub taken-spec : {M : Type 1} → statement M
-taken-spec =
+pub taken_spec : {M : Type 1} → statement M
+taken_spec =
     tie.close
     (tie.spec
     taken-code-requires

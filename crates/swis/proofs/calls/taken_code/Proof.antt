@@ -30,8 +30,8 @@ accepted c =
     let past = c.before.before in
     rw (may-call past, sym c.before.unused.ensures ∙ c.if2.false)
 
-pub taken-code-spec : {M : Type 1} → statement M
-taken-code-spec =
+pub taken_code_spec : {M : Type 1} → statement M
+taken_code_spec =
     tie.close
     (tie.spec
     code-2

@@ -25,8 +25,8 @@ swi-requires c κs = search rules
 accepted-requires : tie.Need-accepted-requires
 accepted-requires c κs = search rules
 
-pub taken-effect-spec : {M : Type 1} → statement M
-taken-effect-spec =
+pub taken_effect_spec : {M : Type 1} → statement M
+taken_effect_spec =
     tie.close
     (tie.spec
     top-requires

@@ -11,8 +11,8 @@ returns c =
     let at-set-swi = at-post-swi.before.before.before in
     leaves c.accepted.ensures (rw at-set-swi.set-swi.ensures at at-post-swi.post-swi.ensures)
 
-pub change-effect-spec : {M : Type 1} → statement M
-change-effect-spec =
+pub change_effect_spec : {M : Type 1} → statement M
+change_effect_spec =
     tie.close
     (tie.spec
     (λ c κs. search rules)

@@ -27,8 +27,8 @@ swi-requires c κs = search rules
 zero-effect-requires : tie.Need-zero-effect-requires
 zero-effect-requires c κs = search rules
 
-pub clear-bits-spec : {M : Type 1} → statement M
-clear-bits-spec =
+pub clear_bits_spec : {M : Type 1} → statement M
+clear_bits_spec =
     tie.close
     (tie.spec
     mask-code-requires

@@ -3,9 +3,9 @@ use Rattle.std.proofs.Common.{rules}
 use Rattle.swis.proofs.posts.mask_code.Statement.{statement}
 use Rattle.swis.proofs.posts.mask_code.Tie as tie
 
-pub mask-code-spec : {M : Type 1} → statement M
+pub mask_code_spec : {M : Type 1} → statement M
 unfolding post_cases mask_cases
-mask-code-spec =
+mask_code_spec =
     tie.close
     (tie.spec
     (λ c κs. search rules)

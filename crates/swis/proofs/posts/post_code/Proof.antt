@@ -43,8 +43,8 @@ absent-code-requires c κs = search rules
 unused-requires : tie.Need-unused-requires
 unused-requires c κs = search rules
 
-pub post-code-spec : {M : Type 1} → statement M
-post-code-spec =
+pub post_code_spec : {M : Type 1} → statement M
+post_code_spec =
     tie.close
     (tie.spec
     swi-requires

@@ -4,9 +4,9 @@ use Rattle.std.proofs.Common.{rules}
 use Rattle.swis.proofs.posts.post_effect.Statement.{statement}
 use Rattle.swis.proofs.posts.post_effect.Tie as tie
 
-pub post-effect-spec : {M : Type 1} → statement M
+pub post_effect_spec : {M : Type 1} → statement M
 unfolding post_effect
-post-effect-spec =
+post_effect_spec =
     tie.close
     (tie.spec
     (λ c κs. search rules)

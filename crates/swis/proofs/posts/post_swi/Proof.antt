@@ -44,8 +44,8 @@ cast-join c = search rules
 join-requires : tie.Need-join-requires
 join-requires c κs = search rules
 
-pub post-swi-spec : {M : Type 1} → statement M
-post-swi-spec =
+pub post_swi_spec : {M : Type 1} → statement M
+post_swi_spec =
     tie.close
     (tie.spec
     swi-requires

@@ -27,8 +27,8 @@ swi-requires c κs = search rules
 change-effect-requires : tie.Need-change-effect-requires
 change-effect-requires c κs = search rules
 
-pub set-bits-spec : {M : Type 1} → statement M
-set-bits-spec =
+pub set_bits_spec : {M : Type 1} → statement M
+set_bits_spec =
     tie.close
     (tie.spec
     mask-code-requires

@@ -25,8 +25,8 @@ set-swi-requires c κs = search rules
 accepted-requires : tie.Need-accepted-requires
 accepted-requires c κs = search rules
 
-pub zero-effect-spec : {M : Type 1} → statement M
-zero-effect-spec =
+pub zero_effect_spec : {M : Type 1} → statement M
+zero_effect_spec =
     tie.close
     (tie.spec
     change-effect-requires

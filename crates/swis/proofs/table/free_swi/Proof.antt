@@ -39,9 +39,9 @@ add-i c = search rules
 loop-less : tie.Need-loop-smaller invariant-loop decreases-loop
 loop-less c = search rules
 
-pub free-swi-spec : {M : Type 1} → statement M
+pub free_swi_spec : {M : Type 1} → statement M
 unfolding free_swi
-free-swi-spec =
+free_swi_spec =
     tie.close
     (tie.spec
     invariant-loop

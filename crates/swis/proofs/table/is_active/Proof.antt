@@ -62,9 +62,9 @@ add-k c = search rules
 loop-less : tie.Need-loop-smaller invariant-loop decreases-loop
 loop-less c = search rules
 
-pub is-active-spec : {M : Type 1} → statement M
+pub is_active_spec : {M : Type 1} → statement M
 unfolding count
-is-active-spec =
+is_active_spec =
     tie.close
     (tie.spec
     invariant-loop

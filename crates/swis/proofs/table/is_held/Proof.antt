@@ -2,8 +2,8 @@ use Rattle.std.proofs.Common.{rules}
 use Rattle.swis.proofs.table.is_held.Statement.{statement}
 use Rattle.swis.proofs.table.is_held.Tie as tie
 
-pub is-held-spec : {M : Type 1} → statement M
-is-held-spec =
+pub is_held_spec : {M : Type 1} → statement M
+is_held_spec =
     tie.close
     (tie.spec
     (λ c κs. search rules)

@@ -48,9 +48,9 @@ add-n c = search rules
 loop-less : tie.Need-loop-smaller invariant-loop decreases-loop
 loop-less c = search rules
 
-pub is-named-spec : {M : Type 1} → statement M
+pub is_named_spec : {M : Type 1} → statement M
 unfolding is_named
-is-named-spec =
+is_named_spec =
     tie.close
     (tie.spec
     invariant-loop

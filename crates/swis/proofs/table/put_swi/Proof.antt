@@ -64,8 +64,8 @@ mul-swis-6 c = search rules
 element-write-swis-6 : tie.Need-element-write-swis-6
 element-write-swis-6 c = search rules
 
-pub put-swi-spec : {M : Type 1} → statement M
-put-swi-spec =
+pub put_swi_spec : {M : Type 1} → statement M
+put_swi_spec =
     tie.close
     (tie.spec
     mul_at

@@ -3,5 +3,5 @@ use Rattle.std.proofs.Common.{refl}
 use Rattle.switches.proofs.state.bad_key.Statement.{statement}
 use Rattle.switches.proofs.state.bad_key.Tie as tie
 
-pub bad-key-spec : {M : Type 1} → statement M
-bad-key-spec = tie.close (tie.spec (λ c. refl))
+pub bad_key_spec : {M : Type 1} → statement M
+bad_key_spec = tie.close (tie.spec (λ c. refl))

@@ -3,5 +3,5 @@ use Rattle.std.proofs.Common.{refl}
 use Rattle.switches.proofs.state.bad_which.Statement.{statement}
 use Rattle.switches.proofs.state.bad_which.Tie as tie
 
-pub bad-which-spec : {M : Type 1} → statement M
-bad-which-spec = tie.close (tie.spec (λ c. refl))
+pub bad_which_spec : {M : Type 1} → statement M
+bad_which_spec = tie.close (tie.spec (λ c. refl))

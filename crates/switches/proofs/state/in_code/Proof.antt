@@ -37,8 +37,8 @@ unused-requires c κs = search rules
 element-copy-out-if2 : tie.Need-element-copy-out-if2
 element-copy-out-if2 c = search rules
 
-pub in-code-spec : {M : Type 1} → statement M
-in-code-spec =
+pub in_code_spec : {M : Type 1} → statement M
+in_code_spec =
     tie.close
     (tie.spec
     unused-requires

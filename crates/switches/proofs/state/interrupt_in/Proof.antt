@@ -41,8 +41,8 @@ accepted-requires c κs = search rules
 accepted-requires-2 : tie.Need-accepted-requires-2
 accepted-requires-2 c κs = search rules
 
-pub interrupt-in-spec : {M : Type 1} → statement M
-interrupt-in-spec =
+pub interrupt_in_spec : {M : Type 1} → statement M
+interrupt_in_spec =
     tie.close
     (tie.spec
     in-code-requires

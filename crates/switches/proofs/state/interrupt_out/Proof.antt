@@ -31,8 +31,8 @@ element-write-state c = search rules
 accepted-requires : tie.Need-accepted-requires
 accepted-requires c κs = search rules
 
-pub interrupt-out-spec : {M : Type 1} → statement M
-interrupt-out-spec =
+pub interrupt_out_spec : {M : Type 1} → statement M
+interrupt_out_spec =
     tie.close
     (tie.spec
     interrupt-code-requires

@@ -45,8 +45,8 @@ turn-requires c κs = search rules
 accepted-requires : tie.Need-accepted-requires
 accepted-requires c κs = search rules
 
-pub off-spec : {M : Type 1} → statement M
-off-spec =
+pub off_spec : {M : Type 1} → statement M
+off_spec =
     tie.close
     (tie.spec
     off-code-requires

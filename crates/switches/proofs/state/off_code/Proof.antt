@@ -37,8 +37,8 @@ bad-which-requires c κs = search rules
 unused-requires : tie.Need-unused-requires
 unused-requires c κs = search rules
 
-pub off-code-spec : {M : Type 1} → statement M
-off-code-spec =
+pub off_code_spec : {M : Type 1} → statement M
+off_code_spec =
     tie.close
     (tie.spec
     may-not-name-requires

@@ -42,8 +42,8 @@ turn-requires c κs = search rules
 accepted-requires : tie.Need-accepted-requires
 accepted-requires c κs = search rules
 
-pub restore-spec : {M : Type 1} → statement M
-restore-spec =
+pub restore_spec : {M : Type 1} → statement M
+restore_spec =
     tie.close
     (tie.spec
     restore-code-requires

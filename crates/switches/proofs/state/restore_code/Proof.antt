@@ -42,8 +42,8 @@ bad-key-requires c κs = search rules
 unused-requires : tie.Need-unused-requires
 unused-requires c κs = search rules
 
-pub restore-code-spec : {M : Type 1} → statement M
-restore-code-spec =
+pub restore_code_spec : {M : Type 1} → statement M
+restore_code_spec =
     tie.close
     (tie.spec
     may-not-name-requires

@@ -22,8 +22,8 @@ element-copy-out-setting-2 c = search rules
 setting-requires-2 : tie.Need-setting-requires-2
 setting-requires-2 c κs = search rules
 
-pub settings-spec : {M : Type 1} → statement M
-settings-spec =
+pub settings_spec : {M : Type 1} → statement M
+settings_spec =
     tie.close
     (tie.spec
     element-copy-out-setting

@@ -33,8 +33,8 @@ set-clock-requires c κs = search rules
 post-if-requires : tie.Need-post-if-requires
 post-if-requires c κs = search rules
 
-pub clock-tick-spec : {M : Type 1} → statement M
-clock-tick-spec =
+pub clock_tick_spec : {M : Type 1} → statement M
+clock_tick_spec =
     tie.close
     (tie.spec
     clock-requires

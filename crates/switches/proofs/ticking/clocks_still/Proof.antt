@@ -41,9 +41,9 @@ add-n c = search rules
 loop-less : tie.Need-loop-smaller invariant-loop decreases-loop
 loop-less c = search rules
 
-pub clocks-still-spec : {M : Type 1} → statement M
+pub clocks_still_spec : {M : Type 1} → statement M
 unfolding clock
-clocks-still-spec =
+clocks_still_spec =
     tie.close
     (tie.spec
     invariant-loop

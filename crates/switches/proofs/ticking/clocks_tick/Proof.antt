@@ -55,8 +55,8 @@ add-n c = search rules
 loop-less : tie.Need-loop-smaller invariant-loop decreases-loop
 loop-less c = search rules
 
-pub clocks-tick-spec : {M : Type 1} → statement M
-clocks-tick-spec =
+pub clocks_tick_spec : {M : Type 1} → statement M
+clocks_tick_spec =
     tie.close
     (tie.spec
     invariant-loop

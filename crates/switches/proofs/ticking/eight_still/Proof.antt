@@ -47,9 +47,9 @@ add-k c = search rules
 loop-less : tie.Need-loop-smaller invariant-loop decreases-loop
 loop-less c = search rules
 
-pub eight-still-spec : {M : Type 1} → statement M
+pub eight_still_spec : {M : Type 1} → statement M
 unfolding task
-eight-still-spec =
+eight_still_spec =
     tie.close
     (tie.spec
     invariant-loop

@@ -68,8 +68,8 @@ add-k c = search rules
 loop-less : tie.Need-loop-smaller invariant-loop decreases-loop
 loop-less c = search rules
 
-pub eight-tick-spec : {M : Type 1} → statement M
-eight-tick-spec =
+pub eight_tick_spec : {M : Type 1} → statement M
+eight_tick_spec =
     tie.close
     (tie.spec
     invariant-loop

@@ -5,8 +5,8 @@ use Rattle.switches.proofs.ticking.post_if.Tie as tie
 returns : tie.Need-returns
 returns c = let at_test = c.before.before.before in rw at_test.if1.true c.post-swi.ensures
 
-pub post-if-spec : {M : Type 1} → statement M
-post-if-spec =
+pub post_if_spec : {M : Type 1} → statement M
+post_if_spec =
     tie.close
     (tie.spec
     (λ c κs. search rules)

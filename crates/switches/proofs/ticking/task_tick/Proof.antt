@@ -50,8 +50,8 @@ one-less-requires c κs = search rules
 set-task-requires : tie.Need-set-task-requires
 set-task-requires c κs = search rules
 
-pub task-tick-spec : {M : Type 1} → statement M
-task-tick-spec =
+pub task_tick_spec : {M : Type 1} → statement M
+task_tick_spec =
     tie.close
     (tie.spec
     task-word-requires

@@ -39,8 +39,8 @@ add-g c = search rules
 loop-less : tie.Need-loop-smaller invariant-loop decreases-loop
 loop-less c = search rules
 
-pub tasks-tick-spec : {M : Type 1} → statement M
-tasks-tick-spec =
+pub tasks_tick_spec : {M : Type 1} → statement M
+tasks_tick_spec =
     tie.close
     (tie.spec
     invariant-loop

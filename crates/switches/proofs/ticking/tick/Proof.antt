@@ -28,8 +28,8 @@ clocks-tick-requires c κs = search rules
 tasks-tick-requires : tie.Need-tasks-tick-requires
 tasks-tick-requires c κs = search rules
 
-pub tick-spec : {M : Type 1} → statement M
-tick-spec =
+pub tick_spec : {M : Type 1} → statement M
+tick_spec =
     tie.close
     (tie.spec
     element-copy-out-wrapping-add-u32

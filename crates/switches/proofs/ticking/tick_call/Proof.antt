@@ -26,8 +26,8 @@ tick-requires c κs = search rules
 accepted-requires : tie.Need-accepted-requires
 accepted-requires c κs = search rules
 
-pub tick-call-spec : {M : Type 1} → statement M
-tick-call-spec =
+pub tick_call_spec : {M : Type 1} → statement M
+tick_call_spec =
     tie.close
     (tie.spec
     interrupt-code-requires

@@ -67,8 +67,8 @@ unused-requires c κs = search rules
 free-task-requires : tie.Need-free-task-requires
 free-task-requires c κs = search rules
 
-pub create-code-spec : {M : Type 1} → statement M
-create-code-spec =
+pub create_code_spec : {M : Type 1} → statement M
+create_code_spec =
     tie.close
     (tie.spec
     code-2

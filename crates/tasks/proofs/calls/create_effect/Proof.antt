@@ -33,8 +33,8 @@ move-back-requires c κs = search rules
 accepted-requires : tie.Need-accepted-requires
 accepted-requires c κs = search rules
 
-pub create-effect-spec : {M : Type 1} → statement M
-create-effect-spec =
+pub create_effect_spec : {M : Type 1} → statement M
+create_effect_spec =
     tie.close
     (tie.spec
     free-task-requires

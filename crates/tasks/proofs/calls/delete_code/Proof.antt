@@ -74,8 +74,8 @@ absent-code-requires c κs = search rules
 unused-requires : tie.Need-unused-requires
 unused-requires c κs = search rules
 
-pub delete-code-spec : {M : Type 1} → statement M
-delete-code-spec =
+pub delete_code_spec : {M : Type 1} → statement M
+delete_code_spec =
     tie.close
     (tie.spec
     code-2

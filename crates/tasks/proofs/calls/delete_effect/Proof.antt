@@ -10,8 +10,8 @@ returns c =
     let args = at-no-task.before.before.args in
     λ ls. deleted args.tasks.now ls args.a at-no-task.no-task.ensures at-set-task.set-task.ensures c.accepted.ensures
 
-pub delete-effect-spec : {M : Type 1} → statement M
-delete-effect-spec =
+pub delete_effect_spec : {M : Type 1} → statement M
+delete_effect_spec =
     tie.close
     (tie.spec
     (λ c κs. search rules)

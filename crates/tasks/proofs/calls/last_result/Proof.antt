@@ -36,8 +36,8 @@ task-requires c κs = search rules
 accepted-requires : tie.Need-accepted-requires
 accepted-requires c κs = search rules
 
-pub last-result-spec : {M : Type 1} → statement M
-last-result-spec =
+pub last_result_spec : {M : Type 1} → statement M
+last_result_spec =
     tie.close
     (tie.spec
     last-result-code-requires

@@ -47,8 +47,8 @@ absent-code-requires c κs = search rules
 unused-requires : tie.Need-unused-requires
 unused-requires c κs = search rules
 
-pub last-result-code-spec : {M : Type 1} → statement M
-last-result-code-spec =
+pub last_result_code_spec : {M : Type 1} → statement M
+last_result_code_spec =
     tie.close
     (tie.spec
     task-word-requires

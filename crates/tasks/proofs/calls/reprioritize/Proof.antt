@@ -51,8 +51,8 @@ placed-at-requires c κs = search rules
 move-back-requires : tie.Need-move-back-requires
 move-back-requires c κs = search rules
 
-pub reprioritize-spec : {M : Type 1} → statement M
-reprioritize-spec =
+pub reprioritize_spec : {M : Type 1} → statement M
+reprioritize_spec =
     tie.close
     (tie.spec
     task-requires

@@ -19,8 +19,8 @@ refused-requires c κs = search rules
 set-priority-effect-requires : tie.Need-set-priority-effect-requires
 set-priority-effect-requires c κs = search rules
 
-pub set-priority-spec : {M : Type 1} → statement M
-set-priority-spec =
+pub set_priority_spec : {M : Type 1} → statement M
+set_priority_spec =
     tie.close
     (tie.spec
     set-priority-code-requires

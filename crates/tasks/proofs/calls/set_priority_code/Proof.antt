@@ -130,8 +130,8 @@ current-requires c κs = search rules
 blocked-requires : tie.Need-blocked-requires
 blocked-requires c κs = search rules
 
-pub set-priority-code-spec : {M : Type 1} → statement M
-set-priority-code-spec =
+pub set_priority_code_spec : {M : Type 1} → statement M
+set_priority_code_spec =
     tie.close
     (tie.spec
     code-2

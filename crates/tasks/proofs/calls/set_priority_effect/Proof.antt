@@ -11,8 +11,8 @@ returns c =
     priority-set args.tasks.now args.lines.now args.a args.b at-task-word.task-word.ensures at-reprioritize.reprioritize.ensures
     c.accepted.ensures
 
-pub set-priority-effect-spec : {M : Type 1} → statement M
-set-priority-effect-spec =
+pub set_priority_effect_spec : {M : Type 1} → statement M
+set_priority_effect_spec =
     tie.close
     (tie.spec
     (λ c κs. search rules)

@@ -46,8 +46,8 @@ unused-requires c κs = search rules
 wait-code-requires : tie.Need-wait-code-requires
 wait-code-requires c κs = search rules
 
-pub end-code-spec : {M : Type 1} → statement M
-end-code-spec =
+pub end_code_spec : {M : Type 1} → statement M
+end_code_spec =
     tie.close
     (tie.spec
     code-2

@@ -35,8 +35,8 @@ move-back-requires c κs = search rules
 accepted-requires : tie.Need-accepted-requires
 accepted-requires c κs = search rules
 
-pub end-effect-spec : {M : Type 1} → statement M
-end-effect-spec =
+pub end_effect_spec : {M : Type 1} → statement M
+end_effect_spec =
     tie.close
     (tie.spec
     current-requires

@@ -19,8 +19,8 @@ refused-requires c κs = search rules
 sleep-effect-requires : tie.Need-sleep-effect-requires
 sleep-effect-requires c κs = search rules
 
-pub sleep-spec : {M : Type 1} → statement M
-sleep-spec =
+pub sleep_spec : {M : Type 1} → statement M
+sleep_spec =
     tie.close
     (tie.spec
     sleep-code-requires

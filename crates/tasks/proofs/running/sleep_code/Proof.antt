@@ -48,8 +48,8 @@ unused-requires c κs = search rules
 wait-code-requires : tie.Need-wait-code-requires
 wait-code-requires c κs = search rules
 
-pub sleep-code-spec : {M : Type 1} → statement M
-sleep-code-spec =
+pub sleep_code_spec : {M : Type 1} → statement M
+sleep_code_spec =
     tie.close
     (tie.spec
     code-2

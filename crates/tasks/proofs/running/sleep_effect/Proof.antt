@@ -34,9 +34,9 @@ wait-requires c κs = search rules
 accepted-requires-2 : tie.Need-accepted-requires-2
 accepted-requires-2 c κs = search rules
 
-pub sleep-effect-spec : {M : Type 1} → statement M
+pub sleep_effect_spec : {M : Type 1} → statement M
 unfolding sleep_effect
-sleep-effect-spec =
+sleep_effect_spec =
     tie.close
     (tie.spec
     accepted-requires

@@ -52,8 +52,8 @@ unused-requires c κs = search rules
 switch-off-requires : tie.Need-switch-off-requires
 switch-off-requires c κs = search rules
 
-pub yield-code-spec : {M : Type 1} → statement M
-yield-code-spec =
+pub yield_code_spec : {M : Type 1} → statement M
+yield_code_spec =
     tie.close
     (tie.spec
     code-2

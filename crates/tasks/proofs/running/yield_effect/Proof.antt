@@ -33,8 +33,8 @@ move-back-requires c κs = search rules
 accepted-requires : tie.Need-accepted-requires
 accepted-requires c κs = search rules
 
-pub yield-effect-spec : {M : Type 1} → statement M
-yield-effect-spec =
+pub yield_effect_spec : {M : Type 1} → statement M
+yield_effect_spec =
     tie.close
     (tie.spec
     current-requires

@@ -19,8 +19,8 @@ refused-requires c κs = search rules
 yield-effect-requires : tie.Need-yield-effect-requires
 yield-effect-requires c κs = search rules
 
-pub yield-task-spec : {M : Type 1} → statement M
-yield-task-spec =
+pub yield_task_spec : {M : Type 1} → statement M
+yield_task_spec =
     tie.close
     (tie.spec
     yield-code-requires

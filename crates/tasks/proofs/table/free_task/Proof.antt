@@ -48,9 +48,9 @@ add-i c = search rules
 loop-less : tie.Need-loop-smaller invariant-loop decreases-loop
 loop-less c = search rules
 
-pub free-task-spec : {M : Type 1} → statement M
+pub free_task_spec : {M : Type 1} → statement M
 unfolding free_task task
-free-task-spec =
+free_task_spec =
     tie.close
     (tie.spec
     invariant-loop

@@ -3,9 +3,9 @@ use Rattle.rules.specs.Tasks.{is_priority}
 use Rattle.tasks.proofs.table.is_priority.Statement.{statement}
 use Rattle.tasks.proofs.table.is_priority.Tie as tie
 
-pub is-priority-spec : {M : Type 1} → statement M
+pub is_priority_spec : {M : Type 1} → statement M
 unfolding is_priority
-is-priority-spec =
+is_priority_spec =
     tie.close
     (tie.spec
     (λ c. refl))

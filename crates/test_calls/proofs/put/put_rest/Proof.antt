@@ -3,8 +3,8 @@ use borrow.Author.Rules.{rules}
 use Rattle.test_calls.proofs.put.put_rest.Statement.{statement}
 use Rattle.test_calls.proofs.put.put_rest.Tie as tie
 
-pub put-rest-spec : {M : Type 1} → statement M
-put-rest-spec =
+pub put_rest_spec : {M : Type 1} → statement M
+put_rest_spec =
     tie.close
     (tie.spec
     (λ c κs. search rules)

@@ -37,8 +37,8 @@ returns c =
     by-thread-of.same-thread3.ensures
     c.same_tables.ensures
 
-pub agrees-spec : {M : Type 1} → statement M
-agrees-spec =
+pub agrees_spec : {M : Type 1} → statement M
+agrees_spec =
     tie.close
     (tie.spec
     same-answer-requires

@@ -10,5 +10,5 @@ returns c =
     let in_place = compared.before in
     both_ways _ _ _ in_place.before.call.ensures in_place.call2.ensures compared.agrees.ensures
 
-pub try-call-spec : {M : Type 1} → statement M
-try-call-spec = tie.close (tie.spec (λ c κs. search rules) (λ c κs. search rules) (λ c κs. search rules) returns)
+pub try_call_spec : {M : Type 1} → statement M
+try_call_spec = tie.close (tie.spec (λ c κs. search rules) (λ c κs. search rules) (λ c κs. search rules) returns)

@@ -69,8 +69,8 @@ print-last-requires c κs = search rules
 returns : tie.Need-returns invariant-loop decreases-loop
 returns c = search rules
 
-pub try-records-spec : {M : Type 1} → statement M
-try-records-spec =
+pub try_records_spec : {M : Type 1} → statement M
+try_records_spec =
     tie.close
     (tie.spec
     invariant-loop

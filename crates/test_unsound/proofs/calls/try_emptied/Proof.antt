@@ -36,8 +36,8 @@ loop-again c = search rules
 returns : tie.Need-returns invariant-loop decreases-loop
 returns c = search rules
 
-pub try-emptied-spec : {M : Type 1} → statement M
-try-emptied-spec =
+pub try_emptied_spec : {M : Type 1} → statement M
+try_emptied_spec =
     tie.close
     (tie.spec
     invariant-loop

@@ -36,8 +36,8 @@ loop-again c = search rules
 returns : tie.Need-returns invariant-loop decreases-loop
 returns c = search rules
 
-pub try-joined-spec : {M : Type 1} → statement M
-try-joined-spec =
+pub try_joined_spec : {M : Type 1} → statement M
+try_joined_spec =
     tie.close
     (tie.spec
     invariant-loop

@@ -36,8 +36,8 @@ loop-again c = search rules
 returns : tie.Need-returns invariant-loop decreases-loop
 returns c = search rules
 
-pub try-tasks-spec : {M : Type 1} → statement M
-try-tasks-spec =
+pub try_tasks_spec : {M : Type 1} → statement M
+try_tasks_spec =
     tie.close
     (tie.spec
     invariant-loop

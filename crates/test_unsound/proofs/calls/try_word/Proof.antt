@@ -36,8 +36,8 @@ loop-again c = search rules
 returns : tie.Need-returns invariant-loop decreases-loop
 returns c = search rules
 
-pub try-word-spec : {M : Type 1} → statement M
-try-word-spec =
+pub try_word_spec : {M : Type 1} → statement M
+try_word_spec =
     tie.close
     (tie.spec
     invariant-loop

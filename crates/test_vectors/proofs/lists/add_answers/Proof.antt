@@ -31,8 +31,8 @@ loop-again c = search rules
 returns : tie.Need-returns invariant-loop decreases-loop
 returns c = search rules
 
-pub add-answers-spec : {M : Type 1} → statement M
-add-answers-spec =
+pub add_answers_spec : {M : Type 1} → statement M
+add_answers_spec =
     tie.close
     (tie.spec
     invariant-loop

@@ -34,8 +34,8 @@ loop-again c = search rules
 returns-2 : tie.Need-returns-2 invariant-loop decreases-loop
 returns-2 c = search rules
 
-pub is-rest-untouched-spec : {M : Type 1} → statement M
-is-rest-untouched-spec =
+pub is_rest_untouched_spec : {M : Type 1} → statement M
+is_rest_untouched_spec =
     tie.close
     (tie.spec
     invariant-loop

@@ -23,8 +23,8 @@ compare-requires c κs = search rules
 returns : tie.Need-returns
 returns c = search rules
 
-pub make-list-spec : {M : Type 1} → statement M
-make-list-spec =
+pub make_list_spec : {M : Type 1} → statement M
+make_list_spec =
     tie.close
     (tie.spec
     room-for-requires

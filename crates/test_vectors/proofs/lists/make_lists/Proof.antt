@@ -44,8 +44,8 @@ loop-again c = search rules
 returns : tie.Need-returns invariant-loop decreases-loop
 returns c = search rules
 
-pub make-lists-spec : {M : Type 1} → statement M
-make-lists-spec =
+pub make_lists_spec : {M : Type 1} → statement M
+make_lists_spec =
     tie.close
     (tie.spec
     invariant-loop

@@ -40,8 +40,8 @@ loop-again c = search rules
 returns : tie.Need-returns invariant-loop decreases-loop
 returns c = search rules
 
-pub make-singly-spec : {M : Type 1} → statement M
-make-singly-spec =
+pub make_singly_spec : {M : Type 1} → statement M
+make_singly_spec =
     tie.close
     (tie.spec
     invariant-loop

@@ -112,8 +112,8 @@ mul-result c = search rules
 returns : tie.Need-returns invariant-loop decreases-loop
 returns c = search rules
 
-pub read-calls-spec : {M : Type 1} → statement M
-read-calls-spec =
+pub read_calls_spec : {M : Type 1} → statement M
+read_calls_spec =
     tie.close
     (tie.spec
     invariant-loop

@@ -187,9 +187,9 @@ arguments-meets {𝓤 = 𝓤} 𝓛 mem run 𝓣 known =
     (arguments.clauses 𝓛 mem run) (WpFn 𝓤 𝓛.H 𝓣.C 𝓣.Λ code.function) (WpFn-mono 𝓤 𝓛.H 𝓛.laws 𝓣 code.function)
     (arguments-walks 𝓛 mem run 𝓣.C 𝓣.Λ (fm_of 𝓤 𝓛.H 𝓛.laws 𝓣) known)
 
-pub arguments-spec : {M : Type 1} → stated.statement M
+pub arguments_spec : {M : Type 1} → stated.statement M
 unfolding code.routine tables_of
-arguments-spec 𝓤 𝓛 𝓜 𝓡 =
+arguments_spec 𝓤 𝓛 𝓜 𝓡 =
     entered 𝓤 𝓛.H (triple_of 𝓛 arguments.signature (arguments.spec 𝓛 𝓜.mem 𝓡.run))
     (tables 𝓤 𝓛.H 𝓜 𝓡 code.env).C (tables 𝓤 𝓛.H 𝓜 𝓡 code.env).Λ #reader·arguments code.function (code.unfolded 𝓤 𝓛.H 𝓜 𝓡)
     (arguments-meets 𝓛 𝓜.mem 𝓡.run (tables_of 𝓤 𝓛.H 𝓜 (tables 𝓤 𝓛.H 𝓜 𝓡 code.env))
