@@ -1,28 +1,29 @@
-use Rattle.std.proofs.Common.{rules, ◌≡◌, length, get_or, ℕ, ◌+◌, ◌-◌, ◌*◌, ◌<◌, ◌≤◌, ◌/◌, ◌%◌, Bool, true, false, nat_eq, nat_lt, List, [], ◌∷◌, ◌++◌, slice_set, bit_and, bit_or, Fits, w8, w32, w64, Bor, MutBor}
-use Rattle.rules.specs.Lines.{line, front_of, out_of, entered, joined, home_of, anyone}
-use Rattle.rules.specs.Swis.{top}
+-- `home_of` meets its contract: each mode by its number, and no other has a line.
+use borrow.Author.Tests.{ne_eqb}
+use Rattle.rules.specs.Lines.{home_by}
 use Rattle.lines.proofs.home_of.Goals as goal
 
--- src/lib.rt:103:1
 pub returns-in-1 : goal.returns-in-1
-returns-in-1 c = ?
+unfolding home_by
+returns-in-1 c = rw c.in-1.is
 
--- src/lib.rt:103:1
 pub returns-in-3 : goal.returns-in-3
-returns-in-3 c = ?
+unfolding home_by
+returns-in-3 c = rw c.in-3.is
 
--- src/lib.rt:103:1
 pub returns-in-4 : goal.returns-in-4
-returns-in-4 c = ?
+unfolding home_by
+returns-in-4 c = rw c.in-4.is
 
--- src/lib.rt:103:1
 pub returns-in-5 : goal.returns-in-5
-returns-in-5 c = ?
+unfolding home_by
+returns-in-5 c = rw c.in-5.is
 
--- src/lib.rt:103:1
 pub returns-in-6 : goal.returns-in-6
-returns-in-6 c = ?
+unfolding home_by
+returns-in-6 c = rw c.in-6.is
 
--- src/lib.rt:103:1
 pub returns-in_default : goal.returns-in_default
-returns-in_default c = ?
+unfolding home_by
+returns-in_default c =
+    rw (ne_eqb _ _ c.in_default.in_default-own.rest.0.0.0.0.1, ne_eqb _ _ c.in_default.in_default-own.rest.0.0.0.1, ne_eqb _ _ c.in_default.in_default-own.rest.0.0.1, ne_eqb _ _ c.in_default.in_default-own.rest.0.1, ne_eqb _ _ c.in_default.in_default-own.rest.1)

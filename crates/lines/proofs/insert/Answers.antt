@@ -1,32 +1,32 @@
-use Rattle.std.proofs.Common.{rules, ◌≡◌, length, get_or, ℕ, ◌+◌, ◌-◌, ◌*◌, ◌<◌, ◌≤◌, ◌/◌, ◌%◌, Bool, true, false, nat_eq, nat_lt, List, [], ◌∷◌, ◌++◌, slice_set, bit_and, bit_or, Fits, w8, w32, w64, Bor, MutBor}
-use Rattle.rules.specs.Lines.{line, front_of, out_of, entered, joined, home_of, anyone}
-use Rattle.rules.specs.Swis.{top}
+-- `insert` meets its contract: those from the place on are shifted back one by one, each carried to the next; a full line and no line stay.
+use Rattle.rules.specs.Lines.{line_count, line_most, line_width}
+use Prim.Native.Nat.{◌-◌, ◌*◌, ◌<◌}
+use mathlib.Core.Path.{◌≡◌, refl, ◌∙◌}
+use native.Mathlib.Omega.{arith}
+use lib.ListN.{length}
+use Rattle.rules.specs.Rows.{listed}
+use Rattle.rules_laws.proofs.InPlace.{Shifted, shifted_none, shifted-more}
+use Rattle.lines.proofs.InLine.{room-length, insert-is, full_is, entered-past}
 use Rattle.lines.proofs.insert.Goals as goal
 
--- src/lib.rt:90:13
 pub loop-k-init : goal.loop-k-init
-loop-k-init c = ?
+loop-k-init c =
+    let e = c.wide-end.ensures.0 ∙ room-length c.args.lines.now c.args.j c.if-j-lt-LINE_COUNT.true refl c.if-n-lt-LINE_MOST_U8.true in
+    (e, c.if-j-lt-LINE_COUNT.true, omega arith, shifted_none line_most c.args.lines.now (c.args.j * line_width) c.args.place c.args.x e c.least-k.ensures)
 
--- src/lib.rt:90:13
 pub loop-k-preserved : goal.loop-k-preserved
-loop-k-preserved c = ?
+loop-k-preserved c =
+    let t : c.loop-k.k < length (listed line_most c.args.lines.now (c.args.j * line_width)) = omega (arith, c.loop-k.invariant.0) in
+    (c.loop-k.invariant.0, c.loop-k.invariant.1, c.loop-k.invariant.2, shifted-more line_most c.args.lines.now (c.args.j * line_width) c.args.place c.args.x c.loop-k.k c.loop-k.invariant.3 t refl refl)
 
--- src/lib.rt:96:19
-pub overflow_add-lines-then-n-lt-LINE_MOST_U8-2 : goal.overflow_add-lines-then-n-lt-LINE_MOST_U8-2
-overflow_add-lines-then-n-lt-LINE_MOST_U8-2 c = ?
-
--- src/lib.rt:96:13
-pub bounds-lines-at-then-n-lt-LINE_MOST_U8 : goal.bounds-lines-at-then-n-lt-LINE_MOST_U8
-bounds-lines-at-then-n-lt-LINE_MOST_U8 c = ?
-
--- src/lib.rt:80:1
 pub returns-after-loop-k : goal.returns-after-loop-k
-returns-after-loop-k c = ?
+returns-after-loop-k c =
+    insert-is c.args.lines.now c.args.j c.if-j-lt-LINE_COUNT.true refl c.if-n-lt-LINE_MOST_U8.true c.args.place c.args.x c.loop-k.carry c.loop-k.k c.loop-k.invariant.3 (omega arith)
 
--- src/lib.rt:80:1
 pub returns-else-n-lt-LINE_MOST_U8 : goal.returns-else-n-lt-LINE_MOST_U8
-returns-else-n-lt-LINE_MOST_U8 c = ?
+returns-else-n-lt-LINE_MOST_U8 c =
+    full_is c.args.lines.now c.args.j c.if-j-lt-LINE_COUNT.true refl (λ xs. c.args.place) c.args.x c.if-n-lt-LINE_MOST_U8.false
 
--- src/lib.rt:80:1
 pub returns-else-j-lt-LINE_COUNT : goal.returns-else-j-lt-LINE_COUNT
-returns-else-j-lt-LINE_COUNT c = ?
+returns-else-j-lt-LINE_COUNT c =
+    entered-past c.args.lines.now c.args.j (λ xs. c.args.place) c.args.x c.if-j-lt-LINE_COUNT.false

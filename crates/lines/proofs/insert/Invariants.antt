@@ -1,11 +1,18 @@
-use Rattle.std.proofs.Common.{◌-◌, ◌≡◌, length, get_or, ℕ, ◌+◌, ◌*◌, ◌<◌, ◌≤◌}
-use Rattle.rules.specs.Lines.{line, front_of, out_of, entered, joined, home_of, anyone}
-use Rattle.rules.specs.Swis.{top}
+-- `insert` meets its contract: those from the place on are shifted back one by one, each carried to the next; a full line and no line stay.
+use Rattle.rules.specs.Lines.{line_count, line_most, line_width}
+use Prim.Native.Nat.{◌-◌, ◌*◌, ◌<◌}
+use mathlib.Core.Path.{◌≡◌, refl, ◌∙◌}
+use native.Mathlib.Omega.{arith}
+use lib.ListN.{length}
+use Rattle.rules.specs.Rows.{listed}
+use Rattle.rules_laws.proofs.InPlace.{Shifted, shifted_none, shifted-more}
+use Rattle.lines.proofs.InLine.{room-length, insert-is, full_is, entered-past}
 use Rattle.lines.proofs.insert.Given as goal
 
 abbrev pub invariant-loop-k : goal.invariant-loop-k
-invariant-loop-k l = ?
+invariant-loop-k l =
+    (l.end ≡ length (listed line_most l.initial.lines (l.j * line_width))) × (l.j < line_count) × (l.end < line_most)
+    × Shifted line_most l.initial.lines (l.j * line_width) l.place l.x l.carry l.k l.lines
 
--- proposed from the loop's first test
 abbrev pub decreases-loop-k : goal.decreases-loop-k
 decreases-loop-k l = l.end - l.k

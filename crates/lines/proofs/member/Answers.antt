@@ -1,24 +1,23 @@
-use Rattle.std.proofs.Common.{rules, ◌≡◌, length, get_or, ℕ, ◌+◌, ◌-◌, ◌*◌, ◌<◌, ◌≤◌, ◌/◌, ◌%◌, Bool, true, false, nat_eq, nat_lt, List, [], ◌∷◌, ◌++◌, slice_set, bit_and, bit_or, Fits, w8, w32, w64, Bor, MutBor}
-use Rattle.rules.specs.Lines.{line, front_of, out_of, entered, joined, home_of, anyone}
-use Rattle.rules.specs.Swis.{top}
+-- `member` meets its contract: one who stands in a line has a row and a place in it; past the last the list has a 0.
+use mathlib.Core.Path.{sym}
+use native.Mathlib.Omega.{arith}
+use lib.ListN.{get_or-eq_default}
+use Rattle.rules.specs.Lines.{line}
+use Rattle.lines.proofs.InLine.{in_row, member_is}
 use Rattle.lines.proofs.member.Goals as goal
 
--- src/lib.rt:31:22
 pub overflow_mul-result : goal.overflow_mul-result
-overflow_mul-result c = ?
+overflow_mul-result c = let h = in_row _ _ c.len.ensures c.if-k-len.true in omega arith
 
--- src/lib.rt:31:22
 pub overflow_add-result : goal.overflow_add-result
-overflow_add-result c = ?
+overflow_add-result c = let h = in_row _ _ c.len.ensures c.if-k-len.true in omega arith
 
--- src/lib.rt:31:22
 pub overflow_add-result-then-k-len : goal.overflow_add-result-then-k-len
-overflow_add-result-then-k-len c = ?
+overflow_add-result-then-k-len c = let h = in_row _ _ c.len.ensures c.if-k-len.true in omega arith
 
--- src/lib.rt:31:16
 pub bounds-lines-j : goal.bounds-lines-j
-bounds-lines-j c = ?
+bounds-lines-j c = let h = in_row _ _ c.len.ensures c.if-k-len.true in omega arith
 
--- src/lib.rt:31:9
 pub returns-then-k-len : goal.returns-then-k-len
-returns-then-k-len c = ?
+returns-then-k-len c =
+    member_is c.args.lines.now c.args.j c.args.k c.len.ensures c.if-k-len.true
