@@ -98,7 +98,7 @@ class Fields:
 
     @staticmethod
     def key(x):
-        return x.replace("-", "_")
+        return x.replace("-", "_").lower()
 
     def path(self, parts):
         out = []

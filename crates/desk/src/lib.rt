@@ -33,7 +33,7 @@ pub fn to_front(part: &mut [u8], at: usize, n: usize) -> usize
 
 // What a replay has come to, beside its tables: how many bytes wait at the front of the part, their offset in the log, how many
 // records there were, how long the text is, and whether the replay has ended.
-#[derive(Drop)]
+#[derive(Clone, Copy)]
 pub struct Progress {
     pub held: usize,
     pub offset: u64,

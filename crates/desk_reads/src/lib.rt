@@ -58,7 +58,7 @@ fn record_call(log: &[u8], start: usize, number: u8) -> Call
 
 // What one read of a log comes to: what was found, the place after it, the call, its answer and the thread that runs then. Where no record stands
 // nothing is called: the place stays, and the call and its answer are all 0, the thread T0.
-#[derive(Drop)]
+#[derive(Clone, Copy)]
 pub struct Replayed {
     pub found: Read,
     pub at: usize,
@@ -142,7 +142,7 @@ fn put_replayed(out: &mut Text, at: usize, n: u64, read: Replayed) -> usize
 }
 
 // Where the replay of a part is: the place of the next read, how many records there were, how long the text is, and whether it has ended.
-#[derive(Drop)]
+#[derive(Clone, Copy)]
 pub struct PartPlace {
     pub at: usize,
     pub count: u64,

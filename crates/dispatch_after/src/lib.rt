@@ -10,7 +10,7 @@ use rules::numbers::{DEPTH, NOT_MET, NOW_WAITING};
 use rules::{Answer, Lines, State, Swis};
 
 // Which parts of the dispatch rule can have something to do: the Swis', the tasks'.
-#[derive(Drop)]
+#[derive(Clone, Copy)]
 struct Parts {
     swis: bool,
     tasks: bool,

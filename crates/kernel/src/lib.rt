@@ -17,7 +17,7 @@ use rules::{
 };
 
 // What a call on lent tables answers: the tables are in place.
-#[derive(Drop)]
+#[derive(Clone, Copy)]
 pub struct Said {
     pub answer: Answer,
     pub thread: Thread,

@@ -21,7 +21,7 @@ use text::Text;
 const QUEUES: usize = FEW_QUEUES;
 
 // The queue that is filled first, and how far on the next one is each time.
-#[derive(Drop)]
+#[derive(Clone, Copy)]
 struct Filled {
     first: usize,
     step: usize,

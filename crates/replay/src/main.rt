@@ -14,7 +14,7 @@ use rules::{Clocks, Events, Heap, Lines, Mailboxes, Semaphores, State, Swis, Tab
 use text::Text;
 
 // What a read brought: how many bytes, and whether it failed.
-#[derive(Drop)]
+#[derive(Clone, Copy)]
 struct Came {
     more: usize,
     failed: bool,

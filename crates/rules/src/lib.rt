@@ -33,7 +33,7 @@ pub type Heap = [u8; numbers::HEAP_UNITS];
 pub type State = [u32; numbers::STATE_WIDTH];
 
 // All tables by value: what goes in with a call, and what comes out.
-#[derive(Drop)]
+#[derive(Clone, Copy)]
 pub struct Tables {
     pub tasks: Tasks,
     pub lines: Lines,
@@ -47,7 +47,7 @@ pub struct Tables {
 }
 
 // A task's row, while it is worked on.
-#[derive(Drop)]
+#[derive(Clone, Copy)]
 pub struct Task {
     pub mode: u32,
     pub priority: u32,
@@ -60,7 +60,7 @@ pub struct Task {
 }
 
 // A clock's row.
-#[derive(Drop)]
+#[derive(Clone, Copy)]
 pub struct Clock {
     pub used: u32,
     pub swi: u32,
@@ -70,14 +70,14 @@ pub struct Clock {
 }
 
 // A clock after a tick, and whether its Swi is posted.
-#[derive(Drop)]
+#[derive(Clone, Copy)]
 pub struct AgedClock {
     pub clock: Clock,
     pub fired: bool,
 }
 
 // A call: its number and its four arguments.
-#[derive(Drop)]
+#[derive(Clone, Copy)]
 pub struct Call {
     pub number: u32,
     pub a: u32,
@@ -87,7 +87,7 @@ pub struct Call {
 }
 
 // What a call answers.
-#[derive(Drop)]
+#[derive(Clone, Copy)]
 pub struct Answer {
     pub code: u32,
     pub outcome: u32,
@@ -95,7 +95,7 @@ pub struct Answer {
 }
 
 // Who runs.
-#[derive(Drop)]
+#[derive(Clone, Copy)]
 pub enum Thread {
     Task(u32),
     Swi(u32),
@@ -103,7 +103,7 @@ pub enum Thread {
 }
 
 // What a call leaves: the next tables, its answer and the running thread.
-#[derive(Drop)]
+#[derive(Clone, Copy)]
 pub struct Step {
     pub tables: Tables,
     pub answer: Answer,
@@ -112,7 +112,7 @@ pub struct Step {
 
 // What stands at a position of a log: a record, with its call number and where its sixteen argument bytes start; nothing more; or a
 // fault, with the record's byte offset.
-#[derive(Drop)]
+#[derive(Clone, Copy)]
 pub enum Read {
     Record { number: u8, start: usize },
     End,

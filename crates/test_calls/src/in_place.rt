@@ -6,7 +6,7 @@ ghost use Rattle.test_calls.specs.Trial.{Left};
 use rules::{Call, Step, Tables, Thread};
 
 // What a call left, and the thread that runs in the lent tables.
-#[derive(Drop)]
+#[derive(Clone, Copy)]
 pub(crate) struct InPlace {
     pub(crate) step: Step,
     pub(crate) running: Thread,

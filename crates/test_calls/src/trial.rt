@@ -8,7 +8,7 @@ use rules::{Call, Step, Tables};
 use test_same::{same_answer, same_tables, same_thread};
 
 // What the call by value left, what the call in place left, and whether the two say the same in everything.
-#[derive(Drop)]
+#[derive(Clone, Copy)]
 pub struct Tried {
     pub step: Step,
     pub in_place: Step,

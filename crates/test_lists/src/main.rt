@@ -48,7 +48,7 @@ const WRONG_NUMBER: u64 = 13;
 const UNSOUND: u64 = 14;
 
 // How many words of the list and of the room a row lends.
-#[derive(Drop)]
+#[derive(Clone, Copy)]
 struct Row(usize, usize);
 
 fn row_of(n: u64) -> Row {

@@ -33,7 +33,7 @@ type Room = [u32; MOST_ROOM];
 const UNTOUCHED: u32 = u32::MAX;
 
 // What single calls left, and whether the list gave the same answers.
-#[derive(Drop)]
+#[derive(Clone, Copy)]
 struct Singly {
     tables: Tables,
     thread: Thread,
@@ -42,7 +42,7 @@ struct Singly {
 
 // What came of the lists so far: the tables that the single calls left and those that the lists left, the sum over the lists' answers, and whether all was
 // the same.
-#[derive(Drop)]
+#[derive(Clone, Copy)]
 struct Compared {
     tables: Tables,
     in_place: Tables,

@@ -20,7 +20,7 @@ const FULL: usize = 16384 - 13292;
 
 // What a replay carries from record to record beside its tables: how many records there were, the offset in the log at which the part starts, how many
 // bytes wait at its front, how long the text is that is not written yet, and whether it goes on.
-#[derive(Drop)]
+#[derive(Clone, Copy)]
 struct Carried {
     count: u64,
     offset: u64,
@@ -88,7 +88,7 @@ fn roomy(c: Carried, out: &Text) -> Carried {
 }
 
 // A replay between two parts: its tables, and what it carries beside them.
-#[derive(Drop)]
+#[derive(Clone, Copy)]
 struct Traced {
     tables: Tables,
     carried: Carried,
@@ -162,7 +162,7 @@ fn read_part(traced: Traced, log: &[u8], last: bool, out: &mut Text) -> Traced
 // ---- the parts of a log
 
 // What a read left in a part: how many bytes are there now, whether nothing follows, whether it failed.
-#[derive(Drop)]
+#[derive(Clone, Copy)]
 struct Came {
     n: usize,
     last: bool,

@@ -5,7 +5,7 @@
 use rules::{Answer, Call, Thread};
 
 // A call that was made: the record's number, the call, its answer and the thread that runs then.
-#[derive(Drop)]
+#[derive(Clone, Copy)]
 pub struct Made {
     pub n: u64,
     pub asked: Call,
