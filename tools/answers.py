@@ -2,7 +2,7 @@
 """Turns the proof files of the older Rattle (one Proof.antt a function, which put a whole walk together) into today's Invariants.antt and Answers.antt.
 
 usage: answers.py CRATE [FUNCTION..]   at the top. The old files are read from the commit in which the spelling was turned (docs/PORT.md, line 2).
-1. the invariants and measures of loops; 2. a check says which goals stay open; 3. for these the old answers, under today's names, without the chains of
+1. the invariants and measures of loops; 2. a check says which goals stay open; A function that has its files already is left alone unless it is named. 3. for these the old answers, under today's names, without the chains of
 `.before` that led to a fact. What stays open after that is printed, and is for a reader."""
 
 import json
@@ -191,6 +191,12 @@ def main():
             fn = p[len(top) + 8:-11]
             if only and fn not in only:
                 continue
+            new = [f"{top}/proofs/{fn}/{x}.antt" for x in ("Answers", "Invariants")]
+            if not only and any(os.path.exists(x) for x in new):
+                continue
+            for x in new:
+                if os.path.exists(x):
+                    os.remove(x)
             old[fn] = run("git", "show", f"{commit}:{p}")
             here = f"{top}/proofs/{fn}/Proof.antt"
             if os.path.exists(here):

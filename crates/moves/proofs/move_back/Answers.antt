@@ -5,7 +5,7 @@ use Rattle.moves.proofs.move_back.Goals as goal
 
 pub returns-then-i-lt-TASK_COUNT : goal.returns-then-i-lt-TASK_COUNT
 returns-then-i-lt-TASK_COUNT c =
-    moved-is at_back c.args.i c.args.k c.args.tasks.now c.args.lines.now c.if-i-lt-TASK_COUNT.true c.task-old.ensures c.Home-of.ensures
+    moved-is at_back c.args.i c.args.k c.args.tasks.now c.args.lines.now c.if-i-lt-TASK_COUNT.true c.task-old.ensures c.home_of.ensures
     c.leave.ensures c.home_of-then-i-lt-TASK_COUNT.ensures c.join.ensures c.set_task.ensures
 
 pub returns-else-i-lt-TASK_COUNT : goal.returns-else-i-lt-TASK_COUNT
