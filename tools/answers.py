@@ -98,9 +98,9 @@ class Fields:
 
     @staticmethod
     def key(x):
-        return x.replace("-", "_").lower()
+        return re.sub(r"_lem$", "", x.replace("-", "_").lower())
 
-    def path(self, parts):
+    def path(self, parts, last=""):
         out = []
         for i, p in enumerate(parts):
             if p == "before":
@@ -111,7 +111,7 @@ class Fields:
                 out.append("is")
             elif out and out[-1].startswith("in_default") and p == "rest":
                 out += [out[-1] + "-own", "rest"]
-            elif out and out[-1] in ("args", "ensures", "new", "ranges", "type_inv", "invariant"):
+            elif (out[-1] if out else last) in ("args", "ensures", "new", "ranges", "type_inv", "invariant"):
                 out.append(p)
             else:
                 out.append(self.to.get(self.key(p), p))
@@ -125,7 +125,7 @@ def convert(term, fields):
     def path(m):
         root, parts = m[1], m[2].split(".")[1:]
         if root in alias:
-            return ".".join([alias[root]] + fields.path(parts))
+            return ".".join([alias[root]] + fields.path(parts, alias[root].split(".")[-1]))
         return m[0]
 
     out, pos = [], 0
@@ -138,7 +138,7 @@ def convert(term, fields):
         out.append(PATHTOK.sub(path, term[pos:m.start()]))
         root, parts = m[2], [p for p in m[3].split(".") if p]
         if root in alias:
-            p = fields.path(parts)
+            p = fields.path(parts, alias[root].split(".")[-1])
             if not p and alias[root] == "c":
                 alias[m[1]] = "c"
             else:
@@ -153,6 +153,74 @@ def convert(term, fields):
         if a != "c":
             text = re.sub(r"(?<![\w.'?{-])" + re.escape(a) + r"(?![\w'?.-]|\s*[:=]|\})", full, text)
     return text
+
+
+APPLIED = r"(?:\((?:[^()]|\([^()]*\))*\)|[\w'][\w'.-]*)"
+
+
+def known(ds):
+    """What an old file showed of a place past a test, by name: (its fact, its proof, what it unfolds), each over c."""
+    out, places = {}, set()
+    for d in ds:
+        name = d["sig"].replace("abbrev ", "").replace("pub ", "").split(" :")[0].strip()
+        text = "\n".join([d["sig"]] + d["lines"])
+        if "tie." not in d["sig"] and "tie." not in " ".join(d["lines"][:2]):
+            continue
+        if re.search(r"tie\.(Need|invariant|decreases)", d["sig"]) or "statement" in d["sig"]:
+            continue
+        m = re.match(r"(?:abbrev )?\S+ : tie\.[\w-]+(?: invariant\S* decreases\S*)? → tie\.[\w-]+", d["sig"])
+        if m:
+            places.add(name)
+            continue
+        m = re.match(r"\S+ : \((\w+) : tie\.[\w-]+(?: invariant\S* decreases\S*)?\)\s*→\s*(.*?)\n(?:(unfolding [^\n]*)\n)?" + re.escape(name) + r" (\w+) =(.*)$", text, re.S)
+        if not m:
+            print(f"look: a fact past a test that is not read: {text[:200]!r}")
+            continue
+        fact = m[2].strip()
+        lets = re.match(r"let (\w+) = (.*?) in\s+(.*)$", fact, re.S)
+        if lets:
+            root = "c.args" if lets[2].endswith(".args") else "c"
+            fact = re.sub(r"(?<![\w.'-])" + lets[1] + r"(?![\w'-])", root, lets[3])
+        else:
+            fact = re.sub(r"(?<![\w.'-])" + m[1] + r"(?![\w'-])", "c", fact)
+        proof = re.sub(r"(?<![\w.'-])" + m[4] + r"(?![\w'-])", "c", m[5].strip())
+        out[name] = (" ".join(fact.split()), proof, m[3])
+    return out, places
+
+
+def with_facts(term, facts, places):
+    """A term with what it uses of the facts past tests said before it."""
+    used, more = [], []
+
+    def take(text):
+        for n in facts:
+            pat = re.compile(r"(?<![\w.'-])" + re.escape(n) + r"(?:\s+" + APPLIED + r")?(?![\w'-])")
+            if pat.search(text):
+                if n not in used:
+                    inner = take(facts[n][1])
+                    if facts[n][2]:
+                        more.extend(facts[n][2].split()[1:])
+                    if n not in used:
+                        used.append((n, facts[n][0], inner)) if n not in [u[0] for u in used] else None
+                text = pat.sub(n, text)
+        return text
+
+    if places:
+        each = "|".join(re.escape(n) for n in sorted(places, key=len, reverse=True))
+        whole = re.compile(r"\((?:%s)\s+[\w'][\w'.-]*\)" % each)
+
+        def drop(text):
+            while True:
+                new = whole.sub("c", text)
+                if new == text:
+                    return re.sub(r"(?<![\w.'-])(?:%s)\s+[\w'][\w'.-]*(?![\w'-])" % each, "c", text)
+                text = new
+
+        facts = {n: (drop(a), drop(b), u) for n, (a, b, u) in facts.items()}
+        term = drop(term)
+    term = take(term)
+    lets = "".join(f"\n    let {n} : {fact} = {proof} in" for n, fact, proof in used)
+    return lets + ("\n    " if lets else "") + term.strip("\n") if lets else term, more
 
 
 def invariants(ds, info, crate, place):
@@ -247,6 +315,7 @@ def main():
         if len(args) != len(needs):
             print(f"{crate}: {fn}: {len(args)} old answers, {len(needs)} goals")
         by = {d["sig"].replace("pub ", "").replace("abbrev ", "").split(" :")[0].strip(): d for d in ds}
+        facts, places = known(ds)
         out = []
         for g in goals:
             k = next((k for k, (o, n) in enumerate(needs) if n == g), None)
@@ -280,7 +349,10 @@ def main():
             c = pats[-1] if pats else "c"
             if c != "c":
                 right = re.sub(r"(?<![\w.'-])" + re.escape(c) + r"(?![\w'-])", "c", right)
+            right, more = with_facts(right, facts, places)
             right = convert(right, Fields(i, i['asked_at'][k][0]))
+            if more:
+                opens = "unfolding " + " ".join(dict.fromkeys((opens.split()[1:] if opens else []) + more)) + "\n"
             out.append(f"pub {g} : goal.{g}\n{opens}{g} c ={right}")
         own = []
         for d in ds:
@@ -289,7 +361,8 @@ def main():
             own.append("\n".join(d["pre"] + [d["sig"]] + d["lines"]))
         os.makedirs(f"{top}/proofs/{fn}", exist_ok=True)
         with open(f"{top}/proofs/{fn}/Answers.antt", "w", encoding="utf-8") as f:
-            f.write("\n".join(head + clean(uses) + [f"use Rattle.{crate}.proofs.{fn.replace('/', '.')}.Goals as goal", ""]) + "\n" + "\n\n".join(own + out) + "\n")
+            rules = ["use Rattle.std.proofs.Common.{rules}"] if re.search(r"\brules\b", "\n".join(own + out)) else []
+            f.write("\n".join(head + clean(uses) + rules + [f"use Rattle.{crate}.proofs.{fn.replace('/', '.')}.Goals as goal", ""]) + "\n" + "\n\n".join(own + out) + "\n")
     run("rt", "fmt", where=top)
     said = run("rt", "check", where=top)
     with open(f"/tmp/{crate}.log", "w", encoding="utf-8") as f:

@@ -1,0 +1,35 @@
+-- `delete_code` meets its contract: each `return` gives the first of 01's cases that holds, since the tests before it failed.
+use mathlib.Core.Bool.{false}
+use lib.Dec.{eqb}
+use Rattle.rules.specs.Tables.{clock}
+use Rattle.rules_laws.proofs.Calls.{absent-is}
+use mathlib.Core.Path.{sym, ◌∙◌, ◌≡◌}
+use borrow.Author.Tests.{eq-eqb, ne_eqb}
+use Rattle.rules.specs.Answer.{first_given, not_t}
+use Rattle.rules.specs.Clocks.{delete_cases}
+use Rattle.clocks.proofs.calls.delete_code.Goals as goal
+
+pub returns-then-x-ne-T : goal.returns-then-x-ne-T
+unfolding first_given delete_cases
+returns-then-x-ne-T c = rw (ne_eqb _ 0 c.if-x-ne-T.true)
+
+pub returns-then-k-eq0 : goal.returns-then-k-eq0
+unfolding first_given delete_cases
+returns-then-k-eq0 c =
+    let may-call : not_t c.args.x ≡ false = rw (eq-eqb _ 0 c.if-x-ne-T.false) in
+    rw (may-call, eq-eqb _ 0 (rw c.clock-k.ensures at c.if-k-eq0.true))
+    (absent-is _ _ _ c.absent_code.ensures)
+
+pub returns-then-unused : goal.returns-then-unused
+unfolding first_given delete_cases
+returns-then-unused c =
+    let may-call : not_t c.args.x ≡ false = rw (eq-eqb _ 0 c.if-x-ne-T.false) in
+    let in_use : eqb (clock c.args.clocks.now c.args.a).used 0 ≡ false = rw (ne_eqb _ 0 (rw c.clock-k.ensures at c.if-k-eq0.false)) in
+    rw (may-call, in_use, sym c.unused.ensures ∙ c.if-unused.true)
+
+pub returns : goal.returns
+unfolding first_given delete_cases
+returns c =
+    let may-call : not_t c.args.x ≡ false = rw (eq-eqb _ 0 c.if-x-ne-T.false) in
+    let in_use : eqb (clock c.args.clocks.now c.args.a).used 0 ≡ false = rw (ne_eqb _ 0 (rw c.clock-k.ensures at c.if-k-eq0.false)) in
+    rw (may-call, in_use, sym c.unused.ensures ∙ c.if-unused.false)

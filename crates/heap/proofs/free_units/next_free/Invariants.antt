@@ -1,0 +1,13 @@
+-- `next_free` meets its contract: no unit passed is free, so the first that is free is found, or none is.
+use Rattle.rules.specs.Tables.{heap_units}
+use Prim.Native.Nat.{◌-◌}
+use mathlib.Core.Path.{◌≡◌, refl, sym, ◌∙◌}
+use Rattle.heap.specs.Free.{first_free}
+use Rattle.heap.proofs.Runs.{free-here, free_on, free-end}
+use Rattle.heap.proofs.free_units.next_free.Given as goal
+
+abbrev pub invariant-loop-u : goal.invariant-loop-u
+invariant-loop-u l = first_free l.heap l.u ≡ first_free l.heap l.from
+
+abbrev pub decreases-loop-u : goal.decreases-loop-u
+decreases-loop-u l = heap_units - l.u

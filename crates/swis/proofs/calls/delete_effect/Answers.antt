@@ -1,0 +1,7 @@
+use Rattle.rules.specs.Swis.{delete_effect}
+use Rattle.std.proofs.Common.{rules}
+use Rattle.swis.proofs.calls.delete_effect.Goals as goal
+
+pub returns : goal.returns
+unfolding delete_effect
+returns c = λ ls. rw (c.accepted.ensures, c.put_swi.ensures)
