@@ -109,6 +109,8 @@ class Fields:
                 out.append(p)
             elif out and out[-1].startswith("in") and re.fullmatch(r"keys\d*", p):
                 out.append("is")
+            elif out and out[-1].startswith("if-") and p in ("left", "taken"):
+                out.append({"left": "false", "taken": "true"}[p])
             elif out and out[-1].startswith("in_default") and p == "rest":
                 out += [out[-1] + "-own", "rest"]
             elif (out[-1] if out else last) in ("args", "ensures", "new", "ranges", "type_inv", "invariant"):
@@ -249,6 +251,20 @@ def invariants(ds, info, crate, place):
     return out
 
 
+def shared(ds, inv):
+    """The file's own definitions that an invariant names, for Invariants.antt; the answers import them from there."""
+    out, text = [], "\n".join(inv)
+    for d in reversed(ds):
+        name = d["sig"].replace("abbrev ", "").replace("pub ", "").split(" :")[0].strip()
+        if "tie." in d["sig"] or "statement" in d["sig"] or not re.search(r"(?<![\w.'-])" + re.escape(name) + r"(?![\w'-])", text):
+            continue
+        sig = d["sig"] if d["sig"].startswith("abbrev pub") else re.sub(r"^(abbrev )?(pub )?", "abbrev pub ", d["sig"])
+        d = "\n".join(d["pre"] + [sig] + d["lines"])
+        out.insert(0, d)
+        text += d
+    return out
+
+
 def main():
     crate, only = sys.argv[1], sys.argv[2:]
     top = f"crates/{crate}"
@@ -287,6 +303,8 @@ def main():
         head, uses, ds = decls(text)
         inv = invariants(ds, i, crate, fn)
         if inv:
+            mine = shared(ds, inv)
+            inv = mine + inv
             os.makedirs(f"{top}/proofs/{fn}", exist_ok=True)
             with open(f"{top}/proofs/{fn}/Invariants.antt", "w", encoding="utf-8") as f:
                 f.write("\n".join(head + clean(uses) + [f"use Rattle.{crate}.proofs.{fn.replace('/', '.')}.Given as goal", ""]) + "\n" + "\n\n".join(inv) + "\n")
@@ -355,8 +373,18 @@ def main():
                 opens = "unfolding " + " ".join(dict.fromkeys((opens.split()[1:] if opens else []) + more)) + "\n"
             out.append(f"pub {g} : goal.{g}\n{opens}{g} c ={right}")
         own = []
+        inside = f"{top}/proofs/{fn}/Invariants.antt"
+        moved = []
+        if os.path.exists(inside):
+            with open(inside, encoding="utf-8") as f:
+                moved = re.findall(r"(?m)^abbrev pub (\S+) :", f.read())
         for d in ds:
             if "tie." in d["sig"] or "statement" in d["sig"] or d is spec:
+                continue
+            name = d["sig"].replace("abbrev ", "").replace("pub ", "").split(" :")[0].strip()
+            if name in moved:
+                if re.search(r"(?<![\w.'-])" + re.escape(name) + r"(?![\w'-])", "\n".join(out)):
+                    uses.append(f"use Rattle.{crate}.proofs.{fn.replace('/', '.')}.Invariants.{{{name}}}")
                 continue
             own.append("\n".join(d["pre"] + [d["sig"]] + d["lines"]))
         os.makedirs(f"{top}/proofs/{fn}", exist_ok=True)

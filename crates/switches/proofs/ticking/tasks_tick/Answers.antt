@@ -1,0 +1,16 @@
+-- `tasks_tick` meets its contract: each turn is eight steps more in rising number, four turns all the tasks.
+use Rattle.rules.specs.Tables.{task_count}
+use Rattle.std.proofs.Common.{◌≡◌, ◌-◌, ◌*◌, ◌≤◌, sym, arith, rules}
+use Rattle.switches.proofs.Still.{eight-more}
+use Rattle.basics.specs.Find.{rising}
+use Rattle.basics.proofs.Finds.{rising_none, rising-end}
+use Rattle.rules.specs.Lines.{task_queues}
+use Rattle.rules.specs.Tick.{task_tick}
+use Rattle.switches.proofs.ticking.tasks_tick.Goals as goal
+
+pub loop-g-init : goal.loop-g-init
+loop-g-init c = (omega arith, sym (rising_none task_tick (task_queues c.args.tasks.now c.args.lines.now)))
+
+pub loop-g-preserved : goal.loop-g-preserved
+loop-g-preserved c =
+    (omega arith, eight-more task_tick (task_queues c.args.tasks.now c.args.lines.now) c.loop-g.g c.loop-g.invariant.1 c.eight_tick.ensures)
