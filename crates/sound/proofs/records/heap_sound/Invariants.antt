@@ -1,0 +1,18 @@
+-- `heap_sound` meets its contract: each turn adds one unit, told from the one before it
+use Prim.Native.Nat.{◌-◌, ◌≤◌}
+use mathlib.Core.Path.{◌≡◌, sym}
+use Rattle.basics.specs.Find.{all_below}
+use Rattle.basics.specs.Rule.{holds, ◌is◌, ◌isnt◌, ◌under◌, ◌and◌, ◌gives◌}
+use Rattle.basics.proofs.Finds.{all_none, all-step, all_end}
+use Rattle.rules.specs.Heap.{unit, free, later_in}
+use Rattle.rules.specs.Tables.{heap_units}
+use Rattle.sound.proofs.Steps.{unit_before, before-none, before_more, heap-step}
+use Rattle.sound.proofs.records.heap_sound.Given as goal
+
+abbrev pub invariant-loop-u : goal.invariant-loop-u
+invariant-loop-u l =
+    (l.u ≤ heap_units) × (l.before ≡ unit_before l.heap l.u) × (l.ok ≡ all_below l.u
+    (λ k. holds ((unit l.heap k under 3) and (unit l.heap k is later_in gives (k isnt 0) and (unit l.heap (k - 1) isnt free)))))
+
+abbrev pub decreases-loop-u : goal.decreases-loop-u
+decreases-loop-u l = heap_units - l.u

@@ -1,0 +1,21 @@
+-- `at_home` meets its contract: each turn looks at one more of those in the line
+use Prim.Native.Nat.{◌-◌}
+use mathlib.Core.Path.{◌≡◌, sym}
+use lib.Dec.{eqb}
+use lib.ListN.{length, take}
+use Rattle.basics.specs.Lists.{all_of}
+use Rattle.basics.proofs.Finds.{all_of-none}
+use Rattle.rules.specs.Lines.{line}
+use Rattle.rules.specs.Sound.{home_in}
+use Rattle.sound.proofs.StandingLoops.{members-more, members-all}
+use Rattle.sound.proofs.standing.at_home.Goals as goal
+
+pub loop-k-init : goal.loop-k-init
+loop-k-init c = (c.len-n.ensures, sym (all_of-none _ (line c.args.lines.now c.args.j)))
+
+pub loop-k-preserved : goal.loop-k-preserved
+loop-k-preserved c = (
+  c.loop-k.invariant.0,
+  members-more _ _ _ c.loop-k.invariant.0 c.loop-k.invariant.1 c.loop-k-test.true
+      (rw (c.home_in.ensures, c.wide-x.ensures.0, c.member.ensures)),
+)

@@ -1,0 +1,17 @@
+-- `swi_once` meets its contract: each turn adds one Swi to those that stand once
+use Prim.Native.Nat.{◌-◌, ◌≤◌}
+use mathlib.Core.Path.{◌≡◌, sym, ◌∙◌}
+use Rattle.basics.specs.Lists.{count}
+use Rattle.basics.specs.Find.{all_below}
+use Rattle.basics.specs.Rule.{holds, ◌is◌, ◌under◌, ◌gives◌}
+use Rattle.basics.proofs.Finds.{all_none, all-step, all_end}
+use Rattle.rules.specs.Lines.{line, swi_home, line_count}
+use Rattle.rules.specs.Tables.{swi_count}
+use Rattle.sound.proofs.standing.swi_once.Given as goal
+
+abbrev pub invariant-loop-i : goal.invariant-loop-i
+invariant-loop-i l =
+    (l.i ≤ swi_count) × (l.ok ≡ all_below l.i (λ k. holds (swi_home l.swis k under line_count gives count k (line l.lines (swi_home l.swis k)) is 1)))
+
+abbrev pub decreases-loop-i : goal.decreases-loop-i
+decreases-loop-i l = swi_count - l.i
