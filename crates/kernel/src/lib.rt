@@ -41,7 +41,7 @@ pub fn step(
     state: &mut State,
     asked: Call,
 ) -> Said
-    ensures thread_value { step_of (tables tasks.new lines.new semaphores.new events.new mailboxes.new swis.new clocks.new heap.new state.new) result.answer result.thread
+    ensures quick { step_of (tables tasks.new lines.new semaphores.new events.new mailboxes.new swis.new clocks.new heap.new state.new) result.answer result.thread
         ≡ quick_step (tables tasks.old lines.old semaphores.old events.old mailboxes.old swis.old clocks.old heap.old state.old) asked }
     ensures stepped { Sound (tables tasks.old lines.old semaphores.old events.old mailboxes.old swis.old clocks.old heap.old state.old)
         → Stepped (tables tasks.old lines.old semaphores.old events.old mailboxes.old swis.old clocks.old heap.old state.old) asked

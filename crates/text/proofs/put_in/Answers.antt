@@ -1,0 +1,38 @@
+-- `text::put_in` meets its contract: i bytes of the text are put, and they end at p; it stops where none is left or the buffer is full.
+use Prim.Native.Nat.{◌-◌, ◌≤◌, ◌<◌}
+use mathlib.Core.Path.{◌≡◌, refl, ◌∙◌}
+use mathlib.Core.Logic.{⊎_elim}
+use native.Mathlib.Omega.{arith}
+use lib.ListN.{length, take, length-set}
+use Rattle.text.specs.Put.{PutIn}
+use Rattle.text.proofs.Puts.{put-none, put_one, put_next, put_whole, put_full, left-and-room, none-or-full}
+use Rattle.text.proofs.put_in.Goals as goal
+
+-- ---- past the loop's test: a byte is left, and there is room for it
+abbrev In : Type 0
+In = tie.After-shared-slice-known invariant-loop decreases-loop
+
+goes_on : (c : In) → ((now c).loop.i < length (now c).before.args.text.now) × ((now c).loop.p < length (now c).loop.out)
+goes_on c = left-and-room _ _ _ _ c.before.loop-test.true
+
+pub loop-i-init : goal.loop-i-init
+loop-i-init c = (refl, (omega arith, put-none (length c.args.out.now) c.args.out.now c.args.at))
+
+pub loop-i-preserved : goal.loop-i-preserved
+loop-i-preserved c =
+    let l = (now c).loop in
+    let room : l.p < length (now c).before.args.out.now = omega (arith, l.inv.0, (goes_on c).1) in (
+      length-set l.out l.p _ ∙ l.inv.0,
+      (
+        omega (arith, (goes_on c).0),
+        put_next (now c).before.args.text.now l.i (goes_on c).0 l.inv.1.1 (put_one _ l.out l.p _ room),
+      ),
+    )
+
+pub returns : goal.returns
+returns c =
+    ⊎_elim
+    (λ (none : length c.args.text.now ≤ c.loop-i.i). put_whole c.args.text.now c.loop-i.i none c.loop-i.invariant.1.1)
+    (λ (full : length c.loop-i.out ≤ c.loop-i.p).
+    put_full c.args.text.now c.loop-i.i (omega (arith, c.loop-i.invariant.0)) c.loop-i.invariant.1.1)
+    (none-or-full _ _ _ _ c.loop-i-test.false)
