@@ -88,8 +88,11 @@ class Fields:
             rows.setdefault(name, []).append((parent, old, new))
             if place is None and old:
                 self.to.setdefault(self.key(old), new)
+        self.arm = None
         while place is not None and place in rows:
             parent, old, new = rows[place][0]
+            if new.startswith("in-") and self.arm is None:
+                self.arm = new
             if old:
                 self.to[self.key(old)] = new
             place = parent
@@ -102,9 +105,12 @@ class Fields:
 
     def path(self, parts, last=""):
         out = []
+        if parts[-2:] == ["given", "1"] and getattr(self, "arm", None):
+            return [self.arm, "is"]
         for i, p in enumerate(parts):
             if p == "before":
                 continue
+            p = "invariant" if p == "inv" else p
             if i and re.fullmatch(r"\d+", p):
                 out.append(p)
             elif out and out[-1].startswith("in") and re.fullmatch(r"keys\d*", p):
@@ -338,6 +344,11 @@ def main():
         for g in goals:
             k = next((k for k, (o, n) in enumerate(needs) if n == g), None)
             a = args[k] if k is not None and len(args) == len(needs) else None
+            if a is None and k is not None and needs[k][0].startswith("returns"):
+                ours = [j for j, (o, n) in enumerate(needs) if o.startswith("returns")]
+                theirs = [x for x in args if x.startswith("(λ") or (x in by and re.search(r"tie\.Need-returns(-\d+)?(\s|$)", by[x]["sig"]))]
+                if len(ours) == len(theirs):
+                    a = theirs[ours.index(k)]
             if a is None and k is not None:
                 # by its name: `returns-2` and its like
                 o = needs[k][0].replace("_", "-")

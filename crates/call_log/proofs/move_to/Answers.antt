@@ -4,16 +4,21 @@ use Rattle.std.proofs.Common.{arith, rules}
 use Rattle.call_log.proofs.move_to.Goals as goal
 
 pub returns-in-Record : goal.returns-in-Record
-returns-in-Record c = ?
+unfolding move_to
+returns-in-Record c = rw c.in-Record.is c.wrapping_add_usize.ensures.value
 
 pub returns-in-End : goal.returns-in-End
-returns-in-End c = ?
+unfolding move_to
+returns-in-End c = rw c.in-End.is (omega arith)
 
 pub returns-in-Cut : goal.returns-in-Cut
-returns-in-Cut c = ?
+unfolding move_to
+returns-in-Cut c = rw c.in-Cut.is (omega arith)
 
 pub returns-in-Length : goal.returns-in-Length
-returns-in-Length c = ?
+unfolding move_to
+returns-in-Length c = rw c.in-Length.is (omega arith)
 
 pub returns-in-Version : goal.returns-in-Version
-returns-in-Version c = ?
+unfolding move_to
+returns-in-Version c = rw c.in-Version.is (omega arith)

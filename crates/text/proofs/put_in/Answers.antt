@@ -8,25 +8,18 @@ use Rattle.text.specs.Put.{PutIn}
 use Rattle.text.proofs.Puts.{put-none, put_one, put_next, put_whole, put_full, left-and-room, none-or-full}
 use Rattle.text.proofs.put_in.Goals as goal
 
--- ---- past the loop's test: a byte is left, and there is room for it
-abbrev In : Type 0
-In = tie.After-shared-slice-known invariant-loop decreases-loop
-
-goes_on : (c : In) → ((now c).loop.i < length (now c).before.args.text.now) × ((now c).loop.p < length (now c).loop.out)
-goes_on c = left-and-room _ _ _ _ c.before.loop-test.true
-
 pub loop-i-init : goal.loop-i-init
 loop-i-init c = (refl, (omega arith, put-none (length c.args.out.now) c.args.out.now c.args.at))
 
 pub loop-i-preserved : goal.loop-i-preserved
 loop-i-preserved c =
-    let l = (now c).loop in
-    let room : l.p < length (now c).before.args.out.now = omega (arith, l.inv.0, (goes_on c).1) in (
-      length-set l.out l.p _ ∙ l.inv.0,
-      (
-        omega (arith, (goes_on c).0),
-        put_next (now c).before.args.text.now l.i (goes_on c).0 l.inv.1.1 (put_one _ l.out l.p _ room),
-      ),
+    let l = c.loop-i in
+    let text = c.args.text.now in
+    -- past the loop's test a byte is left, and there is room for it
+    let go : (l.i < length text) × (l.p < length l.out) = left-and-room _ _ _ _ c.loop-i-test.true in
+    let room : l.p < length c.args.out.now = omega (arith, l.invariant.0, go.1) in (
+      length-set l.out l.p _ ∙ l.invariant.0,
+      (omega (arith, go.0), put_next text l.i go.0 l.invariant.1.1 (put_one _ l.out l.p _ room)),
     )
 
 pub returns : goal.returns

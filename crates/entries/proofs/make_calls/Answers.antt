@@ -1,0 +1,22 @@
+-- Each turn of the loop makes the call in front of those that are left (`call_lists/proofs/Making`); when none is left all are made.
+use Prim.Native.Nat.{◌-◌}
+use mathlib.Core.Path.{◌≡◌, refl}
+use lib.ListN.{length}
+use native.Mathlib.Omega.{arith}
+use Rattle.rules.specs.Tables.{tables}
+use Rattle.call_lists.proofs.Making.{Making, none_made, one_more, list-made}
+use Rattle.runs.specs.CallList.{calls_in}
+use Rattle.entries.proofs.make_calls.Goals as goal
+
+pub loop-i-preserved : goal.loop-i-preserved
+loop-i-preserved c =
+    let (n-is, making) = c.loop-i.inv in (
+      n-is,
+      one_more _ _ _ _ _ _ making (omega (arith, c.loop-i-test.taken, n-is)) _
+          c.call_at.ensures c.step-said.ensures.1 c.put_answer.ensures,
+    )
+
+pub returns : goal.returns
+returns c =
+    let (n-is, making) = c.loop-i.invariant in
+    list-made _ _ _ _ _ _ making (omega (arith, c.loop-i-test.false, n-is))
