@@ -115,7 +115,7 @@ class Fields:
                 out.append(p)
             elif out and out[-1].startswith("in") and re.fullmatch(r"keys\d*", p):
                 out.append("is")
-            elif out and out[-1].startswith("if-") and p in ("left", "taken"):
+            elif out and (out[-1].startswith("if-") or out[-1].endswith("-test")) and p in ("left", "taken"):
                 out.append({"left": "false", "taken": "true"}[p])
             elif out and out[-1].startswith("in_default") and p == "rest":
                 out += [out[-1] + "-own", "rest"]

@@ -1,19 +1,17 @@
 -- What the entries promise on lent tables: of the tables as they came, what was handed in, the tables as they are left and what was said.
+use Rattle.std.specs.Prelude.{List, ℕ}
 use Rattle.rules.specs.Step.{step_of}
 use Rattle.rules.specs.declared.Call.{Call}
+use Rattle.rules.specs.declared.Tables.{Tables}
 use Rattle.runs.specs.CallList.{handed}
 use Rattle.demands.specs.Promised.{Promised}
 use Rattle.demands.specs.Lists.{PromisedList}
 use Rattle.kernel.specs.declared.Said.{Said}
-use Rattle.tables.specs.Lent.{Over, old, new, tables_old, tables_new}
 
 -- of a call
-abbrev pub PromisedInPlace : Over → Over → Over → Over → Over → Over → Over → Over → Over → Call → Said → Type 0
-PromisedInPlace ts ls ss es ms ws cs h st q r =
-    Promised (tables_old ts ls ss es ms ws cs h st) q (step_of (tables_new ts ls ss es ms ws cs h st) r.answer r.thread)
+abbrev pub PromisedInPlace : Tables → Call → Tables → Said → Type 0
+PromisedInPlace t q left r = Promised t q (step_of left r.answer r.thread)
 
 -- of a list of calls, with the room for their answers
-abbrev pub ListPromisedInPlace : Over → Over → Over → Over → Over → Over → Over → Over → Over → Over → Over → Said → Type 0
-ListPromisedInPlace ts ls ss es ms ws cs h st calls answers r =
-    PromisedList (tables_old ts ls ss es ms ws cs h st) (old calls) (old answers)
-    (handed (tables_new ts ls ss es ms ws cs h st) (new answers) r.answer r.thread)
+abbrev pub ListPromisedInPlace : Tables → List ℕ → List ℕ → Tables → List ℕ → Said → Type 0
+ListPromisedInPlace t calls room left answers r = PromisedList t calls room (handed left answers r.answer r.thread)

@@ -71,7 +71,8 @@ pub fn call_in_place(
     state: &mut State,
     q: Call,
 ) -> Said
-    ensures { PromisedInPlace tasks lines semaphores events mailboxes swis clocks heap state q result }
+    ensures { PromisedInPlace (tables tasks.old lines.old semaphores.old events.old mailboxes.old swis.old clocks.old heap.old state.old) q
+        (tables tasks.new lines.new semaphores.new events.new mailboxes.new swis.new clocks.new heap.new state.new) result }
 {
     if !sound::is_sound(
         tasks, lines, semaphores, events, mailboxes, swis, clocks, heap, state,
@@ -137,7 +138,8 @@ pub fn call_list(
     calls: &[u32],
     answers: &mut [u32],
 ) -> Said
-    ensures { ListPromisedInPlace tasks lines semaphores events mailboxes swis clocks heap state calls answers result }
+    ensures { ListPromisedInPlace (tables tasks.old lines.old semaphores.old events.old mailboxes.old swis.old clocks.old heap.old state.old) calls.now answers.old
+        (tables tasks.new lines.new semaphores.new events.new mailboxes.new swis.new clocks.new heap.new state.new) answers.new result }
 {
     let sound = sound::is_sound(
         tasks, lines, semaphores, events, mailboxes, swis, clocks, heap, state,

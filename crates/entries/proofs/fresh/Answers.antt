@@ -3,14 +3,12 @@ use Rattle.rules.specs.Fresh.{made_fresh}
 use Rattle.entries.proofs.Starts.{fresh-safe}
 use Rattle.entries.proofs.fresh.Goals as goal
 
-pub returns-then-levels-clause-value : goal.returns-then-levels-clause-value
-returns-then-levels-clause-value c = ?
+pub returns-then-levels : goal.returns-then-levels
+unfolding made_fresh
+returns-then-levels c =
+    let e = fresh-safe c.args.levels (rw (c.if-levels.true, c.fresh.ensures, c.accepted.ensures)) in record { value = e.0; safe = e.1 }
 
-pub returns-then-levels-clause-safe : goal.returns-then-levels-clause-safe
-returns-then-levels-clause-safe c = ?
-
-pub returns-clause-value : goal.returns-clause-value
-returns-clause-value c = ?
-
-pub returns-clause-safe : goal.returns-clause-safe
-returns-clause-safe c = ?
+pub returns : goal.returns
+unfolding made_fresh
+returns c =
+    let e = fresh-safe c.args.levels (rw (c.if-levels.false, c.fresh-2.ensures, c.refused.ensures)) in record { value = e.0; safe = e.1 }

@@ -10,10 +10,10 @@ use Rattle.entries.proofs.make_calls.Goals as goal
 
 pub loop-i-preserved : goal.loop-i-preserved
 loop-i-preserved c =
-    let (n-is, making) = c.loop-i.inv in (
+    let (n-is, making) = c.loop-i.invariant in (
       n-is,
-      one_more _ _ _ _ _ _ making (omega (arith, c.loop-i-test.taken, n-is)) _
-          c.call_at.ensures c.step-said.ensures.1 c.put_answer.ensures,
+      one_more _ _ _ _ _ _ making (omega (arith, c.loop-i-test.true, n-is)) _
+          c.call_at.ensures c.step-said.ensures.stepped c.put_answer.ensures,
     )
 
 pub returns : goal.returns
