@@ -32,6 +32,7 @@ use Rattle.demand_2_soundness.proofs.RunsBySteps.{asks, in_words}
 use Rattle.demands_examples.proofs.BySteps.{Pass, pass, Leads, leads, anything}
 use Rattle.demands_examples.proofs.StrongerAnswers.{stray, not_sound}
 use Rattle.rules.specs.declared.Call.{Call}
+use Rattle.rules.specs.Step.{step}
 
 -- ---- a run by steps, to the tables that the steps compute
 abbrev pub in_steps : Tables → List Line → Pass
@@ -40,7 +41,7 @@ in_steps t ls = pass anything 0 t (calls ls)
 any-all : (t : Tables) (xs : List Runs.Asked) → (pass anything 0 t xs).all ≡ true
 unfolding pass
 any-all t [] = refl
-any-all t (Runs.asked n a b c d ∷ xs) = any-all _ xs
+any-all t (Runs.asked n a b c d ∷ xs) = any-all (step t n a b c d).tables xs
 any-all t (look f ∷ xs) = any-all t xs
 
 abbrev pub Stepped : Tables → List Line → Type 0

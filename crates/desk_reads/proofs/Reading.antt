@@ -1,7 +1,5 @@
 -- The step of a replay, and what one read leaves by it, by what was found.
 use Rattle.std.proofs.Common.{◌≡◌, ℕ, ◌+◌, true, false, List, [], ◌∷◌, ◌++◌, length, sym, refl, ap, ◌∙◌}
-use types.Run.{OneOf, miss}
-use denote.Enum.Declared.{tag_of}
 use Rattle.rules.specs.Log.{read_in, argument_bytes, handed_out, argument, move_to}
 use Rattle.rules.specs.Text.{line_text, line_feed}
 use Rattle.rules.specs.Step.{step, step_of}
@@ -13,7 +11,6 @@ use Rattle.rules.specs.declared.Read.TheVariants.{Record, End, Cut, Length, Vers
 use Rattle.rules.specs.declared.Tables.{Tables}
 use Rattle.rules.specs.declared.Thread.{Thread}
 use Rattle.rules.specs.declared.Thread.TheVariants.{Task}
-use Rattle.rules.specs.contracts.Read as R
 use Rattle.text.specs.Put.{Put}
 use Rattle.call_log.proofs.Records.{handed_out_lem}
 use Rattle.desk_parts.specs.Part.{kept, last_text}
@@ -37,17 +34,21 @@ pub ended_is : (s : List ℕ) (f : Read) (o : ℕ) (p : PartPlace) {xs ys : List
 ended_is s f o p q e = rw e (q, refl)
 
 -- ---- the step, by what was found
+-- what was found is no record
+abbrev pub NoRecord : Read → Type 0
+NoRecord f = (number begin : ℕ) → f ≡ Record number begin → ⊥
+
 -- no record: nothing is called
-no_record : (f : Read) (s : List ℕ) (at : ℕ) (t : Tables) → OneOf (1 ∷ 2 ∷ 3 ∷ 4 ∷ []) (tag_of R.the_type f) → next_step f s at t ≡ step_without f at t
+no_record : (f : Read) (s : List ℕ) (at : ℕ) (t : Tables) → NoRecord f → next_step f s at t ≡ step_without f at t
 unfolding next_step
-no_record (Record number start) s at t h = absurd (miss (1 ∷ 2 ∷ 3 ∷ 4 ∷ []) 0 tt h)
+no_record (Record number start) s at t h = absurd (h number start refl)
 no_record End s at t h = refl
 no_record (Cut k) s at t h = refl
 no_record (Length k) s at t h = refl
 no_record (Version k) s at t h = refl
 
 module _ (v : ℕ) (s : List ℕ) (at : ℕ) (t : Tables) {f : Read} (found : f ≡ read_in v s at) {next : ℕ} (moved : next ≡ move_to f at) where
-  pub step-without : OneOf (1 ∷ 2 ∷ 3 ∷ 4 ∷ []) (tag_of R.the_type f)
+  pub step-without : NoRecord f
       → {r : Replayed} → r ≡ replayed_to f next (asked 0 0 0 0 0) (answer 0 0 0) (Task 0)
       → replay_step r t ≡ next_step (read_in v s at) s at t
   step-without h e = rw (← found, no_record f s at t h, e, moved)
@@ -74,9 +75,9 @@ found-is (Cut k) s at t = refl
 found-is (Length k) s at t = refl
 found-is (Version k) s at t = refl
 
-one_last : (f : Read) (s : List ℕ) (o n : ℕ) (t : Tables) → OneOf (1 ∷ 2 ∷ 3 ∷ 4 ∷ []) (tag_of R.the_type f) → read_result f s o n t ≡ last_result f s o n t
+one_last : (f : Read) (s : List ℕ) (o n : ℕ) (t : Tables) → NoRecord f → read_result f s o n t ≡ last_result f s o n t
 unfolding read_result
-one_last (Record number start) s o n t h = absurd (miss (1 ∷ 2 ∷ 3 ∷ 4 ∷ []) 0 tt h)
+one_last (Record number start) s o n t h = absurd (h number start refl)
 one_last End s o n t h = refl
 one_last (Cut k) s o n t h = refl
 one_last (Length k) s o n t h = refl
@@ -87,11 +88,11 @@ module _ (f : Read) (s : List ℕ) (o : ℕ) (t : Tables) (p : PartPlace) (m : R
   found = ap (λ (x : ReplayStep). x.replayed.found) made ∙ found-is f s p.at t
 
   -- the end or a fault
-  pub went-last : OneOf (1 ∷ 2 ∷ 3 ∷ 4 ∷ []) (tag_of R.the_type m.found) → {xs ys : List ℕ} {r : PartPlace}
+  pub went-last : NoRecord m.found → {xs ys : List ℕ} {r : PartPlace}
       → Put xs p.len (last_text m.found o p.count) ys r.len × (r ≡ place_at (length s) p.count r.len true)
       → ReadLeaves (read_result f s o p.count t) u xs p.len ys r
   went-last h e =
-      let other : OneOf (1 ∷ 2 ∷ 3 ∷ 4 ∷ []) (tag_of R.the_type f) = rw found at h in
+      let other : NoRecord f = rw found at h in
       let stayed : u ≡ t = ap (λ (x : ReplayStep). x.tables) (made ∙ no_record f s p.at t other) in
       rw (one_last f s o p.count t other)
       (record {

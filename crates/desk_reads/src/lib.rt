@@ -115,7 +115,7 @@ pub fn next(
     at: usize,
 ) -> Replayed
     requires { Safe (tables tasks.old lines.old semaphores.old events.old mailboxes.old swis.old clocks.old heap.old state.old) }
-    ensures state_value { replay_step result (tables tasks.new lines.new semaphores.new events.new mailboxes.new swis.new clocks.new heap.new state.new)
+    ensures replayed { replay_step result (tables tasks.new lines.new semaphores.new events.new mailboxes.new swis.new clocks.new heap.new state.new)
         ≡ next_step (read_in (version_by state.old) log.now at) log.now at
         (tables tasks.old lines.old semaphores.old events.old mailboxes.old swis.old clocks.old heap.old state.old) }
     ensures safe { Safe (tables tasks.new lines.new semaphores.new events.new mailboxes.new swis.new clocks.new heap.new state.new) }
