@@ -2,7 +2,6 @@
 use Rattle.std.specs.Prelude.{◌≡◌, ℕ, ◌+◌, List, length, take, drop}
 use Rattle.std.proofs.lemmas.List.Edits.{sets}
 use Rattle.rules.specs.declared.Tables.{Tables}
-use Rattle.tables.specs.Lent.{Over}
 use Rattle.desk_parts.specs.Part.{kept, ReplayState}
 use Rattle.desk_reads.specs.declared.PartPlace.{PartPlace}
 use Rattle.desk.specs.declared.Progress.{Progress}
@@ -33,16 +32,3 @@ pub record TurnLeaves (l : ReplayState) (t : Tables) (ps qs xs ys : List ℕ) (r
   pub text : ys ≡ sets xs 0 l.text
   pub progress : r ≡ progress_of l
   pub left : replay_state t qs ys r ≡ l
-
--- ---- the same of a part and a buffer that are lent
-abbrev pub had : Tables → Over → Over → Progress → ReplayState
-had t part out p = replay_state t part.entry.now out.entry.now p
-
-abbrev pub has : Tables → Over → Over → Progress → ReplayState
-has t part out p = replay_state t part.exit.now out.exit.now p
-
-abbrev pub came : Over → Progress → ℕ → List ℕ
-came part p more = behind part.entry.now p more
-
-abbrev pub Turns : ReplayState → Tables → Over → Over → Progress → Type 0
-Turns l t part out r = TurnLeaves l t part.entry.now part.exit.now out.entry.now out.exit.now r

@@ -7,7 +7,7 @@ ghost use Rattle.std.proofs.lemmas.List.Edits.{sets};
 ghost use Rattle.rules.specs.Tables.{tables};
 ghost use Rattle.desk_parts.specs.Part.{turn, start};
 ghost use Rattle.kernel.specs.Safe.{Safe};
-ghost use Rattle.desk.specs.Done.{come_to, progress_of, had, came, Turns};
+ghost use Rattle.desk.specs.Done.{come_to, progress_of, replay_state, behind, TurnLeaves};
 
 use desk_reads::{PartPlace, begin, next_line, place_at};
 use rules::{Clocks, Events, Heap, Lines, Mailboxes, Semaphores, State, Swis, Tasks};
@@ -99,9 +99,9 @@ pub fn replay_part(
     out: &mut Text,
 ) -> Progress
     requires { Safe (tables tasks.old lines.old semaphores.old events.old mailboxes.old swis.old clocks.old heap.old state.old) }
-    ensures turns { Turns
-        (turn (more == 0) (came part p more) (had (tables tasks.old lines.old semaphores.old events.old mailboxes.old swis.old clocks.old heap.old state.old) part out p))
-        (tables tasks.new lines.new semaphores.new events.new mailboxes.new swis.new clocks.new heap.new state.new) part out result }
+    ensures turns { TurnLeaves
+        (turn (more == 0) (behind part.old p more) (replay_state (tables tasks.old lines.old semaphores.old events.old mailboxes.old swis.old clocks.old heap.old state.old) part.old out.old p))
+        (tables tasks.new lines.new semaphores.new events.new mailboxes.new swis.new clocks.new heap.new state.new) part.old part.new out.old out.new result }
     ensures safe { Safe (tables tasks.new lines.new semaphores.new events.new mailboxes.new swis.new clocks.new heap.new state.new) }
 {
     sized(*out);

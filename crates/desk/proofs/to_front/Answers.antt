@@ -1,0 +1,8 @@
+-- `to_front` meets its contract: a byte is moved to a place before its own, and those that are moved so far stand in front.
+use Rattle.std.proofs.Common.{◌≡◌, ◌-◌, min, length, arith, rules}
+use Rattle.desk.proofs.Moved.{Moved, moved_none, moved-size, moved_more, moved_all}
+use Rattle.desk.proofs.to_front.Goals as goal
+
+pub loop-from-preserved : goal.loop-from-preserved
+loop-from-preserved c =
+    (c.loop-from.invariant.0, moved_more c.args.part.now c.args.at c.args.n c.loop-from.invariant.0 c.loop-from.invariant.1 c.loop-from-test.true)
