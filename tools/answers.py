@@ -119,7 +119,8 @@ class Fields:
                 out.append({"left": "false", "taken": "true"}[p])
             elif out and out[-1].startswith("in_default") and p == "rest":
                 out += [out[-1] + "-own", "rest"]
-            elif (out[-1] if out else last) in ("args", "ensures", "new", "ranges", "type_inv", "invariant"):
+            elif out or last not in ("", "c"):
+                # below a step its own fields' names stand
                 out.append(p)
             else:
                 out.append(self.to.get(self.key(p), p))
@@ -249,9 +250,9 @@ def invariants(ds, info, crate, place):
             words = {}
             for p in params:
                 if p.endswith("₀"):
-                    words[p] = "l.initial." + p[:-1]
+                    words[p] = "l.initial." + p[:-1].replace("-", "_")
                 else:
-                    words[p] = "l." + p
+                    words[p] = "l." + p.replace("-", "_")
             right = re.sub(r"(?<![\w.'?-])([A-Za-z_][\w'-]*₀?)(?![\w'-])", lambda m: words.get(m[1], m[1]), right)
             out.append(f"abbrev pub {kind}-{new} : goal.{kind}-{new}\n{unfolding}{kind}-{new} l ={right}")
     return out

@@ -4,7 +4,6 @@ use Rattle.basics.specs.Lists.{bit}
 use Rattle.basics.specs.Find.{all_below}
 use Rattle.rules.specs.Text.{decimal, space}
 use Rattle.text.specs.Put.{Put}
-use Rattle.tables.specs.Lent.{Over}
 
 -- "Each number .. is followed by a space"; "Numbers are plain decimal"
 unfoldable pub columns : List ℕ → List ℕ
@@ -29,6 +28,6 @@ same_list xs ys = eqb (length xs) (length ys) && all_below (length xs) (λ k. eq
 abbrev pub told : Bool → List ℕ → List ℕ
 told b xs = if b xs []
 
--- these numbers are told at a place of the lent text, and end at r
-abbrev pub PutNumbers : Over → ℕ → List ℕ → ℕ → Type 0
-PutNumbers out at xs r = Put out.entry.now at (columns xs) out.exit.now r
+-- these numbers are told at a place of text xs, which is now ys, and end at r
+abbrev pub PutNumbers : List ℕ → ℕ → List ℕ → List ℕ → ℕ → Type 0
+PutNumbers xs at numbers ys r = Put xs at (columns numbers) ys r

@@ -37,7 +37,7 @@ fn put_thread(out: &mut Text, at: usize, thread: Thread) -> usize
 
 // The call as it was asked.
 fn put_asked(out: &mut Text, at: usize, asked: Call) -> usize
-    ensures { PutNumbers out at (asked.number ∷ asked.a ∷ asked.b ∷ asked.c ∷ asked.d ∷ []) result }
+    ensures { PutNumbers out.old at (asked.number ∷ asked.a ∷ asked.b ∷ asked.c ∷ asked.d ∷ []) out.new result }
 {
     let a = put(out, at, asked.number);
     let b = put(out, a, asked.a);
@@ -48,7 +48,7 @@ fn put_asked(out: &mut Text, at: usize, asked: Call) -> usize
 
 // Its answer.
 fn put_answer(out: &mut Text, at: usize, answer: Answer) -> usize
-    ensures { PutNumbers out at (answer.code ∷ answer.outcome ∷ answer.value ∷ []) result }
+    ensures { PutNumbers out.old at (answer.code ∷ answer.outcome ∷ answer.value ∷ []) out.new result }
 {
     let outcome = put(out, at, answer.code);
     let value = put(out, outcome, answer.outcome);

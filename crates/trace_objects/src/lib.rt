@@ -21,7 +21,7 @@ use trace_put::{bit, put, put_long, put_row, put_small, put_waiting, same_line, 
 
 // A row's number and its words.
 fn put_object(out: &mut Text, at: usize, t: &[u32], w: u8, n: u8, i: u8) -> usize
-    ensures { PutNumbers out at (i ∷ row w n t.now i) result }
+    ensures { PutNumbers out.old at (i ∷ row w n t.now i) out.new result }
 {
     let p = put_small(out, at, i);
     put_row(out, p, t, w, n, i)
@@ -37,7 +37,7 @@ fn put_if_changed(
     n: u8,
     i: u8,
 ) -> usize
-    ensures { PutNumbers out at (told (not (same_row w n before.now t.now i)) (i ∷ row w n t.now i)) result }
+    ensures { PutNumbers out.old at (told (not (same_row w n before.now t.now i)) (i ∷ row w n t.now i)) out.new result }
 {
     if same_row(before, t, w, n, i) {
         return at;
@@ -47,7 +47,7 @@ fn put_if_changed(
 
 // Of n rows of w words, those that changed.
 pub fn put_rows(out: &mut Text, at: usize, before: &[u32], t: &[u32], w: u8, n: u8) -> usize
-    ensures { PutNumbers out at (changed_rows w n before.now t.now) result }
+    ensures { PutNumbers out.old at (changed_rows w n before.now t.now) out.new result }
 {
     let mut p = at;
     let mut i: u8 = 0;
@@ -73,9 +73,9 @@ fn put_lined_if_changed(
     from: u8,
     i: u8,
 ) -> usize
-    ensures { PutNumbers out at
+    ensures { PutNumbers out.old at
         (told (not (same_row w n before.now t.now i && same_list (line lines_before.now (from + i)) (line lines.now (from + i))))
-        (i ∷ (row w n t.now i ++ waiting lines.now (from + i)))) result }
+        (i ∷ (row w n t.now i ++ waiting lines.now (from + i)))) out.new result }
 {
     let j = basics::wide(from) + basics::wide(i);
     if same_row(before, t, w, n, i) & same_line(lines_before, lines, j) {
@@ -97,7 +97,7 @@ pub fn put_lined(
     lines: &Lines,
     from: u8,
 ) -> usize
-    ensures { PutNumbers out at (changed_lined w n from before.now lines_before.now t.now lines.now) result }
+    ensures { PutNumbers out.old at (changed_lined w n from before.now lines_before.now t.now lines.now) out.new result }
 {
     let mut p = at;
     let mut i: u8 = 0;
@@ -112,7 +112,7 @@ pub fn put_lined(
 
 // The messages of mailbox i, the oldest first.
 fn put_messages(out: &mut Text, at: usize, mailboxes: &Mailboxes, i: usize) -> usize
-    ensures { PutNumbers out at (messages mailboxes.now i) result }
+    ensures { PutNumbers out.old at (messages mailboxes.now i) out.new result }
 {
     let n = mailboxes::messages::count(mailboxes, i);
     let mut p = at;
@@ -125,7 +125,7 @@ fn put_messages(out: &mut Text, at: usize, mailboxes: &Mailboxes, i: usize) -> u
 }
 
 fn put_mailbox(out: &mut Text, at: usize, mailboxes: &Mailboxes, lines: &Lines, i: u8) -> usize
-    ensures { PutNumbers out at (mailbox_numbers mailboxes.now lines.now i) result }
+    ensures { PutNumbers out.old at (mailbox_numbers mailboxes.now lines.now i) out.new result }
 {
     let n = basics::wide(i);
     let capacity = put_small(out, at, i);
@@ -158,8 +158,8 @@ fn put_mailbox_if_changed(
     lines: &Lines,
     i: u8,
 ) -> usize
-    ensures { PutNumbers out at
-        (told (not (same_mailbox before.now lines_before.now mailboxes.now lines.now i)) (mailbox_numbers mailboxes.now lines.now i)) result }
+    ensures { PutNumbers out.old at
+        (told (not (same_mailbox before.now lines_before.now mailboxes.now lines.now i)) (mailbox_numbers mailboxes.now lines.now i)) out.new result }
 {
     if same_mailbox(before, lines_before, mailboxes, lines, i) {
         return at;
@@ -175,7 +175,7 @@ pub fn put_mailboxes(
     mailboxes: &Mailboxes,
     lines: &Lines,
 ) -> usize
-    ensures { PutNumbers out at (changed_mailboxes before.now lines_before.now mailboxes.now lines.now) result }
+    ensures { PutNumbers out.old at (changed_mailboxes before.now lines_before.now mailboxes.now lines.now) out.new result }
 {
     let mut p = at;
     let mut i: u8 = 0;
@@ -190,7 +190,7 @@ pub fn put_mailboxes(
 
 // Clock i as it is now, if it ran out.
 fn put_if_ran_out(out: &mut Text, at: usize, before: &Clocks, clocks: &Clocks, i: u8) -> usize
-    ensures { PutNumbers out at (told (runs_out before.now i) (i ∷ row 5 16 clocks.now i)) result }
+    ensures { PutNumbers out.old at (told (runs_out before.now i) (i ∷ row 5 16 clocks.now i)) out.new result }
 {
     if trace_put::runs_out(rows::clock(before, basics::wide(i))) {
         return put_object(out, at, clocks, CLOCK_WIDTH_U8, CLOCK_ROWS_U8, i);
@@ -200,7 +200,7 @@ fn put_if_ran_out(out: &mut Text, at: usize, before: &Clocks, clocks: &Clocks, i
 
 // The clocks that ran out.
 fn put_ran_out(out: &mut Text, at: usize, before: &Clocks, clocks: &Clocks) -> usize
-    ensures { PutNumbers out at (ran_out before.now clocks.now) result }
+    ensures { PutNumbers out.old at (ran_out before.now clocks.now) out.new result }
 {
     let mut p = at;
     let mut i: u8 = 0;
@@ -212,7 +212,7 @@ fn put_ran_out(out: &mut Text, at: usize, before: &Clocks, clocks: &Clocks) -> u
 }
 
 pub fn put_clocks(out: &mut Text, at: usize, made: Made, before: &Clocks, clocks: &Clocks) -> usize
-    ensures { PutNumbers out at (changed_clocks made before.now clocks.now) result }
+    ensures { PutNumbers out.old at (changed_clocks made before.now clocks.now) out.new result }
 {
     let answer = made.answer;
     let asked = made.asked;
@@ -250,7 +250,7 @@ fn count_units(heap: &Heap, e: u8) -> usize
 }
 
 pub fn put_heap(out: &mut Text, at: usize, before: &Heap, heap: &Heap) -> usize
-    ensures { PutNumbers out at (changed_heap before.now heap.now) result }
+    ensures { PutNumbers out.old at (changed_heap before.now heap.now) out.new result }
 {
     if same_heap(before, heap) {
         return at;

@@ -16,21 +16,21 @@ use text::Text;
 
 // One number.
 pub fn put_long(out: &mut Text, at: usize, n: u64) -> usize
-    ensures { PutNumbers out at (n ∷ []) result }
+    ensures { PutNumbers out.old at (n ∷ []) out.new result }
 {
     text::put_column(out, at, n)
 }
 
 // The same of a word.
 pub fn put(out: &mut Text, at: usize, n: u32) -> usize
-    ensures { PutNumbers out at (n ∷ []) result }
+    ensures { PutNumbers out.old at (n ∷ []) out.new result }
 {
     put_long(out, at, n as u64)
 }
 
 // The same of a byte.
 pub fn put_small(out: &mut Text, at: usize, n: u8) -> usize
-    ensures { PutNumbers out at (n ∷ []) result }
+    ensures { PutNumbers out.old at (n ∷ []) out.new result }
 {
     put_long(out, at, n as u64)
 }
@@ -60,7 +60,7 @@ fn field(t: &[u32], w: u8, n: u8, i: u8, f: u8) -> u32
 
 // A row's words.
 pub fn put_row(out: &mut Text, at: usize, t: &[u32], w: u8, n: u8, i: u8) -> usize
-    ensures { PutNumbers out at (row w n t.now i) result }
+    ensures { PutNumbers out.old at (row w n t.now i) out.new result }
 {
     let mut p = at;
     let mut f: u8 = 0;
@@ -86,7 +86,7 @@ pub fn same_row(t: &[u32], u: &[u32], w: u8, n: u8, i: u8) -> bool
 
 // Those who stand in line j.
 pub fn put_line(out: &mut Text, at: usize, lines: &Lines, j: usize) -> usize
-    ensures { PutNumbers out at (line lines.now j) result }
+    ensures { PutNumbers out.old at (line lines.now j) out.new result }
 {
     let n = lines::len(lines, j);
     let mut p = at;
@@ -100,7 +100,7 @@ pub fn put_line(out: &mut Text, at: usize, lines: &Lines, j: usize) -> usize
 
 // How many stand in line j, and who.
 pub fn put_waiting(out: &mut Text, at: usize, lines: &Lines, j: usize) -> usize
-    ensures { PutNumbers out at (waiting lines.now j) result }
+    ensures { PutNumbers out.old at (waiting lines.now j) out.new result }
 {
     let p = put_long(out, at, lines::len(lines, j) as u64);
     put_line(out, p, lines, j)

@@ -19,7 +19,7 @@ use trace_put::{bit, put, put_line, put_long, put_small, runs_out};
 // ---- the state
 
 pub fn put_state(out: &mut Text, at: usize, state: &State) -> usize
-    ensures { PutNumbers out at (state_now state.now) result }
+    ensures { PutNumbers out.old at (state_now state.now) out.new result }
 {
     let p = put(out, at, state[DEPTH]);
     let q = put(out, p, state[rules::numbers::SWIS]);
@@ -43,7 +43,7 @@ fn same_task(k: Task, l: Task) -> bool
 }
 
 fn put_task(out: &mut Text, at: usize, i: usize, k: Task) -> usize
-    ensures { PutNumbers out at (task_numbers i k) result }
+    ensures { PutNumbers out.old at (task_numbers i k) out.new result }
 {
     let mode = put_long(out, at, i as u64);
     let priority = put(out, mode, k.mode);
@@ -56,7 +56,7 @@ fn put_task(out: &mut Text, at: usize, i: usize, k: Task) -> usize
 
 // Task i, if it changed.
 fn put_if_changed(out: &mut Text, at: usize, before: &Tasks, tasks: &Tasks, i: usize) -> usize
-    ensures { PutNumbers out at (told (not (same_task (task before.now i) (task tasks.now i))) (task_numbers i (task tasks.now i))) result }
+    ensures { PutNumbers out.old at (told (not (same_task (task before.now i) (task tasks.now i))) (task_numbers i (task tasks.now i))) out.new result }
 {
     let k = rows::task(tasks, i);
     if same_task(rows::task(before, i), k) {
@@ -66,7 +66,7 @@ fn put_if_changed(out: &mut Text, at: usize, before: &Tasks, tasks: &Tasks, i: u
 }
 
 pub fn put_tasks(out: &mut Text, at: usize, before: &Tasks, tasks: &Tasks) -> usize
-    ensures { PutNumbers out at (changed_tasks before.now tasks.now) result }
+    ensures { PutNumbers out.old at (changed_tasks before.now tasks.now) out.new result }
 {
     let mut p = at;
     let mut i = 0;
@@ -81,7 +81,7 @@ pub fn put_tasks(out: &mut Text, at: usize, before: &Tasks, tasks: &Tasks) -> us
 
 // A post: the clock, the Swi, and whether it was posted already.
 fn put_post(out: &mut Text, at: usize, c: u32, i: u32, already: bool) -> usize
-    ensures { PutNumbers out at (post c i already) result }
+    ensures { PutNumbers out.old at (post c i already) out.new result }
 {
     let p = put(out, at, c);
     let q = put(out, p, i);
@@ -107,7 +107,7 @@ fn call_posts(swis: &Swis, number: u32, a: u32, b: u32) -> bool
 }
 
 fn put_call_post(out: &mut Text, at: usize, swis: &Swis, number: u32, a: u32, b: u32) -> usize
-    ensures { PutNumbers out at (call_post swis.now number a b) result }
+    ensures { PutNumbers out.old at (call_post swis.now number a b) out.new result }
 {
     if call_posts(swis, number, a, b) {
         return put_post(out, at, 16, a, is_posted(swis, a));
@@ -131,7 +131,7 @@ fn posted_below(clocks: &Clocks, i: u32, c: u32) -> bool
 
 // The post of clock c, if it runs out.
 fn put_clock_post(out: &mut Text, at: usize, clocks: &Clocks, swis: &Swis, c: u32) -> usize
-    ensures { PutNumbers out at (clock_post clocks.now swis.now c) result }
+    ensures { PutNumbers out.old at (clock_post clocks.now swis.now c) out.new result }
 {
     let k = rows::clock(clocks, basics::index(c));
     if runs_out(k) {
@@ -142,7 +142,7 @@ fn put_clock_post(out: &mut Text, at: usize, clocks: &Clocks, swis: &Swis, c: u3
 }
 
 fn put_clock_posts(out: &mut Text, at: usize, clocks: &Clocks, swis: &Swis) -> usize
-    ensures { PutNumbers out at (clock_posts clocks.now swis.now) result }
+    ensures { PutNumbers out.old at (clock_posts clocks.now swis.now) out.new result }
 {
     let mut p = at;
     let mut c: u32 = 0;
@@ -161,7 +161,7 @@ pub fn put_posts<'a>(
     clocks: &'a Clocks,
     swis: &'a Swis,
 ) -> usize
-    ensures { PutNumbers out at (posts_made made clocks.now swis.now) result }
+    ensures { PutNumbers out.old at (posts_made made clocks.now swis.now) out.new result }
 {
     let answer = made.answer;
     if answer.code != 0 {
@@ -187,7 +187,7 @@ fn is_started(made: Made, before: &Lines, lines: &Lines) -> bool
 }
 
 pub fn put_started(out: &mut Text, at: usize, made: Made, before: &Lines, lines: &Lines) -> usize
-    ensures { PutNumbers out at (started_swi made before.now lines.now) result }
+    ensures { PutNumbers out.old at (started_swi made before.now lines.now) out.new result }
 {
     if is_started(made, before, lines) {
         return put_small(out, at, lines::top(lines));
@@ -197,7 +197,7 @@ pub fn put_started(out: &mut Text, at: usize, made: Made, before: &Lines, lines:
 
 // The posted Swis, the highest priority first.
 pub fn put_posted(out: &mut Text, at: usize, lines: &Lines) -> usize
-    ensures { PutNumbers out at (posted_swis lines.now) result }
+    ensures { PutNumbers out.old at (posted_swis lines.now) out.new result }
 {
     let mut p = at;
     let mut k = 0;

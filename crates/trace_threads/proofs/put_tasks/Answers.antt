@@ -1,0 +1,21 @@
+-- `put_tasks` meets its contract: the invariant is that the tasks so far are told.
+use Prim.Native.Nat.{◌-◌, ◌≤◌}
+use mathlib.Core.Bool.{not}
+use Rattle.rules.specs.Tables.{task, task_count}
+use Rattle.text.specs.Put.{Put}
+use Rattle.trace_changes.specs.Numbers.{columns, each_below, told}
+use Rattle.trace_changes.specs.Changes.{same_task, task_numbers, changed_tasks}
+use Rattle.trace_changes.proofs.Telling.{each_none, each_next, each-end}
+use Rattle.std.proofs.Common.{rules}
+use Rattle.trace_threads.proofs.put_tasks.Goals as goal
+
+pub loop-i-init : goal.loop-i-init
+loop-i-init c = (search rules, each_none _)
+
+pub loop-i-preserved : goal.loop-i-preserved
+loop-i-preserved c =
+    (search rules, each_next _ c.loop-i.i c.loop-i.invariant.1 c.put_if_changed-p.ensures)
+
+pub returns : goal.returns
+unfolding changed_tasks
+returns c = each-end _ c.loop-i.i c.loop-i.invariant.1 task_count c.loop-i.invariant.0 c.loop-i-test.false
