@@ -6,7 +6,7 @@ ghost use Rattle.call_log.specs.Part.{PartAt};
 use rules::Read;
 
 // What stands at a position, and the position after it.
-#[derive(Drop)]
+#[derive(Clone, Copy)]
 pub struct Step {
     pub found: Read,
     pub at: usize,
@@ -31,7 +31,7 @@ pub fn step_at(log: &[u8], at: usize) -> Step
     step_in(log, at, super::version_of(log))
 }
 
-#[derive(Drop)]
+#[derive(Clone, Copy)]
 pub struct Reader<'a> {
     pub log: &'a [u8],
     pub at: usize,

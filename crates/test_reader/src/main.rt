@@ -21,7 +21,7 @@ fn start_of(found: Read) -> usize
 }
 
 // How many bytes were handed out, and the four arguments in them.
-#[derive(Drop)]
+#[derive(Clone, Copy)]
 struct Arguments {
     len: usize,
     a: u32,
@@ -43,7 +43,7 @@ fn arguments_in(bytes: &[u8]) -> Arguments
 }
 
 // What a reader of a log finds at its first three reads, what it hands out after each of the first two, and its position in the end.
-#[derive(Drop)]
+#[derive(Clone, Copy)]
 struct Walked {
     first: Read,
     one: Arguments,
