@@ -1,5 +1,5 @@
 -- Without room for three words nothing is written; with it the three are stored one after the other.
-use Rattle.call_lists.proofs.Leaves.{no_room, second-inside, third-inside, stored}
+use Rattle.call_lists.proofs.Leaves.{no_room, stored}
 use Rattle.call_lists.proofs.put_answer.Goals as goal
 
 pub returns-then-answers-i : goal.returns-then-answers-i

@@ -1,7 +1,7 @@
 -- `call_log::arguments` meets its contract: each `return` hands out what `handed_out` says past the tests before it.
 -- The last one hands it out where it lies.
 -- At the others sixteen bytes are not there.
-use Rattle.std.proofs.Common.{refl, arith, rules}
+use Rattle.std.proofs.Common.{refl, arith}
 use Rattle.call_log.proofs.Records.{past-empty, short-empty, sixteen-is}
 use Rattle.call_log.proofs.arguments.Goals as goal
 

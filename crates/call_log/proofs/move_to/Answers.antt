@@ -1,6 +1,6 @@
 -- `call_log::move_to` meets its contract: each arm answers by what its variant holds, and a position is below 2 to the 64.
 use Rattle.rules.specs.Log.{move_to}
-use Rattle.std.proofs.Common.{arith, rules}
+use Rattle.std.proofs.Common.{arith}
 use Rattle.call_log.proofs.move_to.Goals as goal
 
 pub returns-in-Record : goal.returns-in-Record

@@ -1,5 +1,5 @@
 -- `read_in` meets its contract: its tests are those of `read_in`, in their order
-use Rattle.std.proofs.Common.{◌≡◌, sym, ◌∙◌, rules}
+use Rattle.std.proofs.Common.{◌≡◌, sym, ◌∙◌}
 use Rattle.rules.specs.Log.{half_at}
 use Rattle.call_log.proofs.Records.{past_is, end_is, one-left-is, length-is, short-is, version-is, record_is}
 use Rattle.call_log.proofs.read_in.Goals as goal

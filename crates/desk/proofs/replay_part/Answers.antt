@@ -1,7 +1,7 @@
 -- `desk::replay_part` meets its contract: a log that begins sets the levels and leaves safe tables; the text so far and what is still to come is all, each
 -- read comes nearer to the end and keeps the tables safe; what the records of all bytes leave is what the turn's definition says, their text fits, and
 -- the rest is in front.
-use Rattle.std.proofs.Common.{◌≡◌, ℕ, false, not, eqb, List, length}
+use Rattle.std.proofs.Common.{ℕ, false, eqb, List}
 use borrow.Author.Tests.{not-true, not-false}
 use Rattle.rules.specs.Tables.{tables}
 use Rattle.rules.specs.declared.Tables.{Tables}
@@ -48,9 +48,9 @@ returns c =
     let left : Tables = tables l.tasks l.lines l.semaphores l.events l.mailboxes l.swis l.clocks l.heap l.state in
     let went : PartLeaves (part_of (eqb a.more 0) s a.p.offset a.p.count began) s a.p.offset left a.out.now l.out l.ran =
     elim c.loop-ran-test.branch [
-      then-loop-ran-test+else-more-log w ↦
-      sofar-waits (eqb a.more 0) s a.p.offset a.p.count began a.out.now sofar (not-true _ w.loop-ran-test.true) w.if-more-log.false
-    | else-loop-ran-test w ↦ sofar-ended (eqb a.more 0) s a.p.offset a.p.count began a.out.now sofar (not-false _ w.loop-ran-test.false)
+      | then-loop-ran-test+else-more-log w ↦
+          sofar-waits (eqb a.more 0) s a.p.offset a.p.count began a.out.now sofar (not-true _ w.loop-ran-test.true) w.if-more-log.false
+      | else-loop-ran-test w ↦ sofar-ended (eqb a.more 0) s a.p.offset a.p.count began a.out.now sofar (not-false _ w.loop-ran-test.false)
     ] in
     record {
       turns =

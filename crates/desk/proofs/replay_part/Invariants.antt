@@ -1,15 +1,11 @@
 -- `desk::replay_part` meets its contract: a log that begins sets the levels and leaves safe tables; the text so far and what is still to come is all, each
 -- read comes nearer to the end and keeps the tables safe; what the records of all bytes leave is what the turn's definition says, their text fits, and
 -- the rest is in front.
-use Rattle.std.proofs.Common.{◌≡◌, ℕ, ◌+◌, ◌-◌, false, not, eqb, List, length, ⊎_elim, rules}
-use borrow.Author.Tests.{not-true, not-false}
+use Rattle.std.proofs.Common.{◌+◌, ◌-◌, not, eqb, length}
 use Rattle.basics.specs.Lists.{bit}
 use Rattle.rules.specs.Tables.{tables}
-use Rattle.rules.specs.declared.Tables.{Tables}
 use Rattle.kernel.specs.Safe.{Safe}
-use Rattle.tables.specs.Lent.{lent}
-use Rattle.desk_reads.proofs.Beginning.{begun-safe}
-use Rattle.desk.proofs.Going.{Sofar, sofar-none, sofar-next, sofar-less, sofar-ended, sofar-waits, turned}
+use Rattle.desk.proofs.Going.{Sofar}
 use Rattle.desk.proofs.replay_part.Given as goal
 
 abbrev pub invariant-loop-ran : goal.invariant-loop-ran

@@ -1,6 +1,6 @@
 -- `to_front` meets its contract: a byte is moved to a place before its own, and those that are moved so far stand in front.
-use Rattle.std.proofs.Common.{◌≡◌, ◌-◌, min, length, arith, rules}
-use Rattle.desk.proofs.Moved.{Moved, moved_none, moved-size, moved_more, moved_all}
+use Rattle.std.proofs.Common.{◌-◌}
+use Rattle.desk.proofs.Moved.{moved_more}
 use Rattle.desk.proofs.to_front.Goals as goal
 
 pub loop-from-preserved : goal.loop-from-preserved

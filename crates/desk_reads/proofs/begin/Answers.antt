@@ -1,5 +1,4 @@
 -- `begin` meets its contract: by its test
-use Rattle.std.proofs.Common.{rules}
 use Rattle.desk_parts.specs.Part.{begun_state}
 use Rattle.desk_reads.proofs.begin.Goals as goal
 

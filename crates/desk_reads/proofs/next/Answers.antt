@@ -1,5 +1,5 @@
 -- `next` meets its contract: what is read with the version that the tables tell is a record, whose call is `step`, or nothing is called
-use Rattle.std.proofs.Common.{◌≡◌, rules}
+use Rattle.std.proofs.Common.{◌≡◌}
 use Rattle.rules.specs.Log.{read_in}
 use Rattle.rules.specs.Tables.{tables}
 use Rattle.rules.specs.declared.Tables.{Tables}

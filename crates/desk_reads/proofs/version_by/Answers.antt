@@ -1,5 +1,5 @@
 -- `version_by` meets its contract: by the levels
-use Rattle.std.proofs.Common.{rules, eq-eqb, ne_eqb}
+use Rattle.std.proofs.Common.{eq-eqb, ne_eqb}
 use Rattle.desk_parts.specs.Part.{version_by}
 use Rattle.desk_reads.proofs.version_by.Goals as goal
 

@@ -1,14 +1,11 @@
 -- `desk_whole::replay_log` meets its contract: the texts so far, and what is written for the rest of the log, are the text of the whole log; each turn takes
 -- from the rest, and the one for which nothing came ends the replay.
-use Prim.Native.Nat.{◌+◌, ◌-◌, ◌^◌, ◌<◌}
-use mathlib.Core.Path.{◌≡◌, refl}
-use mathlib.Core.Bool.{false, not}
+use Prim.Native.Nat.{◌-◌, ◌^◌, ◌<◌}
+use mathlib.Core.Path.{refl}
+use mathlib.Core.Bool.{false}
 use native.Mathlib.Omega.{arith}
 use lib.ListN.{length}
 use borrow.Author.Tests.{not-true, not-false}
-use Rattle.basics.specs.Lists.{bit}
-use Rattle.rules.specs.Tables.{tables}
-use Rattle.kernel.specs.Safe.{Safe}
 use Rattle.entries.proofs.Starts.{few-fresh}
 use Rattle.desk_whole.proofs.Parts.{sofar-none, sofar-next, sofar-less, sofar-all, further}
 use Rattle.desk_whole.proofs.replay_log.Goals as goal

@@ -1,4 +1,4 @@
-use Rattle.dispatch_after.proofs.ByParts.{swis-done, swis-left}
+use Rattle.dispatch_after.proofs.ByParts.{swis-left}
 use Rattle.dispatch_after.proofs.settle_swis.Goals as goal
 
 pub returns-else-some-state : goal.returns-else-some-state

@@ -1,11 +1,7 @@
 -- Each turn of the loop makes the call in front of those that are left (`call_lists/proofs/Making`); when none is left all are made.
 use Prim.Native.Nat.{◌-◌}
-use mathlib.Core.Path.{◌≡◌, refl}
-use lib.ListN.{length}
 use native.Mathlib.Omega.{arith}
-use Rattle.rules.specs.Tables.{tables}
-use Rattle.call_lists.proofs.Making.{Making, none_made, one_more, list-made}
-use Rattle.runs.specs.CallList.{calls_in}
+use Rattle.call_lists.proofs.Making.{one_more, list-made}
 use Rattle.entries.proofs.make_calls.Goals as goal
 
 pub loop-i-preserved : goal.loop-i-preserved

@@ -1,10 +1,9 @@
 -- Each turn of the loop makes the call in front of those that are left (`call_lists/proofs/Making`); when none is left all are made.
 use Prim.Native.Nat.{◌-◌}
-use mathlib.Core.Path.{◌≡◌, refl}
+use mathlib.Core.Path.{◌≡◌}
 use lib.ListN.{length}
-use native.Mathlib.Omega.{arith}
 use Rattle.rules.specs.Tables.{tables}
-use Rattle.call_lists.proofs.Making.{Making, none_made, one_more, list-made}
+use Rattle.call_lists.proofs.Making.{Making}
 use Rattle.runs.specs.CallList.{calls_in}
 use Rattle.entries.proofs.make_calls.Given as goal
 

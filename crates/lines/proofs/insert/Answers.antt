@@ -1,11 +1,11 @@
 -- `insert` meets its contract: those from the place on are shifted back one by one, each carried to the next; a full line and no line stay.
-use Rattle.rules.specs.Lines.{line_count, line_most, line_width}
-use Prim.Native.Nat.{◌-◌, ◌*◌, ◌<◌}
-use mathlib.Core.Path.{◌≡◌, refl, ◌∙◌}
+use Rattle.rules.specs.Lines.{line_most, line_width}
+use Prim.Native.Nat.{◌*◌, ◌<◌}
+use mathlib.Core.Path.{refl, ◌∙◌}
 use native.Mathlib.Omega.{arith}
 use lib.ListN.{length}
 use Rattle.rules.specs.Rows.{listed}
-use Rattle.rules_laws.proofs.InPlace.{Shifted, shifted_none, shifted-more}
+use Rattle.rules_laws.proofs.InPlace.{shifted_none, shifted-more}
 use Rattle.lines.proofs.InLine.{room-length, insert-is, full_is, entered-past}
 use Rattle.lines.proofs.insert.Goals as goal
 

@@ -1,12 +1,10 @@
 -- `insert` meets its contract: those from the place on are shifted back one by one, each carried to the next; a full line and no line stay.
 use Rattle.rules.specs.Lines.{line_count, line_most, line_width}
 use Prim.Native.Nat.{◌-◌, ◌*◌, ◌<◌}
-use mathlib.Core.Path.{◌≡◌, refl, ◌∙◌}
-use native.Mathlib.Omega.{arith}
+use mathlib.Core.Path.{◌≡◌}
 use lib.ListN.{length}
 use Rattle.rules.specs.Rows.{listed}
-use Rattle.rules_laws.proofs.InPlace.{Shifted, shifted_none, shifted-more}
-use Rattle.lines.proofs.InLine.{room-length, insert-is, full_is, entered-past}
+use Rattle.rules_laws.proofs.InPlace.{Shifted}
 use Rattle.lines.proofs.insert.Given as goal
 
 abbrev pub invariant-loop-k : goal.invariant-loop-k

@@ -1,13 +1,12 @@
 -- `leave` meets its contract: of those passed, all but x stand again from the front on; at the end that is the line without x.
-use Rattle.rules.specs.Lines.{line_count, line_most, line_width}
-use Prim.Native.Nat.{◌-◌, ◌*◌, ◌≤◌, ◌<◌}
-use mathlib.Core.Path.{◌≡◌, sym, ◌∙◌}
-use mathlib.Core.Logic.{⊎_elim}
+use Rattle.rules.specs.Lines.{line_most, line_width}
+use Prim.Native.Nat.{◌*◌, ◌<◌}
+use mathlib.Core.Path.{sym, ◌∙◌}
 use native.Mathlib.Omega.{arith}
 use lib.ListN.{length}
 use Rattle.rules.specs.Rows.{listed}
 use Rattle.rules_laws.proofs.Listed.{listed_le}
-use Rattle.rules_laws.proofs.InPlace.{Kept, kept-none, kept_read, turn-kept, turn-left}
+use Rattle.rules_laws.proofs.InPlace.{kept-none, kept_read, turn-kept, turn-left}
 use Rattle.lines.proofs.InLine.{listed-len, left_is, left-past}
 use Rattle.lines.proofs.leave.Goals as goal
 use Rattle.lines.proofs.leave.Goals.{then-y-x, else-y-x}

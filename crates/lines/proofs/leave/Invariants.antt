@@ -1,14 +1,10 @@
 -- `leave` meets its contract: of those passed, all but x stand again from the front on; at the end that is the line without x.
 use Rattle.rules.specs.Lines.{line_count, line_most, line_width}
 use Prim.Native.Nat.{◌-◌, ◌*◌, ◌≤◌, ◌<◌}
-use mathlib.Core.Path.{◌≡◌, sym, ◌∙◌}
-use mathlib.Core.Logic.{⊎_elim}
-use native.Mathlib.Omega.{arith}
+use mathlib.Core.Path.{◌≡◌}
 use lib.ListN.{length}
 use Rattle.rules.specs.Rows.{listed}
-use Rattle.rules_laws.proofs.Listed.{listed_le}
-use Rattle.rules_laws.proofs.InPlace.{Kept, kept-none, kept_read, turn-kept, turn-left}
-use Rattle.lines.proofs.InLine.{listed-len, left_is, left-past}
+use Rattle.rules_laws.proofs.InPlace.{Kept}
 use Rattle.lines.proofs.leave.Given as goal
 
 abbrev pub invariant-loop-k : goal.invariant-loop-k

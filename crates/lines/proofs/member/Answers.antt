@@ -1,8 +1,5 @@
 -- `member` meets its contract: one who stands in a line has a row and a place in it; past the last the list has a 0.
-use mathlib.Core.Path.{sym}
 use native.Mathlib.Omega.{arith}
-use lib.ListN.{get_or-eq_default}
-use Rattle.rules.specs.Lines.{line}
 use Rattle.lines.proofs.InLine.{in_row, member_is}
 use Rattle.lines.proofs.member.Goals as goal
 

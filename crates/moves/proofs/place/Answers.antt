@@ -1,10 +1,7 @@
 -- `place` meets its contract: those passed are of no lower priority than p, so the first who is of lower priority is found, or nobody is.
-use Prim.Native.Nat.{◌+◌, ◌-◌, ◌≤◌}
-use mathlib.Core.Path.{◌≡◌, sym, ◌∙◌}
+use mathlib.Core.Path.{sym, ◌∙◌}
 use native.Mathlib.Omega.{arith}
-use lib.ListN.{length, drop}
 use Rattle.rules.specs.Lines.{line, is_lower}
-use Rattle.basics.specs.Lists.{first_where}
 use Rattle.basics.proofs.Laws.{found, passed, ended}
 use Rattle.moves.proofs.Steps.{lower, not_lower}
 use Rattle.moves.proofs.place.Goals as goal

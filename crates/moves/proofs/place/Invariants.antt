@@ -1,12 +1,9 @@
 -- `place` meets its contract: those passed are of no lower priority than p, so the first who is of lower priority is found, or nobody is.
 use Prim.Native.Nat.{◌+◌, ◌-◌, ◌≤◌}
-use mathlib.Core.Path.{◌≡◌, sym, ◌∙◌}
-use native.Mathlib.Omega.{arith}
+use mathlib.Core.Path.{◌≡◌}
 use lib.ListN.{length, drop}
 use Rattle.rules.specs.Lines.{line, is_lower}
 use Rattle.basics.specs.Lists.{first_where}
-use Rattle.basics.proofs.Laws.{found, passed, ended}
-use Rattle.moves.proofs.Steps.{lower, not_lower}
 use Rattle.moves.proofs.place.Given as goal
 
 abbrev pub invariant-loop-k : goal.invariant-loop-k

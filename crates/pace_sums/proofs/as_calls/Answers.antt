@@ -1,8 +1,6 @@
 -- `pace_sums::as_calls` meets its contract: after k turns the words of the first k records stand one behind the other.
-use Rattle.std.proofs.Common.{◌≡◌, ◌-◌, ◌≤◌, inl, inr, rules}
-use lib.Seq.{sets}
-use Rattle.pace_sums.specs.Pace.{call_words}
-use Rattle.pace_sums.proofs.Words.{no_words, next-words, all_words}
+use Rattle.std.proofs.Common.{◌-◌, rules}
+use Rattle.pace_sums.proofs.Words.{no_words, next-words}
 use Rattle.std.proofs.Common.{rules}
 use Rattle.pace_sums.proofs.as_calls.Goals as goal
 

@@ -1,4 +1,4 @@
-use Rattle.std.proofs.Common.{get_or, refl, rules}
+use Rattle.std.proofs.Common.{get_or, refl}
 use Rattle.pace_sums.proofs.Words.{rounds-none, rounds-by, rounds-other}
 use Rattle.pace_sums.proofs.rounds_for.Goals as goal
 

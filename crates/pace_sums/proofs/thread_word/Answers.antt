@@ -1,5 +1,4 @@
 use Rattle.pace_sums.specs.Pace.{thread_word}
-use Rattle.std.proofs.Common.{rules}
 use Rattle.pace_sums.proofs.thread_word.Goals as goal
 
 pub returns-in-Task : goal.returns-in-Task

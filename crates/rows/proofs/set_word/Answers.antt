@@ -1,7 +1,6 @@
 -- `set_word` meets its contract: a row's number and its width are bytes, so its place is a number; where there is none nothing is stored.
 use mathlib.Core.Path.{refl}
-use native.Mathlib.Omega.{arith}
-use Rattle.rows.proofs.Words.{in_row, stored-in, stored-behind, stored-no-word, stored-no-row}
+use Rattle.rows.proofs.Words.{stored-in, stored-behind, stored-no-word, stored-no-row}
 use Rattle.rows.proofs.set_word.Goals as goal
 
 pub returns-then-k-t : goal.returns-then-k-t

@@ -1,7 +1,6 @@
 -- `word` meets its contract: a row's number and its width are bytes, so its place is a number; where there is none it is 0.
 use mathlib.Core.Path.{refl}
-use native.Mathlib.Omega.{arith}
-use Rattle.rows.proofs.Words.{in_row, read, read_behind, read-no-word, read-no-row}
+use Rattle.rows.proofs.Words.{read, read_behind, read-no-word, read-no-row}
 use Rattle.rows.proofs.word.Goals as goal
 
 pub returns-then-k-t : goal.returns-then-k-t

@@ -1,6 +1,5 @@
 -- `is_sound` meets its contract: each group of rules is tested by its own function, and together they are the test of soundness.
 use Rattle.sound.proofs.AllRules.{all-rules}
-use Rattle.std.proofs.Common.{rules}
 use Rattle.sound.proofs.is_sound.Goals as goal
 
 pub returns : goal.returns

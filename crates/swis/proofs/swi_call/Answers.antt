@@ -2,7 +2,6 @@
 use Rattle.rules_laws.proofs.Calls.{unknown-is}
 use Rattle.swis.proofs.Steps.{no_call_lem}
 use Rattle.rules.specs.Swis.{swi_call}
-use Rattle.std.proofs.Common.{rules}
 use Rattle.swis.proofs.swi_call.Goals as goal
 
 pub returns-in-16 : goal.returns-in-16

@@ -1,5 +1,4 @@
 -- `switch_call` meets its contract: each number's call by what that call promises, and no other number is known.
-use Rattle.std.proofs.Common.{rules}
 use Rattle.rules_laws.proofs.Calls.{unknown-is}
 use Rattle.rules.specs.Answer.{◌by◌}
 use Rattle.rules.specs.Switches.{in_call, out_call, off_call, restore_call}

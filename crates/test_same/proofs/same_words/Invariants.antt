@@ -1,8 +1,7 @@
 -- `same_words` meets its contract: the words passed so far are the same, and the first that differ are told.
 use Prim.Native.Nat.{◌≤◌, ◌-◌}
-use mathlib.Core.Path.{◌≡◌, refl, ap}
+use mathlib.Core.Path.{◌≡◌}
 use lib.ListN.{length, take}
-use Rattle.test_same.proofs.Compared.{not_so, is-so, other_word, same_next, same_whole}
 use Rattle.test_same.proofs.same_words.Given as goal
 
 abbrev pub invariant-loop-i : goal.invariant-loop-i

@@ -1,8 +1,6 @@
 -- `put_text` meets its contract: i bytes of the text are put, and they end at p
-use Prim.Native.Nat.{◌-◌, ◌≤◌}
-use lib.ListN.{length, take}
-use Rattle.text.specs.Put.{Put}
-use Rattle.text.proofs.Puts.{put-none, put_next, put_whole}
+use Prim.Native.Nat.{◌-◌}
+use Rattle.text.proofs.Puts.{put-none, put_next}
 use Rattle.std.proofs.Common.{rules}
 use Rattle.text.proofs.put_text.Goals as goal
 

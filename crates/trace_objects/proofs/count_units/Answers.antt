@@ -1,10 +1,9 @@
 -- `count_units` meets its contract: the invariant is how many of the units looked at so far have the entry.
-use Prim.Native.Nat.{◌-◌, ◌≤◌}
-use mathlib.Core.Path.{◌≡◌, refl, sym, ◌∙◌}
+use Prim.Native.Nat.{◌-◌}
+use mathlib.Core.Path.{refl, sym, ◌∙◌}
 use native.Mathlib.Omega.{arith}
 use lib.Dec.{eqb}
 use Rattle.rules.specs.Tables.{heap_units}
-use Rattle.trace_changes.specs.Numbers.{count_below}
 use Rattle.trace_changes.specs.Changes.{units_with}
 use Rattle.trace_changes.proofs.Steps.{same-words, count_none, count_next, count-end, bit-most, count_most}
 use Rattle.rules.specs.Heap.{unit}

@@ -1,5 +1,5 @@
 -- `put_if_ran_out` meets its contract: a clock that runs out is told as it is now.
-use Rattle.trace_changes.proofs.Steps.{told-yes, told-no}
+use Rattle.trace_changes.proofs.Steps.{told-no}
 use Rattle.trace_objects.proofs.put_if_ran_out.Goals as goal
 
 pub returns : goal.returns

@@ -1,11 +1,6 @@
 -- `put_lined` meets its contract: the invariant is that the objects so far are told.
-use Prim.Native.Nat.{◌+◌, ◌-◌, ◌≤◌}
-use mathlib.Core.Bool.{not, ◌&&◌}
-use mathlib.Core.List.{◌∷◌, ◌++◌}
-use Rattle.rules.specs.Lines.{line}
-use Rattle.text.specs.Put.{Put}
-use Rattle.trace_changes.specs.Numbers.{columns, each_below, same_list, told}
-use Rattle.trace_changes.specs.Changes.{row, same_row, waiting, changed_lined}
+use Prim.Native.Nat.{◌-◌}
+use Rattle.trace_changes.specs.Changes.{changed_lined}
 use Rattle.trace_changes.proofs.Telling.{each_none, each_next, each-end}
 use Rattle.std.proofs.Common.{rules}
 use Rattle.trace_objects.proofs.put_lined.Goals as goal

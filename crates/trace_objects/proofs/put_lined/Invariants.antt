@@ -5,8 +5,7 @@ use mathlib.Core.List.{◌∷◌, ◌++◌}
 use Rattle.rules.specs.Lines.{line}
 use Rattle.text.specs.Put.{Put}
 use Rattle.trace_changes.specs.Numbers.{columns, each_below, same_list, told}
-use Rattle.trace_changes.specs.Changes.{row, same_row, waiting, changed_lined}
-use Rattle.trace_changes.proofs.Telling.{each_none, each_next, each-end}
+use Rattle.trace_changes.specs.Changes.{row, same_row, waiting}
 use Rattle.trace_objects.proofs.put_lined.Given as goal
 
 abbrev pub invariant-loop-i : goal.invariant-loop-i

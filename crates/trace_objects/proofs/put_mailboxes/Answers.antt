@@ -1,10 +1,7 @@
 -- `put_mailboxes` meets its contract: the invariant is that the mailboxes so far are told.
-use Prim.Native.Nat.{◌-◌, ◌≤◌}
-use mathlib.Core.Bool.{not}
+use Prim.Native.Nat.{◌-◌}
 use Rattle.rules.specs.Tables.{mailbox_count}
-use Rattle.text.specs.Put.{Put}
-use Rattle.trace_changes.specs.Numbers.{columns, each_below, told}
-use Rattle.trace_changes.specs.Changes.{mailbox_numbers, same_mailbox, changed_mailboxes}
+use Rattle.trace_changes.specs.Changes.{changed_mailboxes}
 use Rattle.trace_changes.proofs.Telling.{each_none, each_next, each-end}
 use Rattle.std.proofs.Common.{rules}
 use Rattle.trace_objects.proofs.put_mailboxes.Goals as goal

@@ -4,8 +4,7 @@ use mathlib.Core.Bool.{not}
 use Rattle.rules.specs.Tables.{mailbox_count}
 use Rattle.text.specs.Put.{Put}
 use Rattle.trace_changes.specs.Numbers.{columns, each_below, told}
-use Rattle.trace_changes.specs.Changes.{mailbox_numbers, same_mailbox, changed_mailboxes}
-use Rattle.trace_changes.proofs.Telling.{each_none, each_next, each-end}
+use Rattle.trace_changes.specs.Changes.{mailbox_numbers, same_mailbox}
 use Rattle.trace_objects.proofs.put_mailboxes.Given as goal
 
 abbrev pub invariant-loop-i : goal.invariant-loop-i

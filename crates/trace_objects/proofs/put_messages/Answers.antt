@@ -1,12 +1,8 @@
 -- `put_messages` meets its contract: the invariant is that the messages so far are told.
-use Prim.Native.Nat.{◌-◌, ◌≤◌}
-use mathlib.Core.Path.{◌≡◌}
-use mathlib.Core.List.{[], ◌∷◌}
+use Prim.Native.Nat.{◌-◌}
 use native.Mathlib.Omega.{arith}
-use lib.ListN.{length, get_or}
 use Rattle.rules.specs.Tables.{messages}
-use Rattle.text.specs.Put.{Put}
-use Rattle.trace_changes.specs.Numbers.{columns, each_below, told}
+use Rattle.trace_changes.specs.Numbers.{told}
 use Rattle.trace_changes.proofs.Telling.{each_none, each_next, each-end, each_member}
 use Rattle.mailboxes.proofs.InMailbox.{message-is, count-is}
 use Rattle.std.proofs.Common.{rules}

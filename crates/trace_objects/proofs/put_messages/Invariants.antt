@@ -2,13 +2,10 @@
 use Prim.Native.Nat.{◌-◌, ◌≤◌}
 use mathlib.Core.Path.{◌≡◌}
 use mathlib.Core.List.{[], ◌∷◌}
-use native.Mathlib.Omega.{arith}
 use lib.ListN.{length, get_or}
 use Rattle.rules.specs.Tables.{messages}
 use Rattle.text.specs.Put.{Put}
-use Rattle.trace_changes.specs.Numbers.{columns, each_below, told}
-use Rattle.trace_changes.proofs.Telling.{each_none, each_next, each-end, each_member}
-use Rattle.mailboxes.proofs.InMailbox.{message-is, count-is}
+use Rattle.trace_changes.specs.Numbers.{columns, each_below}
 use Rattle.trace_objects.proofs.put_messages.Given as goal
 
 abbrev pub invariant-loop-k : goal.invariant-loop-k

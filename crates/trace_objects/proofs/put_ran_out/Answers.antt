@@ -1,10 +1,7 @@
 -- `put_ran_out` meets its contract: the invariant is that the clocks so far are told.
-use Prim.Native.Nat.{◌-◌, ◌≤◌}
-use mathlib.Core.List.{◌∷◌}
-use Rattle.rules.specs.Tables.{clock_count, clock_width}
-use Rattle.text.specs.Put.{Put}
-use Rattle.trace_changes.specs.Numbers.{columns, each_below, told}
-use Rattle.trace_changes.specs.Changes.{row, runs_out, ran_out}
+use Prim.Native.Nat.{◌-◌}
+use Rattle.rules.specs.Tables.{clock_count}
+use Rattle.trace_changes.specs.Changes.{ran_out}
 use Rattle.trace_changes.proofs.Telling.{each_none, each_next, each-end}
 use Rattle.std.proofs.Common.{rules}
 use Rattle.trace_objects.proofs.put_ran_out.Goals as goal

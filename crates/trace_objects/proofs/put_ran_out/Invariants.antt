@@ -4,8 +4,7 @@ use mathlib.Core.List.{◌∷◌}
 use Rattle.rules.specs.Tables.{clock_count, clock_width}
 use Rattle.text.specs.Put.{Put}
 use Rattle.trace_changes.specs.Numbers.{columns, each_below, told}
-use Rattle.trace_changes.specs.Changes.{row, runs_out, ran_out}
-use Rattle.trace_changes.proofs.Telling.{each_none, each_next, each-end}
+use Rattle.trace_changes.specs.Changes.{row, runs_out}
 use Rattle.trace_objects.proofs.put_ran_out.Given as goal
 
 abbrev pub invariant-loop-i : goal.invariant-loop-i

@@ -1,10 +1,6 @@
 -- `put_rows` meets its contract: the invariant is that the rows so far are told.
-use Prim.Native.Nat.{◌-◌, ◌≤◌}
-use mathlib.Core.Bool.{not}
-use mathlib.Core.List.{◌∷◌}
-use Rattle.text.specs.Put.{Put}
-use Rattle.trace_changes.specs.Numbers.{columns, each_below, told}
-use Rattle.trace_changes.specs.Changes.{row, same_row, changed_rows}
+use Prim.Native.Nat.{◌-◌}
+use Rattle.trace_changes.specs.Changes.{changed_rows}
 use Rattle.trace_changes.proofs.Telling.{each_none, each_next, each-end}
 use Rattle.std.proofs.Common.{rules}
 use Rattle.trace_objects.proofs.put_rows.Goals as goal

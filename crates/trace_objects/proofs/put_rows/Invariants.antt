@@ -4,8 +4,7 @@ use mathlib.Core.Bool.{not}
 use mathlib.Core.List.{◌∷◌}
 use Rattle.text.specs.Put.{Put}
 use Rattle.trace_changes.specs.Numbers.{columns, each_below, told}
-use Rattle.trace_changes.specs.Changes.{row, same_row, changed_rows}
-use Rattle.trace_changes.proofs.Telling.{each_none, each_next, each-end}
+use Rattle.trace_changes.specs.Changes.{row, same_row}
 use Rattle.trace_objects.proofs.put_rows.Given as goal
 
 abbrev pub invariant-loop-i : goal.invariant-loop-i

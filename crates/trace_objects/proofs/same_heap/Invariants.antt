@@ -1,12 +1,9 @@
 -- `same_heap` meets its contract: the invariant is what the test says of the units looked at so far.
 use Prim.Native.Nat.{◌-◌, ◌≤◌}
-use mathlib.Core.Path.{◌≡◌, sym}
+use mathlib.Core.Path.{◌≡◌}
 use lib.Dec.{eqb}
 use Rattle.rules.specs.Tables.{heap_units}
 use Rattle.basics.specs.Find.{all_below}
-use Rattle.basics.proofs.Finds.{all_none, all-step, all_end}
-use Rattle.trace_changes.specs.Changes.{same_heap}
-use Rattle.trace_changes.proofs.Steps.{same-words}
 use Rattle.rules.specs.Heap.{unit}
 use Rattle.trace_objects.proofs.same_heap.Given as goal
 

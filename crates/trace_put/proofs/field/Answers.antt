@@ -1,8 +1,6 @@
 -- `field` meets its contract: in range it is the word at its place, out of range 0.
 use mathlib.Core.Path.{sym, ◌∙◌}
-use native.Mathlib.Omega.{arith}
 use Rattle.rules_laws.proofs.Rows.{field_in, field_past, field_out}
-use Rattle.trace_changes.proofs.Steps.{in_row}
 use Rattle.trace_put.proofs.field.Goals as goal
 
 pub returns-then-f-w : goal.returns-then-f-w

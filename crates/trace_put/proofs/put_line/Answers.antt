@@ -1,11 +1,7 @@
 -- `put_line` meets its contract: the invariant is that those in front are told.
-use Prim.Native.Nat.{◌-◌, ◌≤◌}
-use mathlib.Core.Path.{◌≡◌}
-use mathlib.Core.List.{[], ◌∷◌}
-use lib.ListN.{length, get_or}
+use Prim.Native.Nat.{◌-◌}
 use Rattle.rules.specs.Lines.{line}
-use Rattle.text.specs.Put.{Put}
-use Rattle.trace_changes.specs.Numbers.{columns, each_below, told}
+use Rattle.trace_changes.specs.Numbers.{told}
 use Rattle.trace_changes.proofs.Telling.{each_none, each_next, each-end, each_member}
 use Rattle.std.proofs.Common.{rules}
 use Rattle.trace_put.proofs.put_line.Goals as goal

@@ -5,8 +5,7 @@ use mathlib.Core.List.{[], ◌∷◌}
 use lib.ListN.{length, get_or}
 use Rattle.rules.specs.Lines.{line}
 use Rattle.text.specs.Put.{Put}
-use Rattle.trace_changes.specs.Numbers.{columns, each_below, told}
-use Rattle.trace_changes.proofs.Telling.{each_none, each_next, each-end, each_member}
+use Rattle.trace_changes.specs.Numbers.{columns, each_below}
 use Rattle.trace_put.proofs.put_line.Given as goal
 
 abbrev pub invariant-loop-k : goal.invariant-loop-k

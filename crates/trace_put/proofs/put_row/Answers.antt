@@ -1,9 +1,6 @@
 -- `put_row` meets its contract: the invariant is that the words so far are told.
-use Prim.Native.Nat.{◌-◌, ◌≤◌}
-use mathlib.Core.List.{[], ◌∷◌}
+use Prim.Native.Nat.{◌-◌}
 use Rattle.rules.specs.Rows.{field}
-use Rattle.text.specs.Put.{Put}
-use Rattle.trace_changes.specs.Numbers.{columns, each_below}
 use Rattle.trace_changes.specs.Changes.{row}
 use Rattle.trace_changes.proofs.Telling.{each_none, each_next, each-end}
 use Rattle.std.proofs.Common.{rules}

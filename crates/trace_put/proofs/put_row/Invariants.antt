@@ -4,8 +4,6 @@ use mathlib.Core.List.{[], ◌∷◌}
 use Rattle.rules.specs.Rows.{field}
 use Rattle.text.specs.Put.{Put}
 use Rattle.trace_changes.specs.Numbers.{columns, each_below}
-use Rattle.trace_changes.specs.Changes.{row}
-use Rattle.trace_changes.proofs.Telling.{each_none, each_next, each-end}
 use Rattle.trace_put.proofs.put_row.Given as goal
 
 abbrev pub invariant-loop-f : goal.invariant-loop-f

@@ -1,11 +1,7 @@
 -- `same_front` meets its contract: the invariant is what the test says of those looked at so far.
-use Prim.Native.Nat.{◌-◌, ◌≤◌}
-use mathlib.Core.Path.{◌≡◌, sym}
-use lib.Dec.{eqb}
-use lib.ListN.{get_or}
-use Rattle.basics.specs.Find.{all_below}
-use Rattle.basics.proofs.Finds.{all_none, all-step, all_end}
-use Rattle.rules.specs.Lines.{line}
+use Prim.Native.Nat.{◌-◌}
+use mathlib.Core.Path.{sym}
+use Rattle.basics.proofs.Finds.{all_none, all-step}
 use Rattle.trace_changes.proofs.Steps.{same-words}
 use Rattle.std.proofs.Common.{rules}
 use Rattle.trace_put.proofs.same_front.Goals as goal

@@ -1,12 +1,10 @@
 -- `same_front` meets its contract: the invariant is what the test says of those looked at so far.
 use Prim.Native.Nat.{◌-◌, ◌≤◌}
-use mathlib.Core.Path.{◌≡◌, sym}
+use mathlib.Core.Path.{◌≡◌}
 use lib.Dec.{eqb}
 use lib.ListN.{get_or}
 use Rattle.basics.specs.Find.{all_below}
-use Rattle.basics.proofs.Finds.{all_none, all-step, all_end}
 use Rattle.rules.specs.Lines.{line}
-use Rattle.trace_changes.proofs.Steps.{same-words}
 use Rattle.trace_put.proofs.same_front.Given as goal
 
 abbrev pub invariant-loop-k : goal.invariant-loop-k

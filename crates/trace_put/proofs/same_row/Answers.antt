@@ -1,8 +1,6 @@
 -- `same_row` meets its contract: the invariant is what the test says of the words looked at so far.
-use Prim.Native.Nat.{◌-◌, ◌≤◌}
-use mathlib.Core.Path.{◌≡◌, sym}
-use lib.Dec.{eqb}
-use Rattle.basics.specs.Find.{all_below}
+use Prim.Native.Nat.{◌-◌}
+use mathlib.Core.Path.{sym}
 use Rattle.basics.proofs.Finds.{all_none, all-step, all_end}
 use Rattle.rules.specs.Rows.{field}
 use Rattle.trace_changes.specs.Changes.{same_row}

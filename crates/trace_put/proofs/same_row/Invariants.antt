@@ -1,11 +1,9 @@
 -- `same_row` meets its contract: the invariant is what the test says of the words looked at so far.
 use Prim.Native.Nat.{◌-◌, ◌≤◌}
-use mathlib.Core.Path.{◌≡◌, sym}
+use mathlib.Core.Path.{◌≡◌}
 use lib.Dec.{eqb}
 use Rattle.basics.specs.Find.{all_below}
-use Rattle.basics.proofs.Finds.{all_none, all-step, all_end}
 use Rattle.rules.specs.Rows.{field}
-use Rattle.trace_changes.specs.Changes.{same_row}
 use Rattle.trace_put.proofs.same_row.Given as goal
 
 abbrev pub invariant-loop-f : goal.invariant-loop-f

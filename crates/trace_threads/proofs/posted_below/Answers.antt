@@ -1,11 +1,8 @@
 -- `posted_below` meets its contract: the invariant is that none of the clocks so far posts the Swi.
-use Prim.Native.Nat.{◌-◌, ◌≤◌}
-use mathlib.Core.Path.{◌≡◌, sym, ap}
-use mathlib.Core.Bool.{not, ◌&&◌}
-use lib.Dec.{eqb}
-use Rattle.basics.specs.Find.{all_below}
+use Prim.Native.Nat.{◌-◌}
+use mathlib.Core.Path.{sym, ap}
+use mathlib.Core.Bool.{not}
 use Rattle.basics.proofs.Finds.{all_none, all-step, all_end}
-use Rattle.rules.specs.Tables.{clock}
 use Rattle.trace_changes.specs.Changes.{runs_out, posted_below}
 use Rattle.std.proofs.Common.{rules}
 use Rattle.trace_threads.proofs.posted_below.Goals as goal

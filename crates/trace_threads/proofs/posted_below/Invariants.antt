@@ -1,12 +1,11 @@
 -- `posted_below` meets its contract: the invariant is that none of the clocks so far posts the Swi.
 use Prim.Native.Nat.{◌-◌, ◌≤◌}
-use mathlib.Core.Path.{◌≡◌, sym, ap}
+use mathlib.Core.Path.{◌≡◌}
 use mathlib.Core.Bool.{not, ◌&&◌}
 use lib.Dec.{eqb}
 use Rattle.basics.specs.Find.{all_below}
-use Rattle.basics.proofs.Finds.{all_none, all-step, all_end}
 use Rattle.rules.specs.Tables.{clock}
-use Rattle.trace_changes.specs.Changes.{runs_out, posted_below}
+use Rattle.trace_changes.specs.Changes.{runs_out}
 use Rattle.trace_threads.proofs.posted_below.Given as goal
 
 abbrev pub invariant-loop-n : goal.invariant-loop-n

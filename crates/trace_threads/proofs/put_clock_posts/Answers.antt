@@ -1,9 +1,7 @@
 -- `put_clock_posts` meets its contract: the invariant is that the clocks so far are told.
-use Prim.Native.Nat.{◌-◌, ◌≤◌}
+use Prim.Native.Nat.{◌-◌}
 use Rattle.rules.specs.Tables.{clock_count}
-use Rattle.text.specs.Put.{Put}
-use Rattle.trace_changes.specs.Numbers.{columns, each_below}
-use Rattle.trace_changes.specs.Changes.{clock_post, clock_posts}
+use Rattle.trace_changes.specs.Changes.{clock_posts}
 use Rattle.trace_changes.proofs.Telling.{each_none, each_next, each-end}
 use Rattle.std.proofs.Common.{rules}
 use Rattle.trace_threads.proofs.put_clock_posts.Goals as goal

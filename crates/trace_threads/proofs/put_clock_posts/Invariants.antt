@@ -3,8 +3,7 @@ use Prim.Native.Nat.{◌-◌, ◌≤◌}
 use Rattle.rules.specs.Tables.{clock_count}
 use Rattle.text.specs.Put.{Put}
 use Rattle.trace_changes.specs.Numbers.{columns, each_below}
-use Rattle.trace_changes.specs.Changes.{clock_post, clock_posts}
-use Rattle.trace_changes.proofs.Telling.{each_none, each_next, each-end}
+use Rattle.trace_changes.specs.Changes.{clock_post}
 use Rattle.trace_threads.proofs.put_clock_posts.Given as goal
 
 abbrev pub invariant-loop-c : goal.invariant-loop-c

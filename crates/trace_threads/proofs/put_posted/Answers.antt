@@ -1,9 +1,6 @@
 -- `put_posted` meets its contract: the invariant is that the queues so far are told.
-use Prim.Native.Nat.{◌-◌, ◌≤◌}
+use Prim.Native.Nat.{◌-◌}
 use Rattle.rules.specs.Tables.{swi_levels}
-use Rattle.rules.specs.Lines.{line, posted_line}
-use Rattle.text.specs.Put.{Put}
-use Rattle.trace_changes.specs.Numbers.{columns, each_below}
 use Rattle.trace_changes.specs.Changes.{posted_swis}
 use Rattle.trace_changes.proofs.Telling.{each_none, each_next, each-end}
 use Rattle.std.proofs.Common.{rules}

@@ -4,8 +4,6 @@ use Rattle.rules.specs.Tables.{swi_levels}
 use Rattle.rules.specs.Lines.{line, posted_line}
 use Rattle.text.specs.Put.{Put}
 use Rattle.trace_changes.specs.Numbers.{columns, each_below}
-use Rattle.trace_changes.specs.Changes.{posted_swis}
-use Rattle.trace_changes.proofs.Telling.{each_none, each_next, each-end}
 use Rattle.trace_threads.proofs.put_posted.Given as goal
 
 abbrev pub invariant-loop-k : goal.invariant-loop-k

@@ -1,10 +1,7 @@
 -- `put_tasks` meets its contract: the invariant is that the tasks so far are told.
-use Prim.Native.Nat.{◌-◌, ◌≤◌}
-use mathlib.Core.Bool.{not}
-use Rattle.rules.specs.Tables.{task, task_count}
-use Rattle.text.specs.Put.{Put}
-use Rattle.trace_changes.specs.Numbers.{columns, each_below, told}
-use Rattle.trace_changes.specs.Changes.{same_task, task_numbers, changed_tasks}
+use Prim.Native.Nat.{◌-◌}
+use Rattle.rules.specs.Tables.{task_count}
+use Rattle.trace_changes.specs.Changes.{changed_tasks}
 use Rattle.trace_changes.proofs.Telling.{each_none, each_next, each-end}
 use Rattle.std.proofs.Common.{rules}
 use Rattle.trace_threads.proofs.put_tasks.Goals as goal

@@ -4,8 +4,7 @@ use mathlib.Core.Bool.{not}
 use Rattle.rules.specs.Tables.{task, task_count}
 use Rattle.text.specs.Put.{Put}
 use Rattle.trace_changes.specs.Numbers.{columns, each_below, told}
-use Rattle.trace_changes.specs.Changes.{same_task, task_numbers, changed_tasks}
-use Rattle.trace_changes.proofs.Telling.{each_none, each_next, each-end}
+use Rattle.trace_changes.specs.Changes.{same_task, task_numbers}
 use Rattle.trace_threads.proofs.put_tasks.Given as goal
 
 abbrev pub invariant-loop-i : goal.invariant-loop-i

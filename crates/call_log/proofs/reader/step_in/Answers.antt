@@ -1,5 +1,5 @@
 -- `step_in` meets its contract: a log has fewer than 2^64 bytes, so the position after a record does not go round
-use Rattle.std.proofs.Common.{arith, rules}
+use Rattle.std.proofs.Common.{arith}
 use Rattle.call_log.proofs.Records.{step_is}
 use Rattle.call_log.proofs.reader.step_in.Goals as goal
 

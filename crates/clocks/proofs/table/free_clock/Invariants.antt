@@ -1,8 +1,7 @@
 -- `free_clock` meets its contract: no row passed is free, so the first that is free is found, or none is.
-use borrow.Author.Tests.{eq-eqb, ne_eqb}
 use Prim.Native.Nat.{◌≤◌, ◌-◌}
 use lib.Dec.{eqb}
-use Rattle.basics.proofs.Finds.{Passed, first-starts, first_goes, first-here, first-none}
+use Rattle.basics.proofs.Finds.{Passed}
 use Rattle.rules.specs.Tables.{clock_count, clock}
 use Rattle.rules.specs.Clocks.{free_clock}
 use Rattle.clocks.proofs.table.free_clock.Given as goal

@@ -1,7 +1,6 @@
 -- `put_last` meets its contract: each thing that can be found, but a record, has its word, and a fault the place in the log.
 use Rattle.text.proofs.Puts.{put-none}
 use Rattle.desk_parts.specs.Part.{last_text}
-use Rattle.std.proofs.Common.{rules}
 use Rattle.desk_reads.proofs.last.put_last.Goals as goal
 
 pub returns-in-Record : goal.returns-in-Record

@@ -1,7 +1,6 @@
 -- `highest_from` meets its contract: leading zeros of the word of non-empty queues tell the highest of them
 use Prim.Native.Nat.{ℕ, ◌≤◌, min}
 use native.Mathlib.Omega.{arith}
-use lib.Count.{leading_le}
 use Rattle.basics.proofs.Finds.{high_is}
 use Rattle.basics.proofs.Leading.{leading-highest}
 use Rattle.dispatch.proofs.due.highest_from.Goals as goal

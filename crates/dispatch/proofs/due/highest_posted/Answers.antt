@@ -1,11 +1,9 @@
 -- `highest_posted` meets its contract: from `level` up nobody is posted, so the answer among the lower priorities is the whole answer
-use Prim.Native.Nat.{◌-◌, ◌≤◌}
-use mathlib.Core.Path.{◌≡◌, refl, sym, ◌∙◌}
+use Prim.Native.Nat.{◌-◌}
+use mathlib.Core.Path.{sym, ◌∙◌}
 use native.Mathlib.Omega.{arith}
-use Rattle.basics.specs.Find.{highest_below}
 use Rattle.basics.proofs.Finds.{high_goes, high-here, high-none}
-use Rattle.rules.specs.Tables.{swi_levels}
-use Rattle.rules.specs.Lines.{anyone, posted_line}
+use Rattle.rules.specs.Lines.{anyone}
 use Rattle.rules.specs.Dispatch.{highest_posted}
 use Rattle.std.proofs.Common.{rules}
 use Rattle.dispatch.proofs.due.highest_posted.Goals as goal

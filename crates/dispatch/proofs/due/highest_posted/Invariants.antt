@@ -1,12 +1,9 @@
 -- `highest_posted` meets its contract: from `level` up nobody is posted, so the answer among the lower priorities is the whole answer
 use Prim.Native.Nat.{◌-◌, ◌≤◌}
-use mathlib.Core.Path.{◌≡◌, refl, sym, ◌∙◌}
-use native.Mathlib.Omega.{arith}
+use mathlib.Core.Path.{◌≡◌}
 use Rattle.basics.specs.Find.{highest_below}
-use Rattle.basics.proofs.Finds.{high_goes, high-here, high-none}
 use Rattle.rules.specs.Tables.{swi_levels}
 use Rattle.rules.specs.Lines.{anyone, posted_line}
-use Rattle.rules.specs.Dispatch.{highest_posted}
 use Rattle.dispatch.proofs.due.highest_posted.Given as goal
 
 abbrev pub invariant-loop-level : goal.invariant-loop-level

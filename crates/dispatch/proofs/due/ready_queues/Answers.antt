@@ -1,11 +1,9 @@
 -- `ready_queues` meets its contract: the loop makes the word of the empty queues from the top, and the bits that it leaves are the word of the others
 use Prim.Native.Nat.{ℕ, ◌+◌, ◌*◌, ◌≤◌, ◌<◌, min}
-use mathlib.Core.Path.{◌≡◌}
-use mathlib.Core.Bool.{Bool, not}
+use mathlib.Core.Bool.{Bool}
 use native.Mathlib.Omega.{arith}
 use lib.Pow.{le_ones}
 use Rattle.basics.proofs.Leading.{Made, made_none, made_more, made_all, made-room, word-under, word-others}
-use Rattle.rules.specs.Lines.{anyone, ready_line}
 use Rattle.dispatch.proofs.due.ready_queues.Goals as goal
 
 least-most : (n : ℕ) → min n 32 ≤ 32

@@ -1,10 +1,8 @@
 -- `ready_queues` meets its contract: the loop makes the word of the empty queues from the top, and the bits that it leaves are the word of the others
-use Prim.Native.Nat.{ℕ, ◌+◌, ◌*◌, ◌≤◌, ◌<◌, min}
+use Prim.Native.Nat.{◌+◌, ◌<◌, min}
 use mathlib.Core.Path.{◌≡◌}
-use mathlib.Core.Bool.{Bool, not}
-use native.Mathlib.Omega.{arith}
-use lib.Pow.{le_ones}
-use Rattle.basics.proofs.Leading.{Made, made_none, made_more, made_all, made-room, word-under, word-others}
+use mathlib.Core.Bool.{not}
+use Rattle.basics.proofs.Leading.{Made}
 use Rattle.rules.specs.Lines.{anyone, ready_line}
 use Rattle.dispatch.proofs.due.ready_queues.Given as goal
 

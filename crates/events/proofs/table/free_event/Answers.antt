@@ -1,10 +1,9 @@
 -- `free_event` meets its contract: no row passed is free, so the first that is free is found, or none is.
 use Rattle.moves.proofs.Served.{is_same, is-other}
 use Rattle.rules.specs.Events.{free_event}
-use Rattle.rules.specs.Tables.{event_count, event, USED}
-use Rattle.basics.proofs.Finds.{Passed, first-starts, first_goes, first-here, first-none}
-use lib.Dec.{eqb}
-use Prim.Native.Nat.{◌≤◌, ◌-◌}
+use Rattle.rules.specs.Tables.{event}
+use Rattle.basics.proofs.Finds.{first-starts, first_goes, first-here, first-none}
+use Prim.Native.Nat.{◌-◌}
 use Rattle.std.proofs.Common.{rules}
 use Rattle.events.proofs.table.free_event.Goals as goal
 

@@ -1,8 +1,7 @@
 -- `free_event` meets its contract: no row passed is free, so the first that is free is found, or none is.
-use Rattle.moves.proofs.Served.{is_same, is-other}
 use Rattle.rules.specs.Events.{free_event}
 use Rattle.rules.specs.Tables.{event_count, event, USED}
-use Rattle.basics.proofs.Finds.{Passed, first-starts, first_goes, first-here, first-none}
+use Rattle.basics.proofs.Finds.{Passed}
 use lib.Dec.{eqb}
 use Prim.Native.Nat.{◌≤◌, ◌-◌}
 use Rattle.events.proofs.table.free_event.Given as goal

@@ -1,8 +1,6 @@
 -- `mark` meets its contract: k units are marked so far, at the end all n; what does not fit in the heap is not marked.
-use Rattle.rules.specs.Tables.{heap_units}
-use Prim.Native.Nat.{◌-◌, ◌≤◌, ◌<◌}
-use native.Mathlib.Omega.{arith}
-use Rattle.heap.proofs.BlockUnits.{Marked, marked-none, marked_more, marked_all, marked-out}
+use Prim.Native.Nat.{◌-◌}
+use Rattle.heap.proofs.BlockUnits.{marked_more}
 use Rattle.std.proofs.Common.{rules}
 use Rattle.heap.proofs.blocks.mark.Goals as goal
 

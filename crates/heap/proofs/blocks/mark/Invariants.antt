@@ -1,8 +1,7 @@
 -- `mark` meets its contract: k units are marked so far, at the end all n; what does not fit in the heap is not marked.
 use Rattle.rules.specs.Tables.{heap_units}
 use Prim.Native.Nat.{◌-◌, ◌≤◌, ◌<◌}
-use native.Mathlib.Omega.{arith}
-use Rattle.heap.proofs.BlockUnits.{Marked, marked-none, marked_more, marked_all, marked-out}
+use Rattle.heap.proofs.BlockUnits.{Marked}
 use Rattle.heap.proofs.blocks.mark.Given as goal
 
 abbrev pub invariant-loop-k : goal.invariant-loop-k

@@ -1,8 +1,6 @@
 -- `adjacent` meets its contract: all units passed are the entry, so they are counted up to the first that is not, or to the end.
-use Rattle.rules.specs.Tables.{heap_units}
-use Prim.Native.Nat.{◌-◌, ◌≤◌, ◌<◌, min}
-use mathlib.Core.Path.{◌≡◌}
-use Rattle.heap.proofs.Runs.{Counted, counted-past, counted_none, counted-more, counted-ends, counted-all}
+use Prim.Native.Nat.{◌-◌}
+use Rattle.heap.proofs.Runs.{counted-past, counted_none, counted-more, counted-ends, counted-all}
 use Rattle.std.proofs.Common.{rules}
 use Rattle.heap.proofs.free_units.adjacent.Goals as goal
 

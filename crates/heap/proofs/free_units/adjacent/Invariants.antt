@@ -2,7 +2,7 @@
 use Rattle.rules.specs.Tables.{heap_units}
 use Prim.Native.Nat.{◌-◌, ◌≤◌, ◌<◌, min}
 use mathlib.Core.Path.{◌≡◌}
-use Rattle.heap.proofs.Runs.{Counted, counted-past, counted_none, counted-more, counted-ends, counted-all}
+use Rattle.heap.proofs.Runs.{Counted}
 use Rattle.heap.proofs.free_units.adjacent.Given as goal
 
 abbrev pub invariant-loop-k : goal.invariant-loop-k

@@ -1,8 +1,6 @@
 -- `first_free` meets its contract: no unit passed is free; four are tried a turn, and the last few one by one.
-use Rattle.rules.specs.Tables.{heap_units}
 use Prim.Native.Nat.{◌-◌}
-use mathlib.Core.Path.{◌≡◌, sym, ◌∙◌}
-use Rattle.heap.specs.Free.{first_free}
+use mathlib.Core.Path.{sym, ◌∙◌}
 use Rattle.heap.proofs.Runs.{free-here, past-1, past-2, past-3, past-4}
 use Rattle.std.proofs.Common.{rules}
 use Rattle.heap.proofs.free_units.first_free.Goals as goal

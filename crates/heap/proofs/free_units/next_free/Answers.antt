@@ -1,8 +1,6 @@
 -- `next_free` meets its contract: no unit passed is free, so the first that is free is found, or none is.
-use Rattle.rules.specs.Tables.{heap_units}
 use Prim.Native.Nat.{◌-◌}
-use mathlib.Core.Path.{◌≡◌, refl, sym, ◌∙◌}
-use Rattle.heap.specs.Free.{first_free}
+use mathlib.Core.Path.{sym, ◌∙◌}
 use Rattle.heap.proofs.Runs.{free-here, free_on, free-end}
 use Rattle.heap.proofs.free_units.next_free.Goals as goal
 

@@ -1,9 +1,7 @@
 -- `past_full` meets its contract: sixteen units that are all taken hold no free one, so the first free one from behind them is the same.
-use Rattle.rules.specs.Tables.{heap_units}
 use Prim.Native.Nat.{◌-◌}
-use mathlib.Core.Path.{◌≡◌, refl, sym, ◌∙◌}
+use mathlib.Core.Path.{sym, ◌∙◌}
 use native.Mathlib.Omega.{arith}
-use Rattle.heap.specs.Free.{first_free}
 use Rattle.heap.proofs.Runs.{none-low, free-on16}
 use Rattle.heap.proofs.free_units.past_full.Goals as goal
 

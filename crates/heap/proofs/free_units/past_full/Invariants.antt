@@ -1,10 +1,8 @@
 -- `past_full` meets its contract: sixteen units that are all taken hold no free one, so the first free one from behind them is the same.
 use Rattle.rules.specs.Tables.{heap_units}
 use Prim.Native.Nat.{◌-◌}
-use mathlib.Core.Path.{◌≡◌, refl, sym, ◌∙◌}
-use native.Mathlib.Omega.{arith}
+use mathlib.Core.Path.{◌≡◌}
 use Rattle.heap.specs.Free.{first_free}
-use Rattle.heap.proofs.Runs.{none-low, free-on16}
 use Rattle.heap.proofs.free_units.past_full.Given as goal
 
 abbrev pub invariant-loop-u : goal.invariant-loop-u

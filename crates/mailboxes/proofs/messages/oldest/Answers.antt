@@ -1,8 +1,5 @@
 use Rattle.mailboxes.proofs.InMailbox.{oldest-is}
-use native.Mathlib.Omega.{arith}
-use mathlib.Core.Path.{◌∙◌, sym}
-use lib.ListN.{get_or-eq_default}
-use Rattle.rules.specs.Tables.{messages}
+use mathlib.Core.Path.{◌∙◌}
 use Rattle.mailboxes.proofs.messages.oldest.Goals as goal
 
 pub returns-then-count-gt0 : goal.returns-then-count-gt0

@@ -1,9 +1,8 @@
 -- `shift` meets its contract: of those behind the first, k stand one place further front; at the end the word goes behind them.
 use Rattle.rules.specs.Tables.{mailbox_count, mailbox_width, mailbox_most, MESSAGES}
-use Rattle.mailboxes.proofs.InMailbox.{Up, up_none, up_more, listed-behind, behind-le, shift_is, with_out}
+use Rattle.mailboxes.proofs.InMailbox.{Up}
 use Prim.Native.Nat.{◌+◌, ◌-◌, ◌*◌, ◌<◌}
-use mathlib.Core.Path.{◌≡◌, refl, sym}
-use native.Mathlib.Omega.{arith}
+use mathlib.Core.Path.{◌≡◌}
 use lib.ListN.{length, drop}
 use Rattle.rules.specs.Rows.{listed}
 use Rattle.mailboxes.proofs.messages.shift.Given as goal

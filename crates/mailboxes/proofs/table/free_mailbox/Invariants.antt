@@ -1,11 +1,9 @@
 -- `free_mailbox` meets its contract: no row passed is free, so the first that is free is found, or none is.
 use Rattle.rules.specs.Mailboxes.{free_mailbox}
-use native.Mathlib.Omega.{arith}
 use Prim.Native.Nat.{◌-◌, ◌≤◌}
 use lib.Dec.{eqb}
 use Rattle.rules.specs.Tables.{mailbox_count, mailbox, CAPACITY}
-use Rattle.basics.proofs.Finds.{Passed, first-starts, first_goes, first-here, first-none}
-use Rattle.moves.proofs.Served.{is_same, is-other}
+use Rattle.basics.proofs.Finds.{Passed}
 use Rattle.mailboxes.proofs.table.free_mailbox.Given as goal
 
 abbrev pub invariant-loop-i : goal.invariant-loop-i

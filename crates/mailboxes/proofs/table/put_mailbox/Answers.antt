@@ -1,11 +1,7 @@
 -- `put_mailbox` meets its contract: k zeros are stored so far, at the end a row of them, and then the capacity in front.
-use Rattle.rules.specs.Tables.{mailbox_count, mailbox_width}
 use Rattle.mailboxes.proofs.InMailbox.{zeros-more, row_is, no_row}
-use Prim.Native.Nat.{◌-◌, ◌*◌, ◌≤◌, ◌<◌}
-use mathlib.Core.Path.{◌≡◌, refl}
+use Prim.Native.Nat.{◌-◌}
 use native.Mathlib.Omega.{arith}
-use lib.Seq.{sets}
-use Rattle.basics.specs.Lists.{zeros}
 use Rattle.mailboxes.proofs.table.put_mailbox.Goals as goal
 
 pub loop-k-preserved : goal.loop-k-preserved

@@ -1,10 +1,9 @@
 -- `free_semaphore` meets its contract: no row passed is free, so the first that is free is found, or none is.
 use Rattle.moves.proofs.Served.{is_same, is-other}
 use Rattle.rules.specs.Semaphores.{free_semaphore}
-use Rattle.rules.specs.Tables.{semaphore_count, semaphore, USED}
-use Rattle.basics.proofs.Finds.{Passed, first-starts, first_goes, first-here, first-none}
-use lib.Dec.{eqb}
-use Prim.Native.Nat.{◌≤◌, ◌-◌}
+use Rattle.rules.specs.Tables.{semaphore}
+use Rattle.basics.proofs.Finds.{first-starts, first_goes, first-here, first-none}
+use Prim.Native.Nat.{◌-◌}
 use Rattle.std.proofs.Common.{rules}
 use Rattle.semaphores.proofs.table.free_semaphore.Goals as goal
 

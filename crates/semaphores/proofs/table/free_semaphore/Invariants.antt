@@ -1,8 +1,7 @@
 -- `free_semaphore` meets its contract: no row passed is free, so the first that is free is found, or none is.
-use Rattle.moves.proofs.Served.{is_same, is-other}
 use Rattle.rules.specs.Semaphores.{free_semaphore}
 use Rattle.rules.specs.Tables.{semaphore_count, semaphore, USED}
-use Rattle.basics.proofs.Finds.{Passed, first-starts, first_goes, first-here, first-none}
+use Rattle.basics.proofs.Finds.{Passed}
 use lib.Dec.{eqb}
 use Prim.Native.Nat.{◌≤◌, ◌-◌}
 use Rattle.semaphores.proofs.table.free_semaphore.Given as goal

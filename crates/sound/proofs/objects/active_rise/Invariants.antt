@@ -1,11 +1,9 @@
 -- `active_rise` meets its contract: each turn compares one active Swi with the next, and all but the last are compared
 use Prim.Native.Nat.{suc, ◌-◌, ◌≤◌}
-use mathlib.Core.Path.{◌≡◌, sym, ◌∙◌}
-use native.Mathlib.Numerals.{add-one}
+use mathlib.Core.Path.{◌≡◌}
 use lib.Dec.{ltb}
 use lib.ListN.{length, get_or}
 use Rattle.basics.specs.Find.{all_below}
-use Rattle.basics.proofs.Finds.{all_none, all-step, all_end}
 use Rattle.rules.specs.Tables.{swi, PRIORITY}
 use Rattle.rules.specs.Lines.{line, active_line}
 use Rattle.sound.proofs.objects.active_rise.Given as goal

@@ -1,13 +1,10 @@
 -- `active_used` meets its contract: each turn looks at one more of those in the line
 use Prim.Native.Nat.{◌-◌}
-use mathlib.Core.Path.{◌≡◌, sym}
-use lib.Dec.{eqb}
-use lib.ListN.{length, take}
-use Rattle.basics.specs.Lists.{all_of}
+use mathlib.Core.Path.{sym}
 use Rattle.basics.proofs.Finds.{all_of-none}
-use Rattle.rules.specs.Tables.{swi, USED}
+use Rattle.rules.specs.Tables.{swi}
 use Rattle.rules.specs.Lines.{line, active_line}
-use Rattle.sound.proofs.StandingLoops.{members-more, members-all}
+use Rattle.sound.proofs.StandingLoops.{members-more}
 use Rattle.sound.proofs.objects.active_used.Goals as goal
 
 pub loop-k-init : goal.loop-k-init

@@ -1,6 +1,6 @@
 -- `event_sound` meets its contract: of an event that is there, what is read is what its rule reads
 use mathlib.Core.Bool.{and_assoc, not-not}
-use borrow.Author.Tests.{lt-ltb, le-ltb}
+use borrow.Author.Tests.{lt-ltb}
 use Rattle.rules.specs.Sound.{event_rule}
 use Rattle.sound.proofs.objects.event_sound.Goals as goal
 

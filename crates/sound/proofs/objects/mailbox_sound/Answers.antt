@@ -1,6 +1,6 @@
 -- `mailbox_sound` meets its contract: of a mailbox that is there, what is read is what its rule reads
 use mathlib.Core.Bool.{and_assoc}
-use borrow.Author.Tests.{lt-ltb, le-ltb}
+use borrow.Author.Tests.{lt-ltb}
 use Rattle.rules.specs.Sound.{mailbox_rule}
 use Rattle.sound.proofs.StandingLoops.{in-range, at_most}
 use Rattle.sound.proofs.objects.mailbox_sound.Goals as goal

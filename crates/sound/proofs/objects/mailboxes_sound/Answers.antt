@@ -1,11 +1,7 @@
 -- `mailboxes_sound` meets its contract: each turn adds one mailbox to those that are sound
-use Prim.Native.Nat.{◌-◌, ◌≤◌}
-use mathlib.Core.Path.{◌≡◌, sym}
-use Rattle.basics.specs.Find.{all_below}
-use Rattle.basics.specs.Rule.{holds}
-use Rattle.basics.proofs.Finds.{all_none, all-step, all_end}
-use Rattle.rules.specs.Sound.{mailbox_rule}
-use Rattle.rules.specs.Tables.{mailbox_count}
+use Prim.Native.Nat.{◌-◌}
+use mathlib.Core.Path.{sym}
+use Rattle.basics.proofs.Finds.{all_none, all-step}
 use Rattle.sound.proofs.StandingLoops.{in-range}
 use Rattle.std.proofs.Common.{rules}
 use Rattle.sound.proofs.objects.mailboxes_sound.Goals as goal

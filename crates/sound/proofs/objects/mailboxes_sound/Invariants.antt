@@ -1,12 +1,10 @@
 -- `mailboxes_sound` meets its contract: each turn adds one mailbox to those that are sound
 use Prim.Native.Nat.{◌-◌, ◌≤◌}
-use mathlib.Core.Path.{◌≡◌, sym}
+use mathlib.Core.Path.{◌≡◌}
 use Rattle.basics.specs.Find.{all_below}
 use Rattle.basics.specs.Rule.{holds}
-use Rattle.basics.proofs.Finds.{all_none, all-step, all_end}
 use Rattle.rules.specs.Sound.{mailbox_rule}
 use Rattle.rules.specs.Tables.{mailbox_count}
-use Rattle.sound.proofs.StandingLoops.{in-range}
 use Rattle.sound.proofs.objects.mailboxes_sound.Given as goal
 
 abbrev pub invariant-loop-m : goal.invariant-loop-m

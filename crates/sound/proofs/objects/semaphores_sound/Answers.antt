@@ -1,11 +1,7 @@
 -- `semaphores_sound` meets its contract: each turn adds one semaphore to those that are sound
-use Prim.Native.Nat.{◌-◌, ◌≤◌}
-use mathlib.Core.Path.{◌≡◌, sym}
-use Rattle.basics.specs.Find.{all_below}
-use Rattle.basics.specs.Rule.{holds}
-use Rattle.basics.proofs.Finds.{all_none, all-step, all_end}
-use Rattle.rules.specs.Sound.{semaphore_rule}
-use Rattle.rules.specs.Tables.{semaphore_count}
+use Prim.Native.Nat.{◌-◌}
+use mathlib.Core.Path.{sym}
+use Rattle.basics.proofs.Finds.{all_none, all-step}
 use Rattle.std.proofs.Common.{rules}
 use Rattle.sound.proofs.objects.semaphores_sound.Goals as goal
 

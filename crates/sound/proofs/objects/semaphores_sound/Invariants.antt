@@ -1,9 +1,8 @@
 -- `semaphores_sound` meets its contract: each turn adds one semaphore to those that are sound
 use Prim.Native.Nat.{◌-◌, ◌≤◌}
-use mathlib.Core.Path.{◌≡◌, sym}
+use mathlib.Core.Path.{◌≡◌}
 use Rattle.basics.specs.Find.{all_below}
 use Rattle.basics.specs.Rule.{holds}
-use Rattle.basics.proofs.Finds.{all_none, all-step, all_end}
 use Rattle.rules.specs.Sound.{semaphore_rule}
 use Rattle.rules.specs.Tables.{semaphore_count}
 use Rattle.sound.proofs.objects.semaphores_sound.Given as goal

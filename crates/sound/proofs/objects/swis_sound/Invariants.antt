@@ -1,9 +1,8 @@
 -- `swis_sound` meets its contract: each turn adds one Swi to those that are sound
 use Prim.Native.Nat.{◌-◌, ◌≤◌}
-use mathlib.Core.Path.{◌≡◌, sym}
+use mathlib.Core.Path.{◌≡◌}
 use Rattle.basics.specs.Find.{all_below}
 use Rattle.basics.specs.Rule.{holds}
-use Rattle.basics.proofs.Finds.{all_none, all-step, all_end}
 use Rattle.rules.specs.Sound.{swi_rule}
 use Rattle.rules.specs.Tables.{swi_count}
 use Rattle.sound.proofs.objects.swis_sound.Given as goal

@@ -1,13 +1,9 @@
 -- `waiters_sound` meets its contract: each turn looks at one more of those in the line
 use Prim.Native.Nat.{◌-◌}
-use mathlib.Core.Path.{◌≡◌, sym, ◌∙◌}
-use lib.ListN.{length, take}
-use Rattle.basics.specs.Lists.{all_of}
-use Rattle.basics.specs.Rule.{holds, ◌is◌, ◌and◌, ◌gives◌}
+use mathlib.Core.Path.{sym, ◌∙◌}
 use Rattle.basics.proofs.Finds.{all_of-none}
-use Rattle.rules.specs.Tables.{task, reading, writing}
 use Rattle.rules.specs.Lines.{line}
-use Rattle.sound.proofs.StandingLoops.{members-more, members-all}
+use Rattle.sound.proofs.StandingLoops.{members-more}
 use Rattle.sound.proofs.objects.waiters_sound.Goals as goal
 
 pub loop-k-init : goal.loop-k-init

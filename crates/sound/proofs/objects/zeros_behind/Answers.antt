@@ -1,9 +1,9 @@
 -- `zeros_behind` meets its contract: each turn looks at one more place behind the messages
-use Prim.Native.Nat.{◌+◌, ◌*◌, ◌-◌, ◌<◌}
-use mathlib.Core.Path.{◌≡◌, refl, ◌∙◌}
-use borrow.Author.Tests.{lt-ltb, le-ltb}
-use Rattle.rules.specs.Tables.{mailbox_count, mailbox_width, mailbox_most, MESSAGES}
-use Rattle.sound.proofs.StandingLoops.{Zeros, zeros-none, zeros-more, zeros-all}
+use Prim.Native.Nat.{◌-◌}
+use mathlib.Core.Path.{refl, ◌∙◌}
+use borrow.Author.Tests.{lt-ltb}
+use Rattle.rules.specs.Tables.{mailbox_most}
+use Rattle.sound.proofs.StandingLoops.{zeros-none, zeros-more, zeros-all}
 use Rattle.std.proofs.Common.{rules}
 use Rattle.sound.proofs.objects.zeros_behind.Goals as goal
 

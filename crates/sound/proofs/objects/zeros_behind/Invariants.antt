@@ -1,9 +1,8 @@
 -- `zeros_behind` meets its contract: each turn looks at one more place behind the messages
 use Prim.Native.Nat.{◌+◌, ◌*◌, ◌-◌, ◌<◌}
-use mathlib.Core.Path.{◌≡◌, refl, ◌∙◌}
-use borrow.Author.Tests.{lt-ltb, le-ltb}
+use mathlib.Core.Path.{◌≡◌}
 use Rattle.rules.specs.Tables.{mailbox_count, mailbox_width, mailbox_most, MESSAGES}
-use Rattle.sound.proofs.StandingLoops.{Zeros, zeros-none, zeros-more, zeros-all}
+use Rattle.sound.proofs.StandingLoops.{Zeros}
 use Rattle.sound.proofs.objects.zeros_behind.Given as goal
 
 abbrev pub invariant-loop-k : goal.invariant-loop-k

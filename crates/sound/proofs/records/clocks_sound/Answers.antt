@@ -1,11 +1,8 @@
 -- `clocks_sound` meets its contract: each turn adds one clock to those that are sound
-use Prim.Native.Nat.{◌-◌, ◌≤◌}
-use mathlib.Core.Path.{◌≡◌, sym, ◌∙◌}
-use Rattle.basics.specs.Find.{all_below}
-use Rattle.basics.specs.Rule.{holds}
-use Rattle.basics.proofs.Finds.{all_none, all-step, all_end}
-use Rattle.rules.specs.Tables.{clock, clock_count}
-use Rattle.rules.specs.Sound.{clock_rule}
+use Prim.Native.Nat.{◌-◌}
+use mathlib.Core.Path.{sym, ◌∙◌}
+use Rattle.basics.proofs.Finds.{all_none, all-step}
+use Rattle.rules.specs.Tables.{clock}
 use Rattle.std.proofs.Common.{rules}
 use Rattle.sound.proofs.records.clocks_sound.Goals as goal
 

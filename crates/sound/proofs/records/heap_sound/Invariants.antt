@@ -1,12 +1,11 @@
 -- `heap_sound` meets its contract: each turn adds one unit, told from the one before it
 use Prim.Native.Nat.{◌-◌, ◌≤◌}
-use mathlib.Core.Path.{◌≡◌, sym}
+use mathlib.Core.Path.{◌≡◌}
 use Rattle.basics.specs.Find.{all_below}
 use Rattle.basics.specs.Rule.{holds, ◌is◌, ◌isnt◌, ◌under◌, ◌and◌, ◌gives◌}
-use Rattle.basics.proofs.Finds.{all_none, all-step, all_end}
 use Rattle.rules.specs.Heap.{unit, free, later_in}
 use Rattle.rules.specs.Tables.{heap_units}
-use Rattle.sound.proofs.Steps.{unit_before, before-none, before_more, heap-step}
+use Rattle.sound.proofs.Steps.{unit_before}
 use Rattle.sound.proofs.records.heap_sound.Given as goal
 
 abbrev pub invariant-loop-u : goal.invariant-loop-u

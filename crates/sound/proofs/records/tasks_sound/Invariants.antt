@@ -1,9 +1,8 @@
 -- `tasks_sound` meets its contract: each turn adds one task to those that are sound
 use Prim.Native.Nat.{◌-◌, ◌≤◌}
-use mathlib.Core.Path.{◌≡◌, sym}
+use mathlib.Core.Path.{◌≡◌}
 use Rattle.basics.specs.Find.{all_below}
 use Rattle.basics.specs.Rule.{holds}
-use Rattle.basics.proofs.Finds.{all_none, all-step, all_end}
 use Rattle.rules.specs.Tables.{task, task_count}
 use Rattle.rules.specs.Sound.{task_rule}
 use Rattle.sound.proofs.records.tasks_sound.Given as goal

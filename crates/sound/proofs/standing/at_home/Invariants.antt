@@ -1,13 +1,11 @@
 -- `at_home` meets its contract: each turn looks at one more of those in the line
 use Prim.Native.Nat.{◌-◌}
-use mathlib.Core.Path.{◌≡◌, sym}
+use mathlib.Core.Path.{◌≡◌}
 use lib.Dec.{eqb}
 use lib.ListN.{length, take}
 use Rattle.basics.specs.Lists.{all_of}
-use Rattle.basics.proofs.Finds.{all_of-none}
 use Rattle.rules.specs.Lines.{line}
 use Rattle.rules.specs.Sound.{home_in}
-use Rattle.sound.proofs.StandingLoops.{members-more, members-all}
 use Rattle.sound.proofs.standing.at_home.Given as goal
 
 abbrev pub invariant-loop-k : goal.invariant-loop-k

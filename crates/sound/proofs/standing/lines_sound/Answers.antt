@@ -1,12 +1,7 @@
 -- `lines_sound` meets its contract: each turn adds one line to those that are sound
-use Prim.Native.Nat.{suc, ◌*◌, ◌-◌, ◌≤◌}
-use mathlib.Core.Path.{◌≡◌, sym}
-use lib.ListN.{get_or}
-use Rattle.basics.specs.Find.{all_below}
-use Rattle.basics.specs.Rule.{holds, ◌is◌, ◌under◌, ◌and◌, every}
-use Rattle.basics.proofs.Finds.{all_none, all-step, all_end}
-use Rattle.rules.specs.Rows.{behind}
-use Rattle.rules.specs.Lines.{line_count, line_most, line_width}
+use Prim.Native.Nat.{◌-◌}
+use mathlib.Core.Path.{sym}
+use Rattle.basics.proofs.Finds.{all_none, all-step}
 use Rattle.sound.proofs.StandingLoops.{in-range}
 use Rattle.std.proofs.Common.{rules}
 use Rattle.sound.proofs.standing.lines_sound.Goals as goal

@@ -1,13 +1,11 @@
 -- `lines_sound` meets its contract: each turn adds one line to those that are sound
 use Prim.Native.Nat.{suc, ◌*◌, ◌-◌, ◌≤◌}
-use mathlib.Core.Path.{◌≡◌, sym}
+use mathlib.Core.Path.{◌≡◌}
 use lib.ListN.{get_or}
 use Rattle.basics.specs.Find.{all_below}
 use Rattle.basics.specs.Rule.{holds, ◌is◌, ◌under◌, ◌and◌, every}
-use Rattle.basics.proofs.Finds.{all_none, all-step, all_end}
 use Rattle.rules.specs.Rows.{behind}
 use Rattle.rules.specs.Lines.{line_count, line_most, line_width}
-use Rattle.sound.proofs.StandingLoops.{in-range}
 use Rattle.sound.proofs.standing.lines_sound.Given as goal
 
 abbrev pub invariant-loop-j : goal.invariant-loop-j

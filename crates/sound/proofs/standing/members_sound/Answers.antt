@@ -1,12 +1,8 @@
 -- `members_sound` meets its contract: each turn adds one line whose members are at home there
-use Prim.Native.Nat.{◌-◌, ◌≤◌}
-use mathlib.Core.Path.{◌≡◌, sym}
+use Prim.Native.Nat.{◌-◌}
+use mathlib.Core.Path.{sym}
 use mathlib.Core.Bool.{not-not}
-use Rattle.basics.specs.Find.{all_below}
-use Rattle.basics.specs.Rule.{holds, ◌is◌, ◌isnt◌, ◌gives◌, every}
-use Rattle.basics.proofs.Finds.{all_none, all-step, all_end}
-use Rattle.rules.specs.Lines.{line, line_count, active_line}
-use Rattle.rules.specs.Sound.{home_in}
+use Rattle.basics.proofs.Finds.{all_none, all-step}
 use Rattle.std.proofs.Common.{rules}
 use Rattle.sound.proofs.standing.members_sound.Goals as goal
 

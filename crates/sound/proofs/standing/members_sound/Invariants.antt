@@ -1,10 +1,8 @@
 -- `members_sound` meets its contract: each turn adds one line whose members are at home there
 use Prim.Native.Nat.{◌-◌, ◌≤◌}
-use mathlib.Core.Path.{◌≡◌, sym}
-use mathlib.Core.Bool.{not-not}
+use mathlib.Core.Path.{◌≡◌}
 use Rattle.basics.specs.Find.{all_below}
 use Rattle.basics.specs.Rule.{holds, ◌is◌, ◌isnt◌, ◌gives◌, every}
-use Rattle.basics.proofs.Finds.{all_none, all-step, all_end}
 use Rattle.rules.specs.Lines.{line, line_count, active_line}
 use Rattle.rules.specs.Sound.{home_in}
 use Rattle.sound.proofs.standing.members_sound.Given as goal

@@ -1,10 +1,9 @@
 -- `swi_once` meets its contract: each turn adds one Swi to those that stand once
 use Prim.Native.Nat.{◌-◌, ◌≤◌}
-use mathlib.Core.Path.{◌≡◌, sym, ◌∙◌}
+use mathlib.Core.Path.{◌≡◌}
 use Rattle.basics.specs.Lists.{count}
 use Rattle.basics.specs.Find.{all_below}
 use Rattle.basics.specs.Rule.{holds, ◌is◌, ◌under◌, ◌gives◌}
-use Rattle.basics.proofs.Finds.{all_none, all-step, all_end}
 use Rattle.rules.specs.Lines.{line, swi_home, line_count}
 use Rattle.rules.specs.Tables.{swi_count}
 use Rattle.sound.proofs.standing.swi_once.Given as goal

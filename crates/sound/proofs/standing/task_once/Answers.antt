@@ -1,12 +1,8 @@
 -- `task_once` meets its contract: each turn adds one task to those that stand once
-use Prim.Native.Nat.{◌-◌, ◌≤◌}
-use mathlib.Core.Path.{◌≡◌, sym, ◌∙◌}
-use Rattle.basics.specs.Lists.{count}
-use Rattle.basics.specs.Find.{all_below}
-use Rattle.basics.specs.Rule.{holds, ◌is◌, ◌under◌, ◌gives◌}
-use Rattle.basics.proofs.Finds.{all_none, all-step, all_end}
-use Rattle.rules.specs.Lines.{line, task_home, line_count}
-use Rattle.rules.specs.Tables.{task_count}
+use Prim.Native.Nat.{◌-◌}
+use mathlib.Core.Path.{sym, ◌∙◌}
+use Rattle.basics.proofs.Finds.{all_none, all-step}
+use Rattle.rules.specs.Lines.{task_home}
 use Rattle.std.proofs.Common.{rules}
 use Rattle.sound.proofs.standing.task_once.Goals as goal
 

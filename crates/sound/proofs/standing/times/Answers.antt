@@ -1,9 +1,8 @@
 -- `times` meets its contract: each turn counts one more of those in the line
-use Prim.Native.Nat.{◌-◌, ◌≤◌}
+use Prim.Native.Nat.{◌-◌}
 use native.Mathlib.Omega.{arith}
-use Rattle.rules.specs.Lines.{line, line_most}
 use Rattle.rules_laws.proofs.Lines.{line-le}
-use Rattle.sound.proofs.StandingLoops.{Counted, counted_none, counted-more, counted-all}
+use Rattle.sound.proofs.StandingLoops.{counted_none, counted-more}
 use Rattle.sound.proofs.standing.times.Goals as goal
 
 pub loop-k-init : goal.loop-k-init

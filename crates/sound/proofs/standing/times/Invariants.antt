@@ -1,9 +1,7 @@
 -- `times` meets its contract: each turn counts one more of those in the line
 use Prim.Native.Nat.{◌-◌, ◌≤◌}
-use native.Mathlib.Omega.{arith}
 use Rattle.rules.specs.Lines.{line, line_most}
-use Rattle.rules_laws.proofs.Lines.{line-le}
-use Rattle.sound.proofs.StandingLoops.{Counted, counted_none, counted-more, counted-all}
+use Rattle.sound.proofs.StandingLoops.{Counted}
 use Rattle.sound.proofs.standing.times.Given as goal
 
 abbrev pub invariant-loop-k : goal.invariant-loop-k

@@ -1,9 +1,9 @@
 -- `zeros_behind` meets its contract: each turn looks at one more place behind the members
-use Prim.Native.Nat.{◌*◌, ◌-◌, ◌<◌}
-use mathlib.Core.Path.{◌≡◌, refl, ◌∙◌}
-use borrow.Author.Tests.{lt-ltb, le-ltb}
-use Rattle.rules.specs.Lines.{line_count, line_most, line_width}
-use Rattle.sound.proofs.StandingLoops.{Zeros, zeros-none, zeros-more, zeros-all}
+use Prim.Native.Nat.{◌-◌}
+use mathlib.Core.Path.{refl, ◌∙◌}
+use borrow.Author.Tests.{lt-ltb}
+use Rattle.rules.specs.Lines.{line_most}
+use Rattle.sound.proofs.StandingLoops.{zeros-none, zeros-more, zeros-all}
 use Rattle.std.proofs.Common.{rules}
 use Rattle.sound.proofs.standing.zeros_behind.Goals as goal
 

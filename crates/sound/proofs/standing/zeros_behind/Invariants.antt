@@ -1,9 +1,8 @@
 -- `zeros_behind` meets its contract: each turn looks at one more place behind the members
 use Prim.Native.Nat.{◌*◌, ◌-◌, ◌<◌}
-use mathlib.Core.Path.{◌≡◌, refl, ◌∙◌}
-use borrow.Author.Tests.{lt-ltb, le-ltb}
+use mathlib.Core.Path.{◌≡◌}
 use Rattle.rules.specs.Lines.{line_count, line_most, line_width}
-use Rattle.sound.proofs.StandingLoops.{Zeros, zeros-none, zeros-more, zeros-all}
+use Rattle.sound.proofs.StandingLoops.{Zeros}
 use Rattle.sound.proofs.standing.zeros_behind.Given as goal
 
 abbrev pub invariant-loop-k : goal.invariant-loop-k

@@ -1,5 +1,5 @@
 -- `create_code` meets its contract: each `return` gives the first of 01's cases that holds, since the tests before it failed.
-use Rattle.std.proofs.Common.{◌≡◌, false, not, ltb, sym, ◌∙◌, rules, le-ltb, lt-ltb, eq-eqb, ne_eqb}
+use Rattle.std.proofs.Common.{◌≡◌, false, not, ltb, sym, ◌∙◌, le-ltb, lt-ltb, eq-eqb, ne_eqb}
 use Rattle.rules.specs.Tables.{swi_levels}
 use Rattle.rules.specs.Swis.{create_cases}
 use Rattle.rules.specs.Answer.{first_given, not_t, unused}

@@ -1,6 +1,5 @@
 -- `create_effect` meets its contract: the lowest free Swi is found, and its row is stored with its priority and its initial trigger.
 use Rattle.rules.specs.Swis.{create_effect}
-use Rattle.std.proofs.Common.{rules}
 use Rattle.swis.proofs.calls.create_effect.Goals as goal
 
 pub returns : goal.returns

@@ -1,5 +1,5 @@
 -- `delete_code` meets its contract: each `return` gives the first of 01's cases that holds, since the tests before it failed.
-use Rattle.std.proofs.Common.{◌≡◌, false, eqb, sym, ◌∙◌, rules, eq-eqb, ne_eqb}
+use Rattle.std.proofs.Common.{◌≡◌, false, eqb, sym, ◌∙◌, eq-eqb, ne_eqb}
 use Rattle.rules.specs.Tables.{USED, swi}
 use Rattle.rules_laws.proofs.Calls.{absent-is}
 use Rattle.swis.proofs.PostSteps.{zero_is, zero-not}

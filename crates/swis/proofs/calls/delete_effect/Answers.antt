@@ -1,5 +1,4 @@
 use Rattle.rules.specs.Swis.{delete_effect}
-use Rattle.std.proofs.Common.{rules}
 use Rattle.swis.proofs.calls.delete_effect.Goals as goal
 
 pub returns : goal.returns

@@ -1,5 +1,5 @@
 -- `end_code` meets its contract: each `return` gives the first of 01's cases that holds, since the tests before it failed.
-use Rattle.std.proofs.Common.{◌≡◌, false, sym, ◌∙◌, rules, eq-eqb, ne_eqb}
+use Rattle.std.proofs.Common.{◌≡◌, false, sym, ◌∙◌, eq-eqb, ne_eqb}
 use Rattle.rules.specs.Swis.{end_cases}
 use Rattle.rules.specs.Answer.{first_given, not_s, unused}
 use Rattle.swis.proofs.calls.end_code.Goals as goal

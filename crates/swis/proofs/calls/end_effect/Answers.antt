@@ -1,6 +1,5 @@
 -- `end_effect` meets its contract: the Swi that runs leaves the line of active ones, and its taken trigger is 0.
 use Rattle.rules.specs.Swis.{end_effect}
-use Rattle.std.proofs.Common.{rules}
 use Rattle.swis.proofs.calls.end_effect.Goals as goal
 
 pub returns : goal.returns

@@ -1,6 +1,5 @@
 -- `taken_effect` meets its contract: the Swi that runs is found, and its taken trigger is the value.
 use Rattle.rules.specs.Swis.{taken_effect}
-use Rattle.std.proofs.Common.{rules}
 use Rattle.swis.proofs.calls.taken_effect.Goals as goal
 
 pub returns : goal.returns

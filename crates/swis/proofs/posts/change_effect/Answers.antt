@@ -1,6 +1,5 @@
 use Rattle.swis.proofs.PostSteps.{leaves}
 use Rattle.rules.specs.Swis.{change_effect}
-use Rattle.std.proofs.Common.{rules}
 use Rattle.swis.proofs.posts.change_effect.Goals as goal
 
 pub returns : goal.returns

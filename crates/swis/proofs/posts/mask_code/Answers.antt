@@ -1,5 +1,4 @@
 use Rattle.rules.specs.Swis.{post_cases, mask_cases}
-use Rattle.std.proofs.Common.{rules}
 use Rattle.swis.proofs.posts.mask_code.Goals as goal
 
 pub returns : goal.returns

@@ -1,5 +1,5 @@
 -- `post_code` meets its contract: each `return` gives the first of 01's cases that holds, since the tests before it failed.
-use Rattle.std.proofs.Common.{◌≡◌, false, eqb, sym, ◌∙◌, rules}
+use Rattle.std.proofs.Common.{◌≡◌, false, eqb, sym, ◌∙◌}
 use Rattle.rules.specs.Tables.{USED, swi}
 use Rattle.rules_laws.proofs.Calls.{absent-is}
 use Rattle.swis.proofs.PostSteps.{zero_is, zero-not}

@@ -1,6 +1,5 @@
 -- `post_swi` meets its contract: one not posted is marked and joins the line of its priority; one posted already, and no Swi, change nothing.
 use Rattle.swis.proofs.PostSteps.{posted-now, posted-already, posted-none}
-use Rattle.std.proofs.Common.{rules}
 use Rattle.swis.proofs.posts.post_swi.Goals as goal
 
 pub returns-then-swi-eq0 : goal.returns-then-swi-eq0

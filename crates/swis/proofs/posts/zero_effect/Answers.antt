@@ -1,6 +1,6 @@
 -- `zero_effect` meets its contract: the trigger is stored, and the Swi is posted exactly where it is 0.
 use Rattle.rules.specs.Swis.{change_effect, zero_effect}
-use Rattle.std.proofs.Common.{rules, eq-eqb, ne_eqb}
+use Rattle.std.proofs.Common.{eq-eqb, ne_eqb}
 use Rattle.swis.proofs.posts.zero_effect.Goals as goal
 
 pub returns-then-v-eq0 : goal.returns-then-v-eq0

@@ -1,9 +1,8 @@
 -- `free_swi` meets its contract: no row passed is free, so the first that is free is found, or none is.
 use Rattle.swis.proofs.PostSteps.{zero_is, zero-not}
-use Rattle.basics.proofs.Finds.{Passed, first-starts, first_goes, first-here, first-none}
+use Rattle.basics.proofs.Finds.{first-starts, first_goes, first-here, first-none}
 use Rattle.rules.specs.Swis.{free_swi}
-use Rattle.rules.specs.Tables.{swi_count, swi, USED}
-use Rattle.std.proofs.Common.{◌-◌, ◌≤◌, eqb, arith, rules}
+use Rattle.std.proofs.Common.{arith, rules}
 use Rattle.std.proofs.Common.{rules}
 use Rattle.swis.proofs.table.free_swi.Goals as goal
 

@@ -1,8 +1,7 @@
 -- `is_active` meets its contract: of those passed none is i, so one who is i is found, or nobody in the line is.
 use Rattle.swis.proofs.Steps.{active-here, active-not, active-none}
-use Rattle.rules.specs.Lines.{line, active_line}
 use Rattle.basics.specs.Lists.{count}
-use Rattle.std.proofs.Common.{◌≡◌, ◌-◌, ◌≤◌, take, refl, rules}
+use Rattle.std.proofs.Common.{refl, rules}
 use Rattle.std.proofs.Common.{rules}
 use Rattle.swis.proofs.table.is_active.Goals as goal
 

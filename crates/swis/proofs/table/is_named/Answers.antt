@@ -3,8 +3,7 @@ use Rattle.rules.specs.Tables.{clock_count}
 use Rattle.swis.proofs.Steps.{not_by, named_here, named-not}
 use Rattle.basics.proofs.Finds.{all_none, all_end}
 use Rattle.rules.specs.Swis.{is_named}
-use Rattle.basics.specs.Find.{all_below}
-use Rattle.std.proofs.Common.{◌≡◌, ◌-◌, ◌≤◌, true, not, sym, ap, rules}
+use Rattle.std.proofs.Common.{not, sym, ap, rules}
 use Rattle.std.proofs.Common.{rules}
 use Rattle.swis.proofs.table.is_named.Goals as goal
 

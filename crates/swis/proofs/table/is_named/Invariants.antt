@@ -1,10 +1,8 @@
 -- `is_named` meets its contract: no clock passed is by Swi i, so one that is by it is found, or none is.
 use Rattle.rules.specs.Tables.{clock_count}
-use Rattle.swis.proofs.Steps.{not_by, named_here, named-not}
-use Rattle.basics.proofs.Finds.{all_none, all_end}
-use Rattle.rules.specs.Swis.{is_named}
+use Rattle.swis.proofs.Steps.{not_by}
 use Rattle.basics.specs.Find.{all_below}
-use Rattle.std.proofs.Common.{◌≡◌, ◌-◌, ◌≤◌, true, not, sym, ap, rules}
+use Rattle.std.proofs.Common.{◌≡◌, ◌-◌, ◌≤◌, true}
 use Rattle.swis.proofs.table.is_named.Given as goal
 
 abbrev pub invariant-loop-n : goal.invariant-loop-n

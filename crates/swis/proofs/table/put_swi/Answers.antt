@@ -1,5 +1,5 @@
 -- `put_swi` meets its contract: the words are stored one after the other, and that is the row; where there is no such row, nothing is stored.
-use Rattle.std.proofs.Common.{[], ◌∷◌, rules}
+use Rattle.std.proofs.Common.{[], ◌∷◌}
 use Rattle.rules.specs.Tables.{swi_count, swi_width}
 use Rattle.rows.proofs.Records.{row_put, row-none}
 use Rattle.swis.proofs.table.put_swi.Goals as goal

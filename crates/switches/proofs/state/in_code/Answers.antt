@@ -1,5 +1,5 @@
 -- `in_code` meets its contract: each `return` gives the first of 01's cases that holds, since the tests before it failed.
-use Rattle.std.proofs.Common.{◌≡◌, false, sym, ◌∙◌, rules, le-ltb, lt-ltb}
+use Rattle.std.proofs.Common.{◌≡◌, false, sym, ◌∙◌, le-ltb, lt-ltb}
 use Rattle.rules.specs.Answer.{first_given, unused}
 use Rattle.rules.specs.Switches.{in_cases}
 use Rattle.switches.proofs.state.in_code.Goals as goal

@@ -1,5 +1,5 @@
 -- `interrupt_code` meets its contract: each `return` gives the first of 01's cases that holds, since the tests before it failed.
-use Rattle.std.proofs.Common.{◌≡◌, false, sym, ◌∙◌, rules, eq-eqb, ne_eqb}
+use Rattle.std.proofs.Common.{◌≡◌, false, sym, ◌∙◌, eq-eqb, ne_eqb}
 use Rattle.rules.specs.Answer.{first_given, not_i}
 use Rattle.rules.specs.Switches.{interrupt_cases}
 use Rattle.switches.proofs.state.interrupt_code.Goals as goal

@@ -1,7 +1,6 @@
 -- `interrupt_in` meets its contract: a refusal changes nothing; else the depth goes up, unless it is the most already.
-use Rattle.rules_laws.proofs.Calls.{refusal, effected}
+use Rattle.rules_laws.proofs.Calls.{effected}
 use Rattle.switches.proofs.Steps.{in_is, in-full}
-use Rattle.std.proofs.Common.{rules}
 use Rattle.switches.proofs.state.interrupt_in.Goals as goal
 
 pub returns-then-depth-lt-MOST_DEPTH : goal.returns-then-depth-lt-MOST_DEPTH

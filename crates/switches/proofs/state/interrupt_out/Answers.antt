@@ -1,7 +1,6 @@
 -- `interrupt_out` meets its contract: a code refuses; else the depth is one less.
-use Rattle.rules_laws.proofs.Calls.{refusal, effected}
+use Rattle.rules_laws.proofs.Calls.{effected}
 use Rattle.switches.proofs.Steps.{out-is}
-use Rattle.std.proofs.Common.{rules}
 use Rattle.switches.proofs.state.interrupt_out.Goals as goal
 
 pub returns : goal.returns

@@ -1,6 +1,5 @@
 -- `off` meets its contract: a code refuses; else the old settings are read before the named switches turn.
-use Rattle.std.proofs.Common.{rules}
-use Rattle.rules_laws.proofs.Calls.{refusal, effected}
+use Rattle.rules_laws.proofs.Calls.{effected}
 use Rattle.rules.specs.Answer.{code_of}
 use Rattle.rules.specs.Switches.{off_cases, off_effect}
 use Rattle.switches.proofs.Steps.{off-is}

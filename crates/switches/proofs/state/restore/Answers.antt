@@ -1,6 +1,5 @@
 -- `restore` meets its contract: a code refuses; else the switches that are named and in the key turn.
-use Rattle.std.proofs.Common.{rules}
-use Rattle.rules_laws.proofs.Calls.{refusal, effected}
+use Rattle.rules_laws.proofs.Calls.{effected}
 use Rattle.rules.specs.Answer.{code_of}
 use Rattle.rules.specs.Switches.{restore_cases, restore_effect}
 use Rattle.switches.proofs.Steps.{restored-is}

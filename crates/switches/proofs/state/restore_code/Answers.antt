@@ -1,5 +1,5 @@
 -- `restore_code` meets its contract: its two tests are the cases of the codes 2 and 4.
-use Rattle.std.proofs.Common.{sym, ◌∙◌, rules}
+use Rattle.std.proofs.Common.{sym, ◌∙◌}
 use Rattle.rules.specs.Answer.{first_given}
 use Rattle.rules.specs.Switches.{restore_cases}
 use Rattle.switches.proofs.state.restore_code.Goals as goal

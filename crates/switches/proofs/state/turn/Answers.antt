@@ -1,5 +1,5 @@
 -- `turn` meets its contract: of each of the four that the two last bits can be, the definition's two tests are computed.
-use Rattle.std.proofs.Common.{◌≡◌, arith, rules}
+use Rattle.std.proofs.Common.{◌≡◌, arith}
 use lib.Bits.{bit_and, and_le_r}
 use Rattle.rules.specs.Switches.{both_bits}
 use Rattle.switches.proofs.Steps.{swis-named, tasks-named}

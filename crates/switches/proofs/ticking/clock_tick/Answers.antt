@@ -1,7 +1,6 @@
 -- `clock_tick` meets its contract: a clock with no ticks left stays; else its row is aged, and its Swi posted if it fired.
 use Rattle.switches.proofs.Still.{clock-still}
 use Rattle.switches.proofs.Ticks.{clock-ticked}
-use Rattle.std.proofs.Common.{rules}
 use Rattle.switches.proofs.ticking.clock_tick.Goals as goal
 
 pub returns-then-k-eq0 : goal.returns-then-k-eq0

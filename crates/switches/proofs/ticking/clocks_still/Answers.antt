@@ -1,8 +1,7 @@
 -- `clocks_still` meets its contract: the ticks left of the clocks passed, put together, are 0 where each is.
-use Rattle.std.proofs.Common.{◌≡◌, ℕ, ◌-◌, ◌≤◌, eqb, List, arith, rules}
-use Rattle.switches.proofs.Still.{still-none, still-more, still-end}
-use Rattle.rules.specs.Tables.{clock_count, clock}
-use Rattle.switches.specs.Still.{still}
+use Rattle.std.proofs.Common.{◌-◌, arith}
+use Rattle.switches.proofs.Still.{still-none, still-more}
+use Rattle.rules.specs.Tables.{clock}
 use Rattle.switches.proofs.ticking.clocks_still.Invariants.{ticks}
 use Rattle.switches.proofs.ticking.clocks_still.Goals as goal
 

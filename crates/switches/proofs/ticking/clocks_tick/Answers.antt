@@ -1,9 +1,8 @@
 -- `clocks_tick` meets its contract: with no ticks left anywhere nothing changes; else each clock's tick is one step more in rising number.
-use Rattle.std.proofs.Common.{◌≡◌, ◌-◌, ◌≤◌, sym, refl, arith, rules}
+use Rattle.std.proofs.Common.{◌-◌, sym, refl, arith}
 use Rattle.switches.proofs.Still.{still-stays, clock-still}
 use Rattle.switches.proofs.Ticks.{one_more}
-use Rattle.basics.specs.Find.{rising}
-use Rattle.basics.proofs.Finds.{rising_none, rising-end}
+use Rattle.basics.proofs.Finds.{rising_none}
 use Rattle.rules.specs.Tables.{clock_count, clock}
 use Rattle.rules.specs.Tick.{clock_tables, clock_tick}
 use Rattle.switches.proofs.ticking.clocks_tick.Goals as goal

@@ -1,8 +1,7 @@
 -- `eight_still` meets its contract: the ticks left of the tasks passed, put together, are 0 where each is.
-use Rattle.std.proofs.Common.{◌≡◌, ℕ, ◌+◌, ◌-◌, ◌*◌, ◌≤◌, eqb, List, arith, rules}
-use Rattle.switches.proofs.Still.{still-none, still-more, still-end}
+use Rattle.std.proofs.Common.{◌-◌, arith}
+use Rattle.switches.proofs.Still.{still-none, still-more}
 use Rattle.rules.specs.Tables.{task}
-use Rattle.switches.specs.Still.{still}
 use Rattle.switches.proofs.ticking.eight_still.Invariants.{ticks}
 use Rattle.switches.proofs.ticking.eight_still.Goals as goal
 

@@ -1,11 +1,7 @@
 -- `eight_tick` meets its contract: with no ticks left among the eight nothing changes; else each task's tick is one step more.
-use Rattle.std.proofs.Common.{◌≡◌, ℕ, ◌+◌, ◌-◌, ◌*◌, ◌≤◌, sym, refl, arith, rules}
-use Rattle.switches.proofs.Still.{still-stays}
-use Rattle.switches.proofs.Ticks.{one_more, task-still}
+use Rattle.std.proofs.Common.{◌≡◌, ℕ, ◌+◌, ◌-◌, ◌*◌, ◌≤◌}
 use Rattle.basics.specs.Find.{rising}
-use Rattle.basics.proofs.Finds.{rising_none, rising-end}
 use Rattle.rules.specs.Lines.{TaskQueues, task_queues}
-use Rattle.rules.specs.Tables.{task}
 use Rattle.rules.specs.Tick.{task_tick}
 use Rattle.switches.proofs.ticking.eight_tick.Given as goal
 

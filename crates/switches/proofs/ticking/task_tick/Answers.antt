@@ -1,6 +1,5 @@
 -- `task_tick` meets its contract: nothing to count, the last tick, or one tick less.
 use Rattle.switches.proofs.Ticks.{task-still, task-ended, task-aged}
-use Rattle.std.proofs.Common.{rules}
 use Rattle.switches.proofs.ticking.task_tick.Goals as goal
 
 pub returns-then-left-eq0 : goal.returns-then-left-eq0

@@ -1,9 +1,6 @@
 -- `tasks_tick` meets its contract: each turn is eight steps more in rising number, four turns all the tasks.
-use Rattle.rules.specs.Tables.{task_count}
-use Rattle.std.proofs.Common.{◌≡◌, ◌-◌, ◌*◌, ◌≤◌, sym, arith, rules}
-use Rattle.switches.proofs.Still.{eight-more}
+use Rattle.std.proofs.Common.{◌≡◌, ◌-◌, ◌*◌, ◌≤◌}
 use Rattle.basics.specs.Find.{rising}
-use Rattle.basics.proofs.Finds.{rising_none, rising-end}
 use Rattle.rules.specs.Lines.{task_queues}
 use Rattle.rules.specs.Tick.{task_tick}
 use Rattle.switches.proofs.ticking.tasks_tick.Given as goal

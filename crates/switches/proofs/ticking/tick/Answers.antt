@@ -1,6 +1,6 @@
 -- `tick` meets its contract: the tick is counted, clocks come before tasks, and each part leaves what it promises.
 use Rattle.switches.proofs.Ticks.{tick_is}
-use Rattle.std.proofs.Common.{refl, rules}
+use Rattle.std.proofs.Common.{refl}
 use Rattle.switches.proofs.ticking.tick.Goals as goal
 
 pub returns : goal.returns

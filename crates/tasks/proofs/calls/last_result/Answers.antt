@@ -1,5 +1,5 @@
 -- `last_result` meets its contract: a refusal changes nothing; else the answer is the row's last outcome and value.
-use Rattle.rules_laws.proofs.Calls.{refusal, effected}
+use Rattle.rules_laws.proofs.Calls.{effected}
 use Rattle.tasks.proofs.Steps.{result-read}
 use Rattle.tasks.proofs.calls.last_result.Goals as goal
 

@@ -1,9 +1,7 @@
 -- `free_task` meets its contract: no row passed is free, so the first that is free is found, or none is.
-use borrow.Author.Tests.{eq-eqb, ne_eqb}
 use Prim.Native.Nat.{◌≤◌, ◌-◌}
 use lib.Dec.{eqb}
-use mathlib.Core.Path.{sym, ◌∙◌}
-use Rattle.basics.proofs.Finds.{Passed, first-starts, first_goes, first-here, first-none}
+use Rattle.basics.proofs.Finds.{Passed}
 use Rattle.rules.specs.Tables.{task_count, task}
 use Rattle.rules.specs.Tasks.{free_task}
 use Rattle.tasks.proofs.table.free_task.Given as goal

@@ -1,5 +1,5 @@
 -- `put_call` meets its contract: where the entries differ that is said; else the note is put over the end of the call's line.
-use borrow.Author.Tests.{not-true, not-false}
+use borrow.Author.Tests.{not-false}
 use Rattle.rules.specs.Text.{line_text}
 use Rattle.text.proofs.Lengths.{line-most}
 use Rattle.test_calls.proofs.Texts.{some, put-over}
