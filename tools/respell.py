@@ -16,6 +16,7 @@ SPECIAL = {"getD": "get_or", "byTSNaming": "by_ts_naming", "byTS": "by_ts", "not
 # lemmas that would have a definition's name after this, and a record's field that would hide one
 LEMMAS = re.compile(r"(?<![.`\w'-])(no_answer|no_call|handed_out|answers_of|nothing_left|one_list|laid_out)(?![\w'-])")
 IN_FILE = {
+    "crates/rules/proofs/Faster.antt": [(r"\b(lines_after|step_lines)\b", r"\1_lem")],
     "crates/trace_told/proofs/Refused.antt": [(r"\bsame_(row|heap)\b", r"same_\1_lem")],
     "crates/trace_changes/proofs/Sentences.antt": [(r"\bran_out\b", "clock_ran_out")],
 }
