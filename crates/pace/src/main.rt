@@ -1,11 +1,12 @@
 // Makes the calls of the log on standard input with `step`, again and again, and prints a sum over all answers: for measuring.
 #![tactic(auto)]
 
-ghost use Rattle.io.specs.Counts.{IsPrefixLen};
+ghost use Rattle.streams.specs.Counts.{IsPrefixLen};
 
 use call_lists::call_at;
 use pace_sums::Calls;
 use rules::{Clocks, Events, Heap, Lines, Mailboxes, Semaphores, State, Swis, Tasks};
+use std::io::Read;
 use text::Text;
 
 // The first n calls.
@@ -75,42 +76,41 @@ fn one_round(levels: u32, calls: &Calls, n: usize, from: u32) -> u32 {
 }
 
 // How often the log is gone through, by the program's first argument.
-fn rounds() -> u32 {
-    let mut name = io::buffer();
-    let length = os::arg(1, &mut name);
+fn rounds(rt: &HostRuntime) -> u32 {
+    let mut name = [0u8; 4096];
+    let length = streams::word(rt, 1, &mut name).unwrap_or(0);
     pace_sums::rounds_for(&name[..length])
 }
 
 // Puts the line of the sum into a buffer, and writes it from there.
-fn write_sum(out: &mut Text, sum: u32) {
+fn write_sum(rt: &HostRuntime, out: &mut Text, sum: u32) {
     let len = pace_sums::put_sum(out, sum);
-    io::write_all(libc::STDOUT_FILENO, text::front(out, len));
+    let _ = rt.write_all(text::front(out, len));
 }
 
-fn print_sum(sum: u32) {
+fn print_sum(rt: &HostRuntime, sum: u32) {
     let mut out = [0u8; 16384];
-    write_sum(&mut out, sum);
+    write_sum(rt, &mut out, sum);
 }
 
 // Reads standard input, once: a file gives all that fits.
-fn read_log(log: &mut [u8]) -> usize
+fn read_log(rt: &HostRuntime, log: &mut [u8]) -> usize
     ensures { IsPrefixLen result log.new }
 {
-    let got = libc::read(libc::STDIN_FILENO, log);
-    io::count(got, log)
+    rt.stdin().read(log).unwrap_or(0)
 }
 
-fn main() {
+fn main(rt: HostRuntime) {
     let mut log = [0u8; 65520];
-    let n = read_log(&mut log) / 20;
+    let n = read_log(&rt, &mut log) / 20;
     let mut calls = [0u32; 16380];
     pace_sums::as_calls(&log, &mut calls, n);
     let levels = pace_sums::levels_of(&log);
     let mut sum = 0;
-    let mut left = rounds();
+    let mut left = rounds(&rt);
     while 0 < left {
         sum = one_round(levels, &calls, n, sum);
         left -= 1;
     }
-    print_sum(sum);
+    print_sum(&rt, sum);
 }

@@ -28,9 +28,9 @@ struct Filled {
 }
 
 // The first letter of argument k; 0 where there is none.
-fn letter(k: usize) -> u8 {
-    let mut name = io::buffer();
-    let length = os::arg(k, &mut name);
+fn letter(rt: &HostRuntime, k: usize) -> u8 {
+    let mut name = [0u8; 4096];
+    let length = streams::word(rt, k, &mut name).unwrap_or(0);
     let word = &name[..length];
     if word.len() == 0 {
         return 0;
@@ -39,9 +39,9 @@ fn letter(k: usize) -> u8 {
 }
 
 // How often, by the program's second argument.
-fn rounds() -> u32 {
-    let mut name = io::buffer();
-    let length = os::arg(2, &mut name);
+fn rounds(rt: &HostRuntime) -> u32 {
+    let mut name = [0u8; 4096];
+    let length = streams::word(rt, 2, &mut name).unwrap_or(0);
     pace_sums::rounds_for(&name[..length])
 }
 
@@ -114,21 +114,22 @@ fn searches(lines: &mut Lines, state: &State, search: u8, filled: Filled, n: u32
 }
 
 // Puts the line of the sum into a buffer, and writes it from there.
-fn write_sum(out: &mut Text, sum: u32) {
+fn write_sum(rt: &HostRuntime, out: &mut Text, sum: u32) {
     let len = pace_sums::put_sum(out, sum);
-    io::write_all(libc::STDOUT_FILENO, text::front(out, len));
+    let _ = rt.write_all(text::front(out, len));
 }
 
-fn print_sum(sum: u32) {
+fn print_sum(rt: &HostRuntime, sum: u32) {
     let mut out = [0u8; 16384];
-    write_sum(&mut out, sum);
+    write_sum(rt, &mut out, sum);
 }
 
-fn main() {
+fn main(rt: HostRuntime) {
     let mut lines = [0u8; LINE_BYTES];
-    let search = letter(1);
+    let search = letter(&rt, 1);
     let mut state = [0u32; STATE_WIDTH];
     state[LEVELS] = levels_for(search);
-    let filled = queues_for(letter(3));
-    print_sum(searches(&mut lines, &state, search, filled, rounds()));
+    let filled = queues_for(letter(&rt, 3));
+    let sum = searches(&mut lines, &state, search, filled, rounds(&rt));
+    print_sum(&rt, sum);
 }

@@ -6,12 +6,10 @@ use mathlib.Core.Bool.{Bool, true, false, not, ◌&&◌, true≢false, false≢t
 use mathlib.Core.List.{List, [], ◌∷◌, ◌++◌}
 use native.Mathlib.Omega.{arith}
 use lib.Dec.{ltb, eqb}
-use lib.IntN.{ℤ, pos, negsuc}
-use lib.Signed.{lt_z}
+use Rattle.std.specs.Prelude.{Option, Some, None}
 use lib.ListN.{length, take, drop, length-take, length-drop}
 use lib.Seq.{length-take-le}
-use borrow.Author.Tests.{ltb-true, le-ltb, not-true}
-use Rattle.io.specs.Counts.{clamp_len}
+use borrow.Author.Tests.{ltb-true, not-true}
 use Rattle.rules.specs.Sound.{Sound}
 use Rattle.rules.specs.declared.Tables.{Tables}
 use Rattle.desk_parts.specs.Part.{ReplayState, turn, begins, start, after_reads}
@@ -30,19 +28,14 @@ pub goes_on : (n : ℕ) (b : Bool) → (ltb 0 n && not b) ≡ true → (0 < n) �
 goes_on n b h = let k = both (ltb 0 n) (not b) h in (ltb-true 0 n k.0, not-true b k.1)
 
 -- ---- what a read brought
--- the count of its answer, and the answer's test against 0
-pub by_answer : (z : ℤ) (n : ℕ) → ◌≡◌ {A = Came} (record { more = clamp_len z n; failed = lt_z z (pos 0) }) (came_by z n)
-by_answer (pos k) n = rw (le-ltb k 0 zero-le)
-by_answer (negsuc k) n = refl
-
 -- there is room for the bytes behind the first
 pub room : (held : ℕ) (qs : List ℕ) → length (take (length qs - held) (drop held qs)) ≡ length qs - held
 room held qs = omega (arith, length-take (length qs - held) (drop held qs), length-drop held qs)
 
 -- no more came than there is room for
-pub has_room : (z : ℤ) (n : ℕ) → (came_by z n).more ≤ n
-has_room (pos k) n = omega arith
-has_room (negsuc k) n = zero-le
+pub has_room : (a : Option ℕ) (n : ℕ) → (came_by a n).more ≤ n
+has_room (Some k) n = omega arith
+has_room None n = zero-le
 
 -- ---- a turn
 -- the read failed

@@ -1,20 +1,20 @@
 -- What is handed from turn to turn, whatever is read and whether or not it can be written.
-use Rattle.std.specs.Prelude.{ℕ, ◌-◌, min, ◌≡◌, ◌⊎◌, Bool, true, false, List, eqb, ℤ, pos, negsuc, length, take}
+use Rattle.std.specs.Prelude.{ℕ, ◌-◌, min, ◌≡◌, ◌⊎◌, Bool, true, false, List, eqb, Option, Some, None, length, take}
 use Rattle.rules.specs.Sound.{Sound}
 use Rattle.rules.specs.declared.Tables.{Tables}
 use Rattle.desk_parts.specs.Part.{ReplayState, turn, begins, after_reads}
 use Rattle.desk.specs.declared.Progress.{Progress}
 use Rattle.replay.specs.declared.Came.{Came}
 
--- what a read brought that answered z and had room for n bytes: z bytes, or as many as have room; an answer below 0 is a read that failed, and brought none
-abbrev pub came_by : ℤ → ℕ → Came
-came_by (pos k) n = record { more = min k n; failed = false }
-came_by (negsuc k) n = record { more = 0; failed = true }
+-- what a read brought that answered a and had room for n bytes: where it answered a number of bytes these, or as many as have room; no number is a read that failed, and brought none
+abbrev pub came_by : Option ℕ → ℕ → Came
+came_by (Some k) n = record { more = min k n; failed = false }
+came_by None n = record { more = 0; failed = true }
 
 -- a read behind the first bytes of part ps, which is now qs: those stay, and what came is what a read's answer says, with the room behind them
 pub record Behind (held : ℕ) (ps qs : List ℕ) (r : Came) : Type 0 where
   pub waits : take held qs ≡ take held ps
-  pub answer : ℤ
+  pub answer : Option ℕ
   pub came : r ≡ came_by answer (length qs - held)
 
 -- a replay that is stopped has ended, and all else is as it was

@@ -3,14 +3,18 @@
 #![tactic(auto)]
 
 ghost use Rattle.std.specs.Prelude.{◌≡◌, ◌⊎◌, length};
+ghost use Rattle.std.specs.Result.{result_ok};
 ghost use Rattle.rules.specs.Fresh.{fresh};
 ghost use Rattle.rules.specs.Tables.{tables};
 ghost use Rattle.kernel.specs.Safe.{Safe};
-ghost use Rattle.desk.specs.Done.{had, has, came};
+ghost use Rattle.desk.specs.Done.{replay_state, behind};
 ghost use Rattle.replay.specs.Turns.{came_by, Behind, stopped, Handed, Replayed};
 
 use desk::{Part, Progress};
 use rules::{Clocks, Events, Heap, Lines, Mailboxes, Semaphores, State, Swis, Tables, Tasks};
+use std::io;
+use std::io::Read;
+use streams::fail;
 use text::Text;
 
 // What a read brought: how many bytes, and whether it failed.
@@ -21,25 +25,31 @@ struct Came {
 }
 
 // What a read brought that answered `got` and was lent this room.
-fn brought(got: isize, room: &[u8]) -> Came
-    ensures { result ≡ came_by got (length room.now) }
+fn brought(got: io::Result<usize>, room: &[u8]) -> Came
+    ensures { result ≡ came_by (result_ok got) (length room.now) }
 {
-    let more = io::count(got, room);
+    let more = got.unwrap_or(0).min(room.len());
     Came {
         more,
-        failed: got < 0,
+        failed: got.is_err(),
     }
 }
 
 // Says of `name` why a read failed, where it did.
-fn tell_failed(name: &[u8], failed: bool) {
-    if failed {
-        os::fail(name);
+fn tell_failed(rt: &HostRuntime, name: &[u8], got: io::Result<usize>) {
+    if let Err(error) = got {
+        fail(rt, name, error);
     }
 }
 
 // Reads behind the bytes that wait; `name` is told where the read fails. There is always room: fewer than 20 of them wait.
-fn read_behind(fd: i32, name: &[u8], part: &mut [u8], held: usize) -> Came
+fn read_behind<R: Read>(
+    rt: &HostRuntime,
+    from: &mut R,
+    name: &[u8],
+    part: &mut [u8],
+    held: usize,
+) -> Came
     ensures { Behind held part.old part.new result }
 {
     if part.len() <= held {
@@ -48,29 +58,34 @@ fn read_behind(fd: i32, name: &[u8], part: &mut [u8], held: usize) -> Came
             failed: true,
         };
     }
-    let got = libc::read(fd, &mut part[held..]);
+    let got = from.read(&mut part[held..]);
     let came = brought(got, &part[held..]);
-    tell_failed(name, came.failed);
+    tell_failed(rt, name, got);
     came
 }
 
 // The same on the whole part, which becomes a slice where it is passed on.
-fn read_part(fd: i32, name: &[u8], part: &mut Part, held: usize) -> Came
+fn read_part<R: Read>(
+    rt: &HostRuntime,
+    from: &mut R,
+    name: &[u8],
+    part: &mut Part,
+    held: usize,
+) -> Came
     ensures { Behind held part.old part.new result }
 {
-    read_behind(fd, name, part, held)
+    read_behind(rt, from, name, part, held)
 }
 
 // Writes the text, and says so. Who reads it may have gone, which is no fault.
-fn write_text(out: &[u8], len: usize) -> bool {
-    if io::write_all(libc::STDOUT_FILENO, text::front(out, len)) {
-        return true;
+fn write_text(rt: &HostRuntime, out: &[u8], len: usize) -> bool {
+    if let Err(error) = rt.write_all(text::front(out, len)) {
+        if !streams::is_gone(error) {
+            fail(rt, b"standard output", error);
+        }
+        return false;
     }
-    let error = os::errno();
-    if (error != libc::EPIPE) & (error != libc::EBADF) {
-        os::fail(b"standard output");
-    }
-    false
+    true
 }
 
 fn stopped(p: Progress) -> Progress
@@ -82,10 +97,10 @@ fn stopped(p: Progress) -> Progress
 }
 
 // Writes the text of a turn; the replay has ended where it cannot be written.
-fn written(out: &[u8], p: Progress) -> Progress
+fn written(rt: &HostRuntime, out: &[u8], p: Progress) -> Progress
     ensures { (result ≡ p) ⊎ (result ≡ stopped p) }
 {
-    if write_text(out, p.len) {
+    if write_text(rt, out, p.len) {
         return p;
     }
     stopped(p)
@@ -93,6 +108,7 @@ fn written(out: &[u8], p: Progress) -> Progress
 
 // One turn: what came is replayed, and its text is written.
 fn turn(
+    rt: &HostRuntime,
     tasks: &mut Tasks,
     lines: &mut Lines,
     semaphores: &mut Semaphores,
@@ -108,9 +124,9 @@ fn turn(
     out: &mut Text,
 ) -> Progress
     requires { Safe (tables tasks.old lines.old semaphores.old events.old mailboxes.old swis.old clocks.old heap.old state.old) }
-    ensures handed { Handed read (came part p read.more)
-        (had (tables tasks.old lines.old semaphores.old events.old mailboxes.old swis.old clocks.old heap.old state.old) part out p)
-        (has (tables tasks.new lines.new semaphores.new events.new mailboxes.new swis.new clocks.new heap.new state.new) part out result) }
+    ensures handed { Handed read (behind part.old p read.more)
+        (replay_state (tables tasks.old lines.old semaphores.old events.old mailboxes.old swis.old clocks.old heap.old state.old) part.old out.old p)
+        (replay_state (tables tasks.new lines.new semaphores.new events.new mailboxes.new swis.new clocks.new heap.new state.new) part.new out.new result) }
     ensures safe { Safe (tables tasks.new lines.new semaphores.new events.new mailboxes.new swis.new clocks.new heap.new state.new) }
 {
     if read.failed {
@@ -120,12 +136,12 @@ fn turn(
         tasks, lines, semaphores, events, mailboxes, swis, clocks, heap, state, part, read.more, p,
         out,
     );
-    written(out, next)
+    written(rt, out, next)
 }
 
-// Replays what can be read at fd, and answers the tables that it came to; `name` is told where a read fails.
+// Replays what can be read, and answers the tables that it came to; `name` is told where a read fails.
 // A loop has to end, and nothing says that a log does: the turns are counted down from a number that no run comes to.
-fn replay_all(fd: i32, name: &[u8]) -> Tables
+fn replay_all<R: Read>(rt: &HostRuntime, from: &mut R, name: &[u8]) -> Tables
     ensures { Replayed fresh result }
 {
     let fresh = entries::fresh(rules::numbers::FEW_LEVELS).tables;
@@ -143,8 +159,9 @@ fn replay_all(fd: i32, name: &[u8]) -> Tables
     let mut p = desk::begun();
     let mut turns = u64::MAX;
     while (0 < turns) & !p.ended {
-        let read = read_part(fd, name, &mut part, p.held);
+        let read = read_part(rt, from, name, &mut part, p.held);
         p = turn(
+            rt,
             &mut tasks,
             &mut lines,
             &mut semaphores,
@@ -174,27 +191,29 @@ fn replay_all(fd: i32, name: &[u8]) -> Tables
     }
 }
 
-fn main() {
-    let words = os::arg_count();
+// Replays the log in the file of this name.
+fn replay_named(rt: &HostRuntime, name: &[u8]) {
+    match streams::open(rt, name) {
+        Ok(mut log) => {
+            replay_all(rt, &mut log, name);
+        }
+        Err(error) => fail(rt, name, error),
+    }
+}
+
+fn main(rt: HostRuntime) {
+    let words = streams::words(&rt);
     if 2 < words {
-        io::write_all(libc::STDERR_FILENO, b"usage: replay [LOG]\n");
+        let _ = rt.stderr().write_all(b"usage: replay [LOG]\n");
         return;
     }
     if words < 2 {
-        replay_all(libc::STDIN_FILENO, b"standard input");
+        replay_all(&rt, &mut rt.stdin(), b"standard input");
         return;
     }
-    let mut name = io::buffer();
-    let length = os::arg(1, &mut name);
-    if os::errno() != 0 {
-        os::fail(b"argument");
-        return;
+    let mut name = [0u8; 4096];
+    match streams::word(&rt, 1, &mut name) {
+        Ok(length) => replay_named(&rt, &name[..length]),
+        Err(error) => fail(&rt, b"argument", error),
     }
-    let fd = os::open_read(&name[..length]);
-    if fd < 0 {
-        os::fail(&name[..length]);
-        return;
-    }
-    replay_all(fd, &name[..length]);
-    libc::close(fd);
 }

@@ -15,21 +15,21 @@ fn call_of(number: u8, bytes: &[u8]) -> Call {
 }
 
 // The log's last line.
-fn print_last(found: Read, n: u64) {
+fn print_last(rt: &HostRuntime, found: Read, n: u64) {
     match found {
         Read::Record {
             number: _,
             start: _,
-        } => print_word(b"record", n),
-        Read::End => print_word(b"end", n),
-        Read::Cut(at) => print_word(b"cut", at as u64),
-        Read::Length(at) => print_word(b"length", at as u64),
-        Read::Version(at) => print_word(b"version", at as u64),
+        } => print_word(rt, b"record", n),
+        Read::End => print_word(rt, b"end", n),
+        Read::Cut(at) => print_word(rt, b"cut", at as u64),
+        Read::Length(at) => print_word(rt, b"length", at as u64),
+        Read::Version(at) => print_word(rt, b"version", at as u64),
     }
 }
 
 // The records of a log, of which it has no more than bytes, each by both entries, and its last line.
-fn try_records(log: &[u8]) {
+fn try_records(rt: &HostRuntime, log: &[u8]) {
     let levels = call_log::levels_for(call_log::version_of(log));
     let mut t = entries::fresh(levels).tables;
     let mut u = t;
@@ -43,7 +43,7 @@ fn try_records(log: &[u8]) {
         };
         n = std::num::wrapping_add_u64(n, 1);
         let tried = try_call(t, u, call_of(number, call_log::arguments(log, start)));
-        print_call(n, tried);
+        print_call(rt, n, tried);
         let step = tried.step;
         let in_place = tried.in_place;
         t = step.tables;
@@ -51,19 +51,18 @@ fn try_records(log: &[u8]) {
         at = call_log::move_to(found, at);
         left -= 1;
     }
-    print_last(call_log::read_at(log, at), n);
+    print_last(rt, call_log::read_at(log, at), n);
 }
 
 // A log by its file's name.
-pub(crate) fn try_log(path: &[u8]) {
-    let fd = os::open_read(path);
-    if fd < 0 {
-        os::fail(path);
-        return;
+pub(crate) fn try_log(rt: &HostRuntime, path: &[u8]) {
+    match streams::open(rt, path) {
+        Ok(mut file) => {
+            let mut log = [0u8; 65536];
+            let n = streams::read_full(&mut file, &mut log);
+            print_heading(rt, path);
+            try_records(rt, &log[..n]);
+        }
+        Err(error) => streams::fail(rt, path, error),
     }
-    let mut log = io::large_buffer();
-    let n = io::read_full(fd, &mut log);
-    libc::close(fd);
-    print_heading(path);
-    try_records(&log[..n]);
 }

@@ -7,14 +7,14 @@ mod print;
 
 use logs::try_log;
 
-fn main() {
-    try_log(b"tasks.log");
-    try_log(b"swis.log");
-    try_log(b"semaphores.log");
-    try_log(b"events.log");
-    try_log(b"mailboxes.log");
-    try_log(b"clocks.log");
-    try_log(b"heap.log");
-    try_log(b"switches.log");
-    try_log(b"levels.log");
+fn main(rt: HostRuntime) {
+    try_log(&rt, b"tasks.log");
+    try_log(&rt, b"swis.log");
+    try_log(&rt, b"semaphores.log");
+    try_log(&rt, b"events.log");
+    try_log(&rt, b"mailboxes.log");
+    try_log(&rt, b"clocks.log");
+    try_log(&rt, b"heap.log");
+    try_log(&rt, b"switches.log");
+    try_log(&rt, b"levels.log");
 }

@@ -137,14 +137,14 @@ fn put_row(out: &mut Text, n: u64, step: Step, room: &Room) -> usize {
 }
 
 // Writes the first `len` bytes of a buffer.
-fn write_text(out: &Text, len: usize) {
-    io::write_all(libc::STDOUT_FILENO, text::front(out, len));
+fn write_text(rt: &HostRuntime, out: &Text, len: usize) {
+    let _ = rt.write_all(text::front(out, len));
 }
 
-fn print_row(n: u64, step: Step, room: &Room) {
+fn print_row(rt: &HostRuntime, n: u64, step: Step, room: &Room) {
     let mut out = [0u8; 16384];
     let len = put_row(&mut out, n, step, room);
-    write_text(&out, len);
+    write_text(rt, &out, len);
 }
 
 // From a row on the tables are not sound: they have 17 levels.
@@ -157,21 +157,21 @@ fn prepare(t: Tables, n: u64) -> Tables {
 }
 
 // Hands the list of row n over, and prints what came of it. Answers the next tables.
-fn hand_over(t: Tables, n: u64) -> Tables {
+fn hand_over(rt: &HostRuntime, t: Tables, n: u64) -> Tables {
     let lent = row_of(n);
     let words = words_of(n);
     let mut room = [UNTOUCHED; MOST_ROOM];
     let end = lent_room(lent.1);
     let step = call_list(t, front(&words, lent.0), &mut room[..end]);
-    print_row(n, step, &room);
+    print_row(rt, n, step, &room);
     step.tables
 }
 
-fn main() {
+fn main(rt: HostRuntime) {
     let mut t = entries::fresh(FEW_LEVELS).tables;
     let mut n = 1;
     while n <= ROWS {
-        t = hand_over(prepare(t, n), n);
+        t = hand_over(&rt, prepare(t, n), n);
         n += 1;
     }
 }

@@ -15,75 +15,89 @@ const INTERRUPT_IN: Call = Call {
 };
 
 // The line of call n, and whether the tables are as they were.
-fn print_change(n: u64, tried: Tried, is_same: bool) {
+fn print_change(rt: &HostRuntime, n: u64, tried: Tried, is_same: bool) {
     if is_same {
-        print_call(n, tried, b" same");
+        print_call(rt, n, tried, b" same");
         return;
     }
-    print_call(n, tried, b" changed");
+    print_call(rt, n, tried, b" changed");
 }
 
 // The next call, by both entries: its line, and whether every table is as it was.
-fn interrupt_in(n: &mut u64, t: Tables) {
+fn interrupt_in(rt: &HostRuntime, n: &mut u64, t: Tables) {
     *n = std::num::wrapping_add_u64(*n, 1);
     let tried = try_call(t, t, INTERRUPT_IN);
     let in_place = tried.in_place;
-    print_change(*n, tried, same_tables(t, in_place.tables));
+    print_change(rt, *n, tried, same_tables(t, in_place.tables));
 }
 
 // The heading of a rule, of which no call was made so far.
-pub(crate) fn begin(name: &[u8]) -> u64 {
-    print_heading(name);
+pub(crate) fn begin(rt: &HostRuntime, name: &[u8]) -> u64 {
+    print_heading(rt, name);
     0
 }
 
 // The call on sound tables, which it changes.
-pub(crate) fn try_sound(name: &[u8], t: Tables) {
-    let mut n = begin(name);
-    interrupt_in(&mut n, t);
+pub(crate) fn try_sound(rt: &HostRuntime, name: &[u8], t: Tables) {
+    let mut n = begin(rt, name);
+    interrupt_in(rt, &mut n, t);
 }
 
 // The call with each of these values at a word of a row.
-fn try_word(t: Tables, n: &mut u64, row: Row, f: usize, values: &[u32]) {
+fn try_word(rt: &HostRuntime, t: Tables, n: &mut u64, row: Row, f: usize, values: &[u32]) {
     let mut i = 0;
     while i < values.len() {
-        interrupt_in(n, with_word(t, row, f, values[i]));
+        interrupt_in(rt, n, with_word(t, row, f, values[i]));
         i += 1;
     }
 }
 
 // The call with each of these values at each of these words of a row.
-pub(crate) fn try_row(t: Tables, n: &mut u64, row: Row, words: &[usize], values: &[u32]) {
+pub(crate) fn try_row(
+    rt: &HostRuntime,
+    t: Tables,
+    n: &mut u64,
+    row: Row,
+    words: &[usize],
+    values: &[u32],
+) {
     let mut i = 0;
     while i < words.len() {
-        try_word(t, n, row, words[i], values);
+        try_word(rt, t, n, row, words[i], values);
         i += 1;
     }
 }
 
 // The call with a value at a word of each of these tasks.
-pub(crate) fn try_tasks(t: Tables, n: &mut u64, tasks: &[usize], f: usize, x: u32) {
+pub(crate) fn try_tasks(
+    rt: &HostRuntime,
+    t: Tables,
+    n: &mut u64,
+    tasks: &[usize],
+    f: usize,
+    x: u32,
+) {
     let mut i = 0;
     while i < tasks.len() {
-        interrupt_in(n, with_word(t, Row::Task(tasks[i]), f, x));
+        interrupt_in(rt, n, with_word(t, Row::Task(tasks[i]), f, x));
         i += 1;
     }
 }
 
 // The call with each of these as one more at the end of line j.
-pub(crate) fn try_joined(t: Tables, n: &mut u64, j: usize, who: &[u32]) {
+pub(crate) fn try_joined(rt: &HostRuntime, t: Tables, n: &mut u64, j: usize, who: &[u32]) {
     let mut i = 0;
     while i < who.len() {
-        interrupt_in(n, joined(t, j, who[i]));
+        interrupt_in(rt, n, joined(t, j, who[i]));
         i += 1;
     }
 }
 
 // The call with nobody in one of these lines.
-pub(crate) fn try_emptied(t: Tables, n: &mut u64, lines: &[usize]) {
+pub(crate) fn try_emptied(rt: &HostRuntime, t: Tables, n: &mut u64, lines: &[usize]) {
     let mut i = 0;
     while i < lines.len() {
-        interrupt_in(n, emptied(t, lines[i]));
+        interrupt_in(rt, n, emptied(t, lines[i]));
         i += 1;
     }
 }

@@ -4,7 +4,7 @@ use rules::numbers::{CLOCK_ROWS, CLOCK_WIDTH, HEAP_UNITS, LINE_COUNT, LINE_WIDTH
 use rules::{Clocks, Heap, Lines, State, Tables};
 
 // A row of a table: of a task, an object or a line by its number, the state, or all units of the heap. A line's first word is how many stand there.
-#[derive(Drop)]
+#[derive(Clone, Copy)]
 pub(crate) enum Row {
     Task(usize),
     Semaphore(usize),

@@ -14,45 +14,81 @@ const LAST: u32 = u32::MAX;
 const LAST_BYTE: u32 = u8::MAX as u32;
 
 // Each number out of range by far, one after the other.
-pub(crate) fn break_all(t: Tables) {
-    words(t);
-    lines(t);
+pub(crate) fn break_all(rt: &HostRuntime, t: Tables) {
+    words(rt, t);
+    lines(rt, t);
 }
 
 // "All numbers are in this page's ranges": the last number that a word holds, or a unit of the heap.
-fn words(t: Tables) {
-    let mut n = begin(b"words far out of range");
+fn words(rt: &HostRuntime, t: Tables) {
+    let mut n = begin(rt, b"words far out of range");
     let of_state = [DEPTH, SWIS, TASKS, CURRENT, LEVELS];
-    try_row(t, &mut n, Row::State, &of_state, &[LAST]);
-    try_row(t, &mut n, Row::Task(1), &[MODE, TASK_PRIORITY], &[LAST]);
-    try_tasks(t, &mut n, &[3, 4, 5, 6], OBJECT, LAST);
-    try_tasks(t, &mut n, &[7], OUTCOME, LAST);
-    try_row(t, &mut n, Row::Semaphore(1), &[USED, KIND], &[LAST]);
-    try_row(t, &mut n, Row::Semaphore(2), &[COUNT], &[LAST]);
-    try_row(t, &mut n, Row::Event(1), &[USED], &[LAST]);
-    try_row(t, &mut n, Row::Mailbox(2), &[CAPACITY, MESSAGES], &[LAST]);
-    try_row(t, &mut n, Row::Swi(3), &[USED, POSTED], &[LAST]);
-    try_row(t, &mut n, Row::Swi(1), &[PRIORITY], &[LAST]);
-    try_row(t, &mut n, Row::Swi(2), &[PRIORITY], &[LAST]);
-    try_row(t, &mut n, Row::Clock(1), &[USED, CLOCK_SWI], &[LAST]);
-    try_row(t, &mut n, Row::Clock(0), &[CLOCK_SWI], &[LAST]);
-    try_row(t, &mut n, Row::Units, &[3], &[LAST_BYTE]);
+    try_row(rt, t, &mut n, Row::State, &of_state, &[LAST]);
+    try_row(rt, t, &mut n, Row::Task(1), &[MODE, TASK_PRIORITY], &[LAST]);
+    try_tasks(rt, t, &mut n, &[3, 4, 5, 6], OBJECT, LAST);
+    try_tasks(rt, t, &mut n, &[7], OUTCOME, LAST);
+    try_row(rt, t, &mut n, Row::Semaphore(1), &[USED, KIND], &[LAST]);
+    try_row(rt, t, &mut n, Row::Semaphore(2), &[COUNT], &[LAST]);
+    try_row(rt, t, &mut n, Row::Event(1), &[USED], &[LAST]);
+    try_row(
+        rt,
+        t,
+        &mut n,
+        Row::Mailbox(2),
+        &[CAPACITY, MESSAGES],
+        &[LAST],
+    );
+    try_row(rt, t, &mut n, Row::Swi(3), &[USED, POSTED], &[LAST]);
+    try_row(rt, t, &mut n, Row::Swi(1), &[PRIORITY], &[LAST]);
+    try_row(rt, t, &mut n, Row::Swi(2), &[PRIORITY], &[LAST]);
+    try_row(rt, t, &mut n, Row::Clock(1), &[USED, CLOCK_SWI], &[LAST]);
+    try_row(rt, t, &mut n, Row::Clock(0), &[CLOCK_SWI], &[LAST]);
+    try_row(rt, t, &mut n, Row::Units, &[3], &[LAST_BYTE]);
 }
 
 // The last number that a byte holds: as a line's length, and as one who stands there, of each kind of line.
-fn lines(t: Tables) {
-    let mut n = begin(b"lines far out of range");
-    try_row(t, &mut n, Row::Line(SEMAPHORE_LINES), &[0, 1], &[LAST_BYTE]);
-    try_row(t, &mut n, Row::Line(MAILBOX_LINES), &[0, 1], &[LAST_BYTE]);
-    try_row(t, &mut n, Row::Line(EVENT_LINES), &[0, 1], &[LAST_BYTE]);
+fn lines(rt: &HostRuntime, t: Tables) {
+    let mut n = begin(rt, b"lines far out of range");
     try_row(
+        rt,
+        t,
+        &mut n,
+        Row::Line(SEMAPHORE_LINES),
+        &[0, 1],
+        &[LAST_BYTE],
+    );
+    try_row(
+        rt,
+        t,
+        &mut n,
+        Row::Line(MAILBOX_LINES),
+        &[0, 1],
+        &[LAST_BYTE],
+    );
+    try_row(rt, t, &mut n, Row::Line(EVENT_LINES), &[0, 1], &[LAST_BYTE]);
+    try_row(
+        rt,
         t,
         &mut n,
         Row::Line(POSTED_LINES + 6),
         &[0, 1],
         &[LAST_BYTE],
     );
-    try_row(t, &mut n, Row::Line(ACTIVE_LINE), &[0, 1, 2], &[LAST_BYTE]);
-    try_row(t, &mut n, Row::Line(READY_LINES + 5), &[0, 1], &[LAST_BYTE]);
-    try_row(t, &mut n, Row::Line(READY_LINES), &[1], &[LAST_BYTE]);
+    try_row(
+        rt,
+        t,
+        &mut n,
+        Row::Line(ACTIVE_LINE),
+        &[0, 1, 2],
+        &[LAST_BYTE],
+    );
+    try_row(
+        rt,
+        t,
+        &mut n,
+        Row::Line(READY_LINES + 5),
+        &[0, 1],
+        &[LAST_BYTE],
+    );
+    try_row(rt, t, &mut n, Row::Line(READY_LINES), &[1], &[LAST_BYTE]);
 }

@@ -13,12 +13,12 @@ mod sets;
 use calls::try_sound;
 use sets::{busy, held, wide};
 
-fn main() {
-    try_sound(b"busy tables", busy());
-    try_sound(b"held tables", held());
-    try_sound(b"wide tables", wide());
-    of_tasks::break_all(busy());
-    of_lines::break_all(busy());
-    of_objects::break_all(busy());
-    far::break_all(busy());
+fn main(rt: HostRuntime) {
+    try_sound(&rt, b"busy tables", busy());
+    try_sound(&rt, b"held tables", held());
+    try_sound(&rt, b"wide tables", wide());
+    of_tasks::break_all(&rt, busy());
+    of_lines::break_all(&rt, busy());
+    of_objects::break_all(&rt, busy());
+    far::break_all(&rt, busy());
 }

@@ -3,20 +3,20 @@ use test_calls::trial::Tried;
 use text::Text;
 
 // Writes the first `len` bytes of a buffer.
-fn write_text(out: &Text, len: usize) {
-    io::write_all(libc::STDOUT_FILENO, text::front(out, len));
+fn write_text(rt: &HostRuntime, out: &Text, len: usize) {
+    let _ = rt.write_all(text::front(out, len));
 }
 
 // A line of the name of what is tried.
-pub(crate) fn print_heading(name: &[u8]) {
+pub(crate) fn print_heading(rt: &HostRuntime, name: &[u8]) {
     let mut out = [0u8; 16384];
     let len = test_calls::put::put_rest(&mut out, 0, name);
-    write_text(&out, len);
+    write_text(rt, &out, len);
 }
 
 // The line of call n with a note behind it.
-pub(crate) fn print_call(n: u64, tried: Tried, note: &[u8]) {
+pub(crate) fn print_call(rt: &HostRuntime, n: u64, tried: Tried, note: &[u8]) {
     let mut out = [0u8; 16384];
     let len = test_calls::put::put_call(&mut out, n, tried, note);
-    write_text(&out, len);
+    write_text(rt, &out, len);
 }

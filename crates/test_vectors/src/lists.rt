@@ -232,36 +232,36 @@ fn put_sum(out: &mut Text, n: usize, sum: u32, same: bool) -> usize {
 }
 
 // Writes the first `len` bytes of a buffer.
-fn write_text(out: &Text, len: usize) {
-    io::write_all(libc::STDOUT_FILENO, text::front(out, len));
+fn write_text(rt: &HostRuntime, out: &Text, len: usize) {
+    let _ = rt.write_all(text::front(out, len));
 }
 
 // Makes the calls by lists of n calls, and prints the line.
-fn print_sum(levels: u32, calls: &[u32], n: usize)
+fn print_sum(rt: &HostRuntime, levels: u32, calls: &[u32], n: usize)
     requires { (0 < n) × (n ≤ 256) }
 {
     let compared = make_lists(levels, calls, n * CALL_WORDS);
     let mut out = [0u8; 16384];
     let len = put_sum(&mut out, n, compared.sum, compared.same);
-    write_text(&out, len);
+    write_text(rt, &out, len);
 }
 
 // The calls by lists of 1, 7 and 256.
-fn print_calls(levels: u32, calls: &[u32]) {
-    print_sum(levels, calls, 1);
-    print_sum(levels, calls, 7);
-    print_sum(levels, calls, LIST_CALLS);
+fn print_calls(rt: &HostRuntime, levels: u32, calls: &[u32]) {
+    print_sum(rt, levels, calls, 1);
+    print_sum(rt, levels, calls, 7);
+    print_sum(rt, levels, calls, LIST_CALLS);
 }
 
 // The calls of the first words.
-fn print_front(levels: u32, calls: &Calls, words: usize) {
-    print_calls(levels, front(calls, words));
+fn print_front(rt: &HostRuntime, levels: u32, calls: &Calls, words: usize) {
+    print_calls(rt, levels, front(calls, words));
 }
 
 // The lines of a log.
-pub(crate) fn print_sums(log: &[u8]) {
+pub(crate) fn print_sums(rt: &HostRuntime, log: &[u8]) {
     let levels = call_log::levels_for(call_log::version_of(log));
     let mut calls = [0u32; LOG_CALLS * CALL_WORDS];
     let words = read_calls(log, &mut calls);
-    print_front(levels, &calls, words);
+    print_front(rt, levels, &calls, words);
 }

@@ -8,7 +8,9 @@ ghost use Rattle.kernel.specs.Safe.{Safe};
 
 use desk::Part;
 use desk_reads::Replayed;
-use rules::{Read, Tables};
+use rules::Tables;
+use std::io::Read;
+use streams::fail;
 use text::Text;
 use trace_changes::Made;
 
@@ -33,7 +35,7 @@ struct Carried {
 fn put_read(out: &mut Text, c: Carried, read: Replayed, before: Tables, after: Tables) -> Carried {
     let mut next = c;
     let found = read.found;
-    let Read::Record {
+    let rules::Read::Record {
         number: _,
         start: _,
     } = found
@@ -60,29 +62,28 @@ fn put_read(out: &mut Text, c: Carried, read: Replayed, before: Tables, after: T
 // ---- the records of a part
 
 // Writes the text, and says so. Who reads it may have gone, which is no fault.
-fn write_text(out: &[u8], len: usize) -> bool {
-    if io::write_all(libc::STDOUT_FILENO, text::front(out, len)) {
-        return true;
+fn write_text(rt: &HostRuntime, out: &[u8], len: usize) -> bool {
+    if let Err(error) = rt.write_all(text::front(out, len)) {
+        if !streams::is_gone(error) {
+            fail(rt, b"standard output", error);
+        }
+        return false;
     }
-    let error = os::errno();
-    if (error != libc::EPIPE) & (error != libc::EBADF) {
-        os::fail(b"standard output");
-    }
-    false
+    true
 }
 
 // Writes the text that is not written yet; the replay has ended where it cannot be.
-fn written(c: Carried, out: &Text) -> Carried {
+fn written(rt: &HostRuntime, c: Carried, out: &Text) -> Carried {
     let mut next = c;
-    next.going = write_text(out, c.len) & c.going;
+    next.going = write_text(rt, out, c.len) & c.going;
     next.len = 0;
     next
 }
 
 // Room for a line.
-fn roomy(c: Carried, out: &Text) -> Carried {
+fn roomy(rt: &HostRuntime, c: Carried, out: &Text) -> Carried {
     if FULL < c.len {
-        return written(c, out);
+        return written(rt, c, out);
     }
     c
 }
@@ -106,7 +107,7 @@ fn places(log: &[u8], last: bool) -> usize
 }
 
 // What stands at the places of a part, with which the log may begin: a record's call is made, anything else ends the replay.
-fn read_part(traced: Traced, log: &[u8], last: bool, out: &mut Text) -> Traced
+fn read_part(rt: &HostRuntime, traced: Traced, log: &[u8], last: bool, out: &mut Text) -> Traced
     requires { Safe traced.tables }
     ensures { Safe result.tables }
 {
@@ -149,13 +150,13 @@ fn read_part(traced: Traced, log: &[u8], last: bool, out: &mut Text) -> Traced
             heap,
             state,
         };
-        c = roomy(put_read(out, c, read, before, after), out);
+        c = roomy(rt, put_read(out, c, read, before, after), out);
         before = after;
         i += 1;
     }
     Traced {
         tables: before,
-        carried: written(c, out),
+        carried: written(rt, c, out),
     }
 }
 
@@ -170,7 +171,13 @@ struct Came {
 }
 
 // Reads behind the bytes that wait; `name` is told where the read fails. There is always room: fewer than 20 of them wait.
-fn read_behind(fd: i32, name: &[u8], part: &mut [u8], held: usize) -> Came {
+fn read_behind<R: Read>(
+    rt: &HostRuntime,
+    from: &mut R,
+    name: &[u8],
+    part: &mut [u8],
+    held: usize,
+) -> Came {
     if part.len() <= held {
         return Came {
             n: 0,
@@ -178,31 +185,43 @@ fn read_behind(fd: i32, name: &[u8], part: &mut [u8], held: usize) -> Came {
             failed: true,
         };
     }
-    let got = libc::read(fd, &mut part[held..]);
-    if got < 0 {
-        os::fail(name);
-    }
-    let more = io::count(got, &part[held..]);
-    Came {
-        n: held + more,
-        last: got == 0,
-        failed: got < 0,
+    match from.read(&mut part[held..]) {
+        Ok(more) => Came {
+            n: held + more,
+            last: more == 0,
+            failed: false,
+        },
+        Err(error) => {
+            fail(rt, name, error);
+            Came {
+                n: held,
+                last: false,
+                failed: true,
+            }
+        }
     }
 }
 
 // One turn: what came is told, and what is left of a record that is not whole yet is moved to the front of the part.
-fn turn(traced: Traced, fd: i32, name: &[u8], part: &mut Part, out: &mut Text) -> Traced
+fn turn<R: Read>(
+    rt: &HostRuntime,
+    traced: Traced,
+    from: &mut R,
+    name: &[u8],
+    part: &mut Part,
+    out: &mut Text,
+) -> Traced
     requires { Safe traced.tables }
     ensures { Safe result.tables }
 {
     let mut c = traced.carried;
-    let came = read_behind(fd, name, part, c.held);
+    let came = read_behind(rt, from, name, part, c.held);
     if came.failed {
         c.going = false;
         let tables = traced.tables;
         return Traced { tables, carried: c };
     }
-    let told = read_part(traced, text::front(part, came.n), came.last, out);
+    let told = read_part(rt, traced, text::front(part, came.n), came.last, out);
     c = told.carried;
     let whole = came.n - came.n % 20;
     c.offset = std::num::wrapping_add_u64(c.offset, whole as u64);
@@ -212,7 +231,7 @@ fn turn(traced: Traced, fd: i32, name: &[u8], part: &mut Part, out: &mut Text) -
 }
 
 // All turns. A loop has to end, and nothing says that a log does: the turns are counted down from a number that no run comes to.
-fn trace_all(fd: i32, name: &[u8]) {
+fn trace_all<R: Read>(rt: &HostRuntime, from: &mut R, name: &[u8]) {
     let mut part = [0u8; 2560];
     let mut out = [0u8; 16384];
     let tables = entries::fresh(rules::numbers::FEW_LEVELS).tables;
@@ -226,37 +245,37 @@ fn trace_all(fd: i32, name: &[u8]) {
     let mut traced = Traced { tables, carried: c };
     let mut turns = u64::MAX;
     while 0 < turns && c.going {
-        traced = turn(traced, fd, name, &mut part, &mut out);
+        traced = turn(rt, traced, from, name, &mut part, &mut out);
         c = traced.carried;
         turns -= 1;
     }
 }
 
-// The log that argument k names.
-fn trace_named(k: usize) {
-    let mut name = io::buffer();
-    let length = os::arg(k, &mut name);
-    if os::errno() != 0 {
-        os::fail(b"argument");
-        return;
+// The log in the file of this name.
+fn trace_file(rt: &HostRuntime, name: &[u8]) {
+    match streams::open(rt, name) {
+        Ok(mut log) => trace_all(rt, &mut log, name),
+        Err(error) => fail(rt, name, error),
     }
-    let fd = os::open_read(&name[..length]);
-    if fd < 0 {
-        os::fail(&name[..length]);
-        return;
-    }
-    trace_all(fd, &name[..length]);
-    libc::close(fd);
 }
 
-fn main() {
-    let words = os::arg_count();
+// The log that argument k names.
+fn trace_named(rt: &HostRuntime, k: usize) {
+    let mut name = [0u8; 4096];
+    match streams::word(rt, k, &mut name) {
+        Ok(length) => trace_file(rt, &name[..length]),
+        Err(error) => fail(rt, b"argument", error),
+    }
+}
+
+fn main(rt: HostRuntime) {
+    let words = streams::words(&rt);
     if words < 2 {
-        trace_all(libc::STDIN_FILENO, b"standard input");
+        trace_all(&rt, &mut rt.stdin(), b"standard input");
     }
     let mut k = 1;
     while k < words {
-        trace_named(k);
+        trace_named(&rt, k);
         k += 1;
     }
 }
