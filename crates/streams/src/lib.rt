@@ -1,7 +1,10 @@
 // What programs read and write, over std: the words of a command line, files by their names, and what is said where a call failed.
 #![tactic(auto)]
 
+ghost use Rattle.std.specs.Prelude.{◌≡◌};
+ghost use Rattle.std.specs.IoError.{raw_os_error};
 ghost use Rattle.streams.specs.Counts.{IsPrefixLen};
+ghost use Rattle.streams.specs.Gone.{is_gone};
 ghost use Rattle.std.specs.Io.{ReadsAtMost};
 
 use std::env::FillError;
@@ -67,7 +70,9 @@ pub fn read_full<R: Read>(from: &mut R, room: &mut [u8]) -> usize
 }
 
 // Whether a write failed because who was to read it has gone, or was never there.
-pub fn is_gone(error: io::Error) -> bool {
+pub fn is_gone(error: io::Error) -> bool
+    ensures { result ≡ is_gone (raw_os_error error) }
+{
     match error.raw_os_error() {
         Some(code) => (code == GONE) | (code == CLOSED),
         None => false,
