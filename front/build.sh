@@ -4,26 +4,33 @@
 terminal() { [ -t 2 ] && [ "${TERM:-dumb}" != dumb ]; }
 called() { if [ $# -eq 1 ]; then echo "$1"; else echo 'both programs'; fi; } # PROGRAM..
 
-# How many crates programs are made of, themselves too.
+# The crates that programs are made of, themselves too, a line each, in the order in which rt comes to them.
 parts_of() { # PROGRAM..
     awk -v wanted="$*" '
+        function visit(name,    more, m, k) {
+            if (name in seen || !(name in below)) return
+            seen[name]
+            m = split(below[name], more, " ")
+            for (k = 1; k <= m; k++) visit(more[k])
+            print name
+        }
         { sub(/#.*/, "") }
         split($0, half, ":") == 2 { gsub(/[ \t]/, "", half[1]); below[half[1]] = half[2] }
         END {
             n = split(wanted, todo, " ")
-            for (i = 1; i <= n; i++) {
-                if (todo[i] in seen || !(todo[i] in below)) continue
-                seen[todo[i]]; parts++
-                m = split(below[todo[i]], more, " ")
-                for (k = 1; k <= m; k++) todo[++n] = more[k]
-            }
-            print parts + 0
+            for (i = 1; i <= n; i++) visit(todo[i])
         }' "$here/crates.txt"
 }
 
-# How far a build is, by what rt has said so far: on a terminal one line that is rewritten, and fits into 80 columns.
+# How far a build is, by the last crate that rt came to: those before it are done. On a terminal one line that is rewritten, and fits into 80 columns.
 tell_progress() { # WHAT PARTS SINCE
-    ready=$(grep -c '^rt: [A-Za-z0-9_]* proved' "$here/target/front.out" 2>/dev/null)
+    ready=$(awk '
+        FILENAME != told { file++; told = FILENAME }
+        file == 1 { before[$1] = FNR - 1; next }
+        /^rt: [A-Za-z0-9_]*: begins with / { come($2) }
+        /^rt: chose --jobs [0-9]* for / { come($NF) }
+        function come(name) { sub(/:$/, "", name); if (name in before && before[name] > ready) ready = before[name] }
+        END { print ready + 0 }' "$here/target/front.parts" "$here/target/front.out" 2>/dev/null)
     passed=$(($(date +%s) - $3))
     line=$(printf '%s: %d of %d parts, %d:%02d' "$1" "${ready:-0}" "$2" $((passed / 60)) $((passed % 60)))
     if terminal; then printf '\r\033[Ktebalung: %s' "$line" >&2; else say "$line"; fi
@@ -67,12 +74,13 @@ take_lock() { # PROGRAM..
     trap - INT
 }
 leave_note() { # PROGRAM..
-    parts=$(parts_of "$@") since=$(date +%s)
+    parts_of "$@" >"$here/target/front.parts"
+    parts=$(grep -c '' "$here/target/front.parts") since=$(date +%s)
     echo "$$ $since $parts $(called "$@")" >"$here/target/front.lock"
 }
 tell_waiting() { read -r who since parts names <"$here/target/front.lock" && tell_progress "process $who builds $names; waiting" "$parts" "$since"; }
 
-# An rt that was called by hand takes no lock. Two at once in a checkout break each other, so it is waited for.
+# An rt that was called by hand takes no lock of ours. Two at once would wait for each other and tell nothing of it, so it is waited for.
 find_rt() {
     # shellcheck disable=SC2013
     for process in $(grep -l -a -z '/rt$' /proc/[0-9]*/cmdline 2>/dev/null); do
@@ -95,6 +103,16 @@ stop_building() { # STATUS
     exit "$1"
 }
 
+# What a session of its own does, in the checkout: rt proves, builds and runs each program in its crate's folder, and leaves it in out/, which an rt ci
+# or a clean-up may empty. So it is put to the others, and its mark is as old as the start.
+# shellcheck disable=SC2016
+steps='for program; do
+    (cd "crates/$program" && "$0" run) || exit
+    [ -x "crates/$program/out/$program" ] || { rm -f "target/bin/$program"; continue; }
+    cp "crates/$program/out/$program" "target/bin/$program.new" && mv -f "target/bin/$program.new" "target/bin/$program" || exit
+    touch -r target/front.begun "target/stamp/$program" || exit
+done'
+
 # Has rt prove and build them, and leaves its status. A source that is saved meanwhile is newer than the start, so the next call builds again.
 prove() { # WHAT PROGRAM..
     what=$1
@@ -107,7 +125,7 @@ prove() { # WHAT PROGRAM..
     trap 'stop_building 143' TERM
     trap 'stop_building 129' HUP
     tell_progress "$what" "$parts" "$since"
-    (cd -- "${here:-/}" && exec setsid "$rt" check "$@") >"$here/target/front.out" 2>&1 </dev/null &
+    (cd -- "${here:-/}" && exec setsid sh -c "$steps" "$rt" "$@") >"$here/target/front.out" 2>&1 </dev/null &
     builder=$!
     (exec 9>&- && keep_telling "$what" "$parts" "$since" "$builder") &
     teller=$!
@@ -121,9 +139,9 @@ prove() { # WHAT PROGRAM..
 
 # Says why it cannot be done, or which kit does it.
 check_kit() { # WHY
-    mkdir -p "$here/target" 2>/dev/null
-    for folder in target target/bin target/log target/obj target/rlib target/stamp; do
-        [ -w "$here/$folder" ] || { [ $folder != target ] && [ ! -e "$here/$folder" ]; } || die "$1, and $(absolute) cannot be written: ask its owner to run 'tebalung build'"
+    mkdir -p "$here/target/bin" "$here/target/stamp" 2>/dev/null
+    for folder in "$here/target" "$here/target/bin" "$here/target/stamp" "$here"/crates/*/out; do
+        [ -w "$folder" ] || { [ "${folder%/out}" != "$folder" ] && [ ! -e "$folder" ]; } || die "$1, and $(absolute) cannot be written: ask its owner to run 'tebalung build'"
     done
     find_kit || die "$1, and building needs the Rattle kit: put its rt on the PATH, or set RATTLE_HOME"
     name_kits 2>/dev/null || die "$1, and the file KIT, which names the kit, is not there"
@@ -144,15 +162,13 @@ build() { # PROGRAM..
     if find_stale "$@"; then
         set -- $stale
         say "$why$more"
-        for program; do [ -x "$programs/$program" ] || rm -f "$here/target/stamp/$program"; done
         prove "$what $how" "$@"
         if [ "$status" -ne 0 ]; then
             die "$(called "$@") could not be built: $(sed -n '/./h
                 $ { g; s/^rt: //; p; }' "$here/target/front.out") (all that rt said is in $(absolute)/target/front.out)"
         fi
         for program; do
-            [ -x "$programs/$program" ] || die "$program could not be built: rt says that it is proved, and left no $(absolute)/target/bin/$program"
-            touch -c -r "$here/target/front.begun" "$here/target/stamp/$program" 2>/dev/null
+            [ -x "$programs/$program" ] || die "$program could not be built: rt says that it is proved, and left no $(absolute)/crates/$program/out/$program"
         done
     fi
     exec 9>&-

@@ -17,7 +17,7 @@ fill() { # FOLDER
 make_package() {
     find_commit && when=$(git_here log -1 --format=%ct) || die "package: which commit it is of is not known: git does not tell it of $(absolute)"
     find_kit || die "package: the loader and the C library are those of the Rattle kit: put its rt on the PATH, or set RATTLE_HOME"
-    library=$kit/on/$(uname -m)/toolchain/lib
+    library=$kit/toolchain/lib
     open_out whole
     room=$(mktemp -d "${TMPDIR:-/tmp}/tebalung.XXXXXX" 2>/dev/null) || die "${TMPDIR:-/tmp}: cannot be written"
     name=tebalung-$commit

@@ -5,7 +5,7 @@ b=$room/b
 fresh() { # a checkout that is not built, of six parts
     rm -rf "$b"
     clone b
-    printf '%s\n' '# six parts' 'basics:' 'rules: basics' 'text: rules' 'desk: rules text' 'replay: desk io libc os' 'trace: rules text io libc os' >"$b/crates.txt"
+    printf '%s\n' '# six parts' 'basics:' 'rules: basics' 'text: rules' 'desk: rules text' 'replay: desk' 'trace: rules text' >"$b/crates.txt"
     : >"$room/kit/calls"
 }
 later() { touch -d '+2 seconds' "$1"; } # saved after all that is there
@@ -21,16 +21,16 @@ unlocked() { flock -n "$b/target/front.lock" true; }
 # The first time, and the second.
 fresh
 row 'the first time: the text, and what is said' 0 "$told" "tebalung: replay is not built yet; that takes some minutes, this once${nl}tebalung: replay is proved and built, this once: * of 5 parts, 0:0*" "$b/replay" "$sample"
-check 'the first time: rt is called once' [ "$(cat "$room/kit/calls")" = 'check replay' ]
+check 'the first time: rt is called once' [ "$(cat "$room/kit/calls")" = 'run replay' ]
 row 'the second time: nothing is said' 0 "$told" '' "$b/replay" "$sample"
 check 'the second time: rt is not called' [ "$(calls)" = 1 ]
 row 'explain needs one part more' 0 '*create a task*' 'tebalung: trace is not built yet; *tebalung: trace is proved and built, this once: * of 4 parts, 0:0*' "$b/explain" "$sample"
-check 'explain: rt is called for trace' [ "$(tail -n 1 "$room/kit/calls")" = 'check trace' ]
+check 'explain: rt is called for trace' [ "$(tail -n 1 "$room/kit/calls")" = 'run trace' ]
 row 'build has nothing to do' 0 'both programs are built: replay and trace' '' "$b/tebalung" build
 check 'build has nothing to do: rt is not called' [ "$(calls)" = 2 ]
 fresh
 row 'build builds both' 0 'both programs are built: replay and trace' 'tebalung: both programs are not built yet; *tebalung: both programs are proved and built, this once: * of 6 parts, 0:0*' "$b/tebalung" build
-check 'build: rt is called once for both' [ "$(cat "$room/kit/calls")" = 'check replay trace' ]
+check 'build: rt is called once for each' [ "$(cat "$room/kit/calls")" = "run replay${nl}run trace" ]
 
 # A change: of a source, of a folder of sources, of the list, of the kit's name; not of an edit.
 for changed in crates/basics/src/lib.rt crates/rules/specs crates.txt KIT; do
@@ -50,7 +50,7 @@ touch "$b/target/bin/replay"
 row 'a program that rt did not finish' 0 "$told" '*proved and built anew*' "$b/replay" "$sample"
 fresh
 (DESK_PAUSE=0.3 "$b/replay" "$sample" >"$room/out1" 2>&1) &
-soon [ -f "$b/target/stamp/text" ]
+soon [ -f "$b/crates/text/out/rlib/stamp" ]
 touch "$b/crates/basics/src/lib.rt"
 wait
 n=$(calls)
@@ -64,7 +64,7 @@ soon [ -s "$b/target/front.lock" ]
 row 'a second one waits, and says for what' 0 "$told" 'tebalung: process [0-9]* builds replay; waiting: * of 5 parts, 0:0*' "$b/replay" "$sample"
 wait
 check 'the first one is right too' [ "$(cat "$room/out1")" = "$told" ]
-check 'two at once: rt is called once' [ "$(cat "$room/kit/calls")" = 'check replay' ]
+check 'two at once: rt is called once' [ "$(cat "$room/kit/calls")" = 'run replay' ]
 many() { # CHECK: eight replays, four explains and a build
     for k in 1 2 3 4 5 6 7 8; do (DESK_PAUSE=0.1 "$b/replay" "$sample" >"$room/many.$k" 2>/dev/null; echo $? >>"$room/many.$k") & done
     for k in 9 10 11 12; do (DESK_PAUSE=0.1 "$b/explain" "$sample" >"$room/many.$k" 2>/dev/null; echo $? >>"$room/many.$k") & done
@@ -93,11 +93,11 @@ check 'a touched source, two at once: the second' [ "$(tail -n 6 "$room/out2")" 
 check 'a touched source, two at once: never two rts at once' not grep -q 'two at once' "$room/kit/calls"
 
 fresh
-(cd "$b" && DESK_PAUSE=0.5 rt check trace >"$room/out1" 2>&1) &
+(cd "$b/crates/trace" && DESK_PAUSE=0.5 rt run >"$room/out1" 2>&1 </dev/null) &
 soon [ -s "$room/kit/calls" ]
 row 'an rt that was called by hand is waited for' 0 "$told" '*tebalung: waiting for process [0-9]*, an rt that was called by hand*' "$b/replay" "$sample"
 wait
-check 'an rt that was called by hand: never two at once' [ "$(cat "$room/kit/calls")" = "check trace${nl}check replay" ]
+check 'an rt that was called by hand: never two at once' [ "$(cat "$room/kit/calls")" = "run trace${nl}run replay" ]
 
 # How far it is: on a terminal one line, rewritten; else a line a minute. (Seconds are short here.)
 mkdir "$room/quick"
@@ -128,9 +128,9 @@ ended() { # SIGNAL STATUS SHELL
     check "$1 during a build, $3: no process" none_running kit
     check "$1 during a build, $3: no process of ours" none_running b
     check "$1 during a build, $3: no lock" soon unlocked
-    check "$1 during a build, $3: what is proved is kept" [ -f "$b/target/stamp/basics" ]
+    check "$1 during a build, $3: what is proved is kept" [ -f "$b/crates/basics/out/rlib/stamp" ]
     row "$1 during a build, $3: then it goes on" 0 "$told" '?*' "$b/replay" "$sample"
-    check "$1 during a build, $3: what was proved is not proved again" grep -q 'rt: basics proved (unchanged' "$b/target/front.out"
+    check "$1 during a build, $3: what was proved is not proved again" not grep -q 'for basics$' "$b/target/front.out"
 }
 for shell in sh bash 'busybox sh'; do ! command -v "${shell%% *}" >/dev/null || ended INT 130 "$shell"; done
 ended TERM 143 sh
@@ -147,14 +147,14 @@ check 'INT while waiting: the other goes on' [ "$(tail -n 6 "$room/out1")" = "$t
 killed() { kill -KILL "$(cut -d ' ' -f 1 "$b/target/front.lock")"; }
 fresh
 (DESK_PAUSE=0.6 "$b/replay" "$sample" >"$room/out1" 2>&1) &
-soon grep -q check "$room/kit/calls"
+soon grep -q run "$room/kit/calls"
 killed
 row 'the builder was killed, and its rt goes on: waited for' 0 "$told" 'tebalung: process * builds replay; waiting: *' "$b/replay" "$sample"
-check 'the builder was killed: rt was called once' [ "$(cat "$room/kit/calls")" = 'check replay' ]
+check 'the builder was killed: rt was called once' [ "$(cat "$room/kit/calls")" = 'run replay' ]
 check 'the builder was killed: no process' none_running b
 fresh
 (DESK_PAUSE=60 "$b/replay" "$sample" >"$room/out1" 2>&1) &
-soon grep -q check "$room/kit/calls"
+soon grep -q run "$room/kit/calls"
 killed
 for process in $(left_running kit | sed 's,/proc/\([0-9]*\)/.*,\1,'); do kill -KILL "-$process" 2>/dev/null; done
 soon unlocked
@@ -168,18 +168,18 @@ row 'where TERM is ignored a build ends too' 0 "$told" '?*' deaf "$b/replay" "$s
 
 # What cannot be done: one sentence, status 2.
 fresh
-row 'a crate is not proved' 2 '' '*tebalung: replay could not be built: FAILED: text (all that rt said is in */target/front.out)' env DESK_FAIL=text "$b/replay" "$sample"
+row 'a crate is not proved' 2 '' '*tebalung: replay could not be built: the library text did not build, * (all that rt said is in */target/front.out)' env DESK_FAIL=text "$b/replay" "$sample"
 check 'a crate is not proved: no lock' unlocked
 row 'rt leaves no program' 2 '' '*tebalung: replay could not be built: rt says that it is proved, and left no *' env DESK_BIN="$room/nosuch" "$b/replay" "$sample"
 row 'a crate is not proved: mended' 0 "$told" '?*' "$b/replay" "$sample"
 echo '// changed' >>"$b/crates/basics/src/lib.rt"
 later "$b/crates/basics/src/lib.rt"
-row 'a change is not proved: the old program is not run' 2 '' '*tebalung: replay could not be built: FAILED: rules *' env DESK_FAIL=rules "$b/replay" "$sample"
+row 'a change is not proved: the old program is not run' 2 '' '*tebalung: replay could not be built: the library rules did not build, *' env DESK_FAIL=rules "$b/replay" "$sample"
 fresh
 row 'no kit' 2 '' 'tebalung: replay is not built yet, and building needs the Rattle kit: put its rt on the PATH, or set RATTLE_HOME' env PATH="$room/tools" "$b/replay" "$sample"
 row 'RATTLE_HOME names no kit' 2 '' 'tebalung: replay is not built yet, and building needs the Rattle kit: *' env RATTLE_HOME="$room/nosuch" "$b/replay" "$sample"
 cp -R "$room/kit" "$room/other"
-tail -n 1 "$top/KIT" >"$room/other/KIT-ID"
+tail -n 1 "$b/KIT" >"$room/other/KIT-ID"
 row 'the last kit that is named' 0 "$told" '?*' env PATH="$room/other/bin:$PATH" "$b/replay" "$sample"
 fresh
 echo 'another kit' >"$room/other/KIT-ID"

@@ -12,7 +12,7 @@ touch "$desk/target/stamp/replay" "$desk/target/stamp/trace"
 commit=$(git -C "$desk" rev-parse --short=12 HEAD)
 version="tebalung $commit (kit $kits, package for x86-64 Linux)"
 row '--version in a checkout' 0 "tebalung $commit (kit *)" '' "$t" --version
-if [ ! -d "$room/kit/on" ]; then
+if [ ! -d "$room/kit/toolchain" ]; then
     missing 'the kit'
     return 0
 fi

@@ -5,11 +5,11 @@ python=/usr/bin/python3
 [ -x $python ] || python=python3
 have $python || return 0
 
-# Two scripts: the program as it stands, with the kit's loader where the system has none, and its emulator; and the checkout's own ./replay, whose
-# marks are not for the stand-in of this test.
-tools=$kit/on/$(uname -m)/toolchain loader='' emulator=''
+# Two scripts: the program as it stands, with the kit's loader where the system has none, and in an emulator on another processor; and the checkout's
+# own ./replay, whose marks are not for the stand-in of this test.
+tools=$kit/toolchain loader='' emulator=''
 [ -x /lib64/ld-linux-x86-64.so.2 ] || loader="'$tools/lib/ld-linux-x86-64.so.2' --library-path '$tools/lib'"
-[ -z "$loader" ] || [ ! -x "$tools/bin/qemu-x86_64" ] || emulator="'$tools/bin/qemu-x86_64'"
+[ -z "$loader" ] || [ "$(uname -m)" = x86_64 ] || emulator=$(command -v qemu-x86_64) || emulator=''
 printf '#!/bin/sh\nexec %s %s "%s/replay" "$@"\n' "$emulator" "$loader" "$bin" >"$room/alone"
 own=PATH="'$room/tools'"
 [ -z "$kit" ] || own=RATTLE_HOME="'$kit'"
