@@ -36,6 +36,19 @@ for name in 'a log' ' ' '-dash.log' '-x' '--refusal' 'a\tb\\c' '\' '*' '?' "it's
 named "two${nl}lines"
 named "end${nl}"
 named "$(printf 'tab\there\033[31m')"
+# (Of a name that is no UTF-8 an awk may tell the title otherwise.)
+latin=$(printf 'caf\351.log')
+cp "$sample" "$room/in/$latin"
+for command in replay explain summary; do
+    "$desk/tebalung" "$command" "$sample" >"$room/expected"
+    try "$desk/tebalung" "$command" "$room/in/$latin"
+    check "$command: a name that is no UTF-8" same_as_expected
+done
+row 'timeline: a name that is no UTF-8' 0 '<!DOCTYPE html>*</html>' '' "$desk/timeline" "$room/in/$latin"
+head -c 99 "$sample" >"$room/in/$latin"
+row 'replay: a name that is no UTF-8, and a damaged log' 1 '*cut 80' '' "$desk/replay" "$room/in/$latin"
+ln -s /proc/self/mem "$room/in/m$latin"
+row 'replay: a name that is no UTF-8 and cannot be read' 2 '' "tebalung: $room/in/m*.log: Input/output error" "$desk/replay" "$room/in/m$latin"
 
 # The title that a page is given: this one is nothing else.
 cp "$desk/view/timeline.awk" "$room/kept.awk"
