@@ -1,6 +1,6 @@
 #!/usr/bin/env python3
 """Spells the names of definitions and lemmas that README.md and docs/*.md cite in snake case, as today's Rattle does: usage: pages.py [--list | --check],
-at the top. Only words inside backticks are turned; names of JavaScript, of notes on landings and of the port's page stay. With --check it turns nothing
+at the top. Only words inside backticks are turned; the notes on landings and the port's page stay. With --check it turns nothing
 and lists each cited name that no file of crates/, front/, view/, tests/ or reference/ has."""
 
 import glob
@@ -11,15 +11,11 @@ import sys
 
 CAMEL = re.compile(r"(?<![A-Za-z0-9_'])[a-z][a-z0-9]*(?:[A-Z][A-Za-z0-9]*)+")
 SPECIAL = {"getD": "get_or", "byTSNaming": "by_ts_naming", "byTS": "by_ts", "notTS": "not_ts", "getLe": "get_le"}
-# words of other languages
-OTHER = {"backgroundColor"}
 TICKED = re.compile(r"`[^`\n]+`")
 PAGES = ["README.md", *sorted(p for p in glob.glob("docs/*.md") if p != "docs/PORT.md")]
 
 
 def snake(m):
-    if m[0] in OTHER:
-        return m[0]
     return SPECIAL.get(m[0]) or re.sub(r"([A-Z]+)", lambda c: "_" + c[0].lower(), m[0])
 
 
