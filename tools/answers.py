@@ -10,6 +10,7 @@ import os
 import re
 import subprocess
 import sys
+import tempfile
 
 PATHTOK = re.compile(r"(?<![\w.'?-])([A-Za-zκ_][\w'₀₁₂?-]*)((?:\.[\w'?₀-]+)+)")
 
@@ -292,7 +293,7 @@ def main():
             here = f"{top}/proofs/{fn}/Proof.antt"
             if os.path.exists(here):
                 os.remove(here)
-    names = f"/tmp/names-{crate}"
+    names = os.path.join(tempfile.gettempdir(), f"names-{crate}")
     run("rt", "check", "--generated", names, "--old-names", where=top)
     with open(f"{names}/names.json", encoding="utf-8") as f:
         info = json.load(f)
@@ -405,7 +406,7 @@ def main():
             f.write("\n".join(head + clean(uses) + rules + [f"use Rattle.{crate}.proofs.{fn.replace('/', '.')}.Goals as goal", ""]) + "\n" + "\n\n".join(own + out) + "\n")
     run("rt", "fmt", where=top)
     said = run("rt", "check", where=top)
-    with open(f"/tmp/{crate}.log", "w", encoding="utf-8") as f:
+    with open(os.path.join(tempfile.gettempdir(), f"{crate}.log"), "w", encoding="utf-8") as f:
         f.write(said)
     for l in said.split("\n"):
         if re.search(r"error", l) or re.match(r"fn .*(no proof|not proved)", l) or l.startswith("logic="):

@@ -1,3 +1,4 @@
 pub mod Cases
 pub mod Calls
 pub mod Levels
+pub mod Faster
