@@ -1,7 +1,7 @@
 // The same with the two entries that test the tables before each call: with `call_in_place`, or with `call` if a second argument is there.
 #![tactic(auto)]
 
-ghost use Rattle.streams.specs.Counts.{IsPrefixLen};
+ghost use Rattle.io.specs.Counts.{IsPrefixLen};
 
 use call_lists::call_at;
 use pace_sums::Calls;
@@ -61,7 +61,7 @@ fn by_value(levels: u32, calls: &Calls, n: usize, from: u32) -> u32 {
 
 // How often the log is gone through, by the program's first argument.
 fn rounds(rt: &HostRuntime) -> u32 {
-    let mut name = [0u8; 4096];
+    let mut name = [0u8; streams::WORD_BYTES];
     let length = streams::word(rt, 1, &mut name).unwrap_or(0);
     pace_sums::rounds_for(&name[..length])
 }

@@ -29,7 +29,7 @@ struct Filled {
 
 // The first letter of argument k; 0 where there is none.
 fn letter(rt: &HostRuntime, k: usize) -> u8 {
-    let mut name = [0u8; 4096];
+    let mut name = [0u8; streams::WORD_BYTES];
     let length = streams::word(rt, k, &mut name).unwrap_or(0);
     let word = &name[..length];
     if word.len() == 0 {
@@ -40,7 +40,7 @@ fn letter(rt: &HostRuntime, k: usize) -> u8 {
 
 // How often, by the program's second argument.
 fn rounds(rt: &HostRuntime) -> u32 {
-    let mut name = [0u8; 4096];
+    let mut name = [0u8; streams::WORD_BYTES];
     let length = streams::word(rt, 2, &mut name).unwrap_or(0);
     pace_sums::rounds_for(&name[..length])
 }

@@ -211,7 +211,7 @@ fn main(rt: HostRuntime) {
         replay_all(&rt, &mut rt.stdin(), b"standard input");
         return;
     }
-    let mut name = [0u8; 4096];
+    let mut name = [0u8; streams::WORD_BYTES];
     match streams::word(&rt, 1, &mut name) {
         Ok(length) => replay_named(&rt, &name[..length]),
         Err(error) => fail(&rt, b"argument", error),

@@ -3,7 +3,7 @@
 
 ghost use Rattle.std.specs.Prelude.{◌≡◌};
 ghost use Rattle.std.specs.IoError.{raw_os_error};
-ghost use Rattle.streams.specs.Counts.{IsPrefixLen};
+ghost use Rattle.io.specs.Counts.{IsPrefixLen};
 ghost use Rattle.streams.specs.Gone.{is_gone};
 ghost use Rattle.std.specs.Io.{ReadsAtMost};
 
@@ -23,6 +23,9 @@ const CLOSED: i32 = 9;
 const GONE: i32 = 32;
 
 const NAME_TOO_LONG: i32 = 36;
+
+// How many bytes of a word of the command line there is room for: any path fits.
+pub const WORD_BYTES: usize = 4096;
 
 // How many words the command line has, the program's own name too.
 pub fn words(rt: &HostRuntime) -> usize {

@@ -70,7 +70,7 @@ fn replay_file(rt: &HostRuntime, name: &[u8]) {
 
 // The log that argument i names.
 fn replay_named(rt: &HostRuntime, i: usize) {
-    let mut name = [0u8; 4096];
+    let mut name = [0u8; streams::WORD_BYTES];
     match streams::word(rt, i, &mut name) {
         Ok(length) => replay_file(rt, &name[..length]),
         Err(error) => fail(rt, b"argument", error),

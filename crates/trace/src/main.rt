@@ -261,7 +261,7 @@ fn trace_file(rt: &HostRuntime, name: &[u8]) {
 
 // The log that argument k names.
 fn trace_named(rt: &HostRuntime, k: usize) {
-    let mut name = [0u8; 4096];
+    let mut name = [0u8; streams::WORD_BYTES];
     match streams::word(rt, k, &mut name) {
         Ok(length) => trace_file(rt, &name[..length]),
         Err(error) => fail(rt, b"argument", error),
