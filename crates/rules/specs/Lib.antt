@@ -2,6 +2,7 @@ pub mod Rows
 pub mod Tables
 pub mod Lines
 pub mod Answer
+pub mod Refusals
 pub mod Waits
 pub mod Tasks
 pub mod Swis

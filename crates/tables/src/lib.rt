@@ -1,34 +1,24 @@
-// All nine tables at once: what a function that is lent them gets and leaves, as one value (specs/); that their arrays have their types' lengths;
-// and fresh ones.
+// All nine tables at once: that their arrays have their types' lengths; and fresh ones.
 #![tactic(auto)]
 
-ghost use Rattle.rules.specs.Tables.{tables, Typed};
+ghost use Rattle.rules.specs.Tables.{Typed};
 ghost use Rattle.std.specs.Prelude.{◌≡◌};
 ghost use Rattle.rules.specs.Fresh.{fresh_with};
 
+use rules::Tables;
 use rules::numbers::{
     CLOCK_WORDS, EVENT_WORDS, HEAP_UNITS, LEVELS, LINE_BYTES, MAILBOX_WORDS, MODE, READY,
     READY_LINES_AT, SEMAPHORE_WORDS, STATE_WIDTH, SWI_WORDS, TASK_WORDS,
 };
-use rules::{Clocks, Events, Heap, Lines, Mailboxes, Semaphores, State, Swis, Tables, Tasks};
 
 // The arrays have their types' lengths. A reference to an array does not tell a proof so, an array by value does; nothing is done, and nothing is
 // left of a call of it in a compiled program.
-pub fn typed(
-    tasks: Tasks,
-    lines: Lines,
-    semaphores: Semaphores,
-    events: Events,
-    mailboxes: Mailboxes,
-    swis: Swis,
-    clocks: Clocks,
-    heap: Heap,
-    state: State,
-)
-    ensures { Typed (tables tasks lines semaphores events mailboxes swis clocks heap state) }
+pub fn typed(t: Tables)
+    ensures { Typed t }
 {}
 
 // Fresh tables of so many levels: task 0 only, both switches on, depth 0, tick 0, heap free. The number is not tested here: `entries::fresh` does.
+#[tactic(auto, unfolding(rules::specs::Fresh::fresh_with))]
 pub fn fresh(levels: u32) -> Tables
     ensures { result ≡ fresh_with levels }
 {
