@@ -1,10 +1,11 @@
-// Answers: of a refusal and of an accepted call, and the code and the value of a number that names nothing in use.
+// Answers: of a refusal and of an accepted call, and the refusal and the value of a number that names nothing in use.
 #![tactic(auto)]
 
 ghost use Rattle.std.specs.Prelude.{◌≡◌};
 ghost use Rattle.rules.specs.Answer.{answer, absent_code, unused, named, table_of};
+ghost use Rattle.rules.specs.Refusals.{code};
 
-use rules::Answer;
+use rules::{Answer, Refusal};
 
 // A refusal: its code, outcome 0 and value 0; `named` puts in the value that codes 3 and 11 have.
 pub fn refused(code: u32) -> Answer
@@ -17,17 +18,19 @@ pub fn refused(code: u32) -> Answer
     }
 }
 
-// The code for object number a, which names nothing in use in its table of n.
-pub fn absent_code(a: u32, n: u32) -> u32
-    ensures { result ≡ absent_code a n }
+// Why a call is refused that names object a, in use nowhere in its table of n.
+#[tactic(auto, unfolding(rules::specs::Answer::absent_code))]
+pub fn absent(a: u32, n: u32) -> Refusal
+    ensures { code result ≡ absent_code a n }
 {
     if a < n {
-        return 11;
+        return Refusal::NotInUse;
     }
-    3
+    Refusal::OutOfRange
 }
 
 // The answer to a call as it leaves the core: with codes 3 and 11 its value names the table of the object number.
+#[tactic(auto, unfolding(rules::specs::Answer::named))]
 pub fn named(number: u32, answer: Answer) -> Answer
     ensures { result ≡ named number answer }
 {
@@ -47,6 +50,7 @@ pub fn named(number: u32, answer: Answer) -> Answer
 }
 
 // The table in which the object number of a call is looked up, if it takes one.
+#[tactic(auto, unfolding(rules::specs::Answer::table_of))]
 pub fn table_of(number: u32) -> u32
     ensures { result ≡ table_of number }
 {
@@ -68,6 +72,7 @@ pub fn accepted(outcome: u32, value: u32) -> Answer
 }
 
 // An argument that the call does not name is not 0; one that it names stands here as 0.
+#[tactic(auto, unfolding(rules::specs::Answer::unused))]
 pub fn unused(a: u32, b: u32, c: u32, d: u32) -> bool
     ensures { result ≡ unused a b c d }
 {

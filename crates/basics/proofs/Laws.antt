@@ -1,33 +1,25 @@
 -- Laws of `count`, `without`, `put_at`, `ahead` over any list.
-use Prim.Native.Nat.{ℕ, zero, suc, ◌+◌, ◌-◌, min, ◌≤◌, ◌<◌}
+use Prim.Native.Nat.{ℕ, zero, suc, ◌+◌, min, ◌≤◌, ◌<◌}
 use mathlib.Core.Path.{◌≡◌, refl, sym, ap, ◌∙◌}
-use mathlib.Core.Logic.{◌≢◌, ◌⊎◌, inl, inr, ⊎_elim}
+use mathlib.Core.Logic.{◌≢◌, ◌⊎◌, ⊎_elim}
 use mathlib.Core.Bool.{Bool, true, false, cond as if}
 use mathlib.Core.List.{List, [], ◌∷◌, ◌++◌, Sublistᴰ}
 use native.Mathlib.Numerals.{add-one}
 use native.Mathlib.Omega.{arith}
-use native.Mathlib.Decide.{ℕ_discrete}
 use lib.Dec.{eqb}
-use native.Mathlib.Decide.{dec_lt}
 use borrow.Author.Tests.{eq-eqb, ne_eqb}
 use lib.ListN.{length, take, drop, get_or, length-append, take-append-drop, drop_of_length-le}
 use lib.Seq.{take-length, drop-length, drop-cons, take_all}
+use Rattle.std.proofs.lemmas.List.{nil_from_length}
+use Rattle.std.proofs.lemmas.Bool.{cases_eq, cases_lt}
 use Rattle.basics.specs.Lists.{bit, count, without, put_at, first_where, ahead}
 
--- two numbers are equal or not
+-- two numbers are equal or not, and one is below the other or not: the library's, by the names that proofs here cite
 pub same? : (a b : ℕ) → (a ≡ b) ⊎ (a ≢ b)
-same? a b = go (ℕ_discrete a b)
-  where
-    go : Dec (a ≡ b) → (a ≡ b) ⊎ (a ≢ b)
-    go (yes e) = inl e
-    go (no n) = inr n
+same? = cases_eq
 
 pub lt-or-le : (a b : ℕ) → (a < b) ⊎ (b ≤ a)
-lt-or-le a b = go (dec_lt a b)
-  where
-    go : Dec (a < b) → (a < b) ⊎ (b ≤ a)
-    go (yes p) = inl p
-    go (no p) = inr (omega arith)
+lt-or-le = cases_lt
 
 -- ---- count
 pub count-append : (x : ℕ) (s t : List ℕ) → count x (s ++ t) ≡ count x s + count x t
@@ -214,8 +206,7 @@ count-first [] h = absurd (omega arith)
 count-first (x ∷ xs) h = omega (arith, ap bit (eq-eqb x x refl))
 
 pub no_length : (xs : List ℕ) → length xs ≤ 0 → xs ≡ []
-no_length [] h = refl
-no_length (x ∷ xs) h = absurd (omega arith)
+no_length xs h = nil_from_length xs (omega arith)
 
 -- ---- a search: what a loop has passed
 module _ (t : ℕ → Bool) (ms : List ℕ) (k : ℕ) (inv : first_where t ms ≡ k + first_where t (drop k ms)) where

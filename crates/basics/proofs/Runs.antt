@@ -1,11 +1,12 @@
 -- Runs of reads and of stores, over any list: none asks for its length but `reads-sets`.
-use Prim.Native.Nat.{ℕ, zero, suc, ◌+◌, ◌-◌, ◌≤◌, ◌<◌}
+use Prim.Native.Nat.{ℕ, zero, suc, ◌+◌, ◌≤◌, ◌<◌}
 use mathlib.Core.Path.{◌≡◌, refl, sym, ap, ◌∙◌}
 use mathlib.Core.Logic.{◌⊎◌, inl, inr, ⊎_elim}
 use mathlib.Core.List.{List, [], ◌∷◌, ◌++◌}
+use native.Mathlib.Nat.{add-zero}
 use native.Mathlib.Omega.{arith}
 use lib.ListN.{length, take, drop, get_or, set, length-set}
-use lib.Seq.{sets, set_comm, set-set, set-get_or, get_or-set_same, get_or-set_other}
+use lib.Seq.{get_or-drop, sets, set_comm, set-set, set-get_or, get_or-set_same, get_or-set_other}
 use Rattle.basics.specs.Lists.{firsts, reads}
 
 -- a run of stores changes nothing outside it
@@ -26,14 +27,9 @@ drop-suc zero t = refl
 drop-suc (suc a) [] = refl
 drop-suc (suc a) (x ∷ t) = drop-suc a t
 
-get_d_front : (a : ℕ) (t : List ℕ) → get_or (drop a t) 0 0 ≡ get_or t a 0
-get_d_front zero t = refl
-get_d_front (suc a) [] = refl
-get_d_front (suc a) (x ∷ t) = get_d_front a t
-
 pub reads-suc : (n : ℕ) (t : List ℕ) (a : ℕ) → reads t a (suc n) ≡ get_or t a 0 ∷ reads t (suc a) n
 unfolding reads
-reads-suc n t a = firsts-none n (drop a t) ∙ rw (get_d_front a t, drop-suc a t)
+reads-suc n t a = firsts-none n (drop a t) ∙ rw (get_or-drop a t 0 0, drop-suc a t, add-zero a)
 
 pub reads-zero : (t : List ℕ) (a : ℕ) → reads t a 0 ≡ []
 unfolding reads firsts

@@ -5,12 +5,11 @@ use mathlib.Core.List.{List}
 use native.Mathlib.Omega.{arith}
 use lib.ListN.{length, get_or, set}
 use Rattle.basics.specs.Lists.{without, put_at}
-use Rattle.basics.proofs.Laws.{put_at-back}
 use Rattle.rules.specs.Rows.{listed, with_listed}
-use Rattle.rules.specs.Lines.{line_count, line_most, line_width, line, with_line, out_of, entered, joined, at_back}
+use Rattle.rules.specs.Lines.{line_count, line_most, line_width, line, with_line, out_of, entered}
 use Rattle.rules_laws.proofs.Rows.{by-range}
 use Rattle.rules_laws.proofs.Listed.{length-listed, at_listed}
-use Rattle.rules_laws.proofs.InPlace.{Kept, kept-all, Shifted, shifted-all, joined_is}
+use Rattle.rules_laws.proofs.InPlace.{Kept, kept-all, Shifted, shifted-all}
 use Rattle.rules_laws.proofs.Lines.{line-in, line-out, line-le, with_line-in, left_out, entered-in, entered-full, entered-out}
 
 module _ (ls : List ℕ) (j : ℕ) where
@@ -62,12 +61,6 @@ module _ (ls : List ℕ) (j : ℕ) where
             entered-in ls j x place roomy
             ∙ ap (λ (l : List ℕ). with_line ls j (put_at (place l) x l)) (line-in ls j h)
             ∙ with_line-in ls j (put_at (place (listed line_most ls (j * line_width))) x (listed line_most ls (j * line_width))) h
-
-        pub join_is : (x : ℕ) {k : ℕ} → k ≡ n → set (set ls (j * line_width + 1 + k) x) (j * line_width) (n + 1) ≡ joined j x ls
-        join_is x q =
-            joined_is line_most ls (j * line_width) x room-length q
-            ∙ ap (with_listed line_most ls (j * line_width)) (sym (put_at-back x (listed line_most ls (j * line_width))))
-            ∙ sym (entered-is at_back x)
 
         pub insert-is : (place x carry k : ℕ) {now : List ℕ} → Shifted line_most ls (j * line_width) place x carry k now → n ≤ k
             → set (set now (j * line_width + 1 + k) carry) (j * line_width) (n + 1) ≡ entered (λ xs. place) j x ls

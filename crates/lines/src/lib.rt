@@ -48,32 +48,25 @@ pub fn leave(lines: &mut Lines, j: usize, x: u8)
         let at = j * LINE_WIDTH;
         let n = len(lines, j);
         let mut m: u8 = 0;
-        let mut k = 0;
-        while k < n {
+        for k in 0..n {
             let y = lines[at + 1 + k];
             lines[at + 1 + k] = 0;
             if y != x {
                 lines[at + 1 + basics::wide(m)] = y;
                 m += 1;
             }
-            k += 1;
         }
         lines[at] = m;
     }
 }
 
 // x at the back of line j; a full line stays as it is.
+#[tactic(auto, unfolding(rules::specs::Lines::entered))]
 pub fn join(lines: &mut Lines, j: usize, x: u8)
     ensures { lines.new ≡ joined j x lines.old }
 {
-    if j < LINE_COUNT {
-        let at = j * LINE_WIDTH;
-        let n = lines[at];
-        if n < LINE_MOST_U8 {
-            lines[at + 1 + basics::wide(n)] = x;
-            lines[at] = n + 1;
-        }
-    }
+    let n = len(lines, j);
+    insert(lines, j, n, x);
 }
 
 // x into line j behind the first `place`, behind all where fewer stand there; a full line stays as it is.
@@ -86,35 +79,33 @@ pub fn insert(lines: &mut Lines, j: usize, place: usize, x: u8)
         if n < LINE_MOST_U8 {
             let end = basics::wide(n);
             let mut carry = x;
-            let mut k = least(place, end);
-            while k < end {
+            for k in least(place, end)..end {
                 let y = lines[at + 1 + k];
                 lines[at + 1 + k] = carry;
                 carry = y;
-                k += 1;
             }
-            lines[at + 1 + k] = carry;
+            lines[at + 1 + end] = carry;
             lines[at] = n + 1;
         }
     }
 }
 
-// The line in which a task with this row stands; 255 for none.
+// The line in which a task with this row stands. Stays 255 for none, and no Option: so the definition says, and there no line is changed.
+#[tactic(auto, unfolding(rules::specs::Lines::home_by))]
 pub fn home_of(k: Task) -> usize
     ensures { result ≡ home_of k }
 {
-    let mode = k.mode;
-    match mode {
+    match k.mode {
         READY => READY_LINES + k.priority as usize,
         AT_SEMAPHORE => k.object as usize,
         AT_EVENT => EVENT_LINES + k.object as usize,
-        READING => MAILBOX_LINES + k.object as usize,
-        WRITING => MAILBOX_LINES + k.object as usize,
+        READING | WRITING => MAILBOX_LINES + k.object as usize,
         _ => NOWHERE,
     }
 }
 
 // The top active Swi, the last to start; 0 where none is active.
+#[tactic(auto, unfolding(rules::specs::Swis::top))]
 pub fn top(lines: &Lines) -> u8
     ensures { result ≡ top lines.now }
 {

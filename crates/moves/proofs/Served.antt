@@ -2,14 +2,14 @@
 use Prim.Native.Nat.{ℕ, ◌<◌, ◌≤◌}
 use mathlib.Core.Path.{◌≡◌, sym, ap, ◌∙◌}
 use mathlib.Core.Logic.{◌≢◌}
-use mathlib.Core.Bool.{Bool, true, false, ◌&&◌, ◌||◌}
+use mathlib.Core.Bool.{Bool, true, false, ◌||◌}
 use mathlib.Core.List.{List}
 use native.Mathlib.Omega.{arith}
 use borrow.Author.Tests.{eq-eqb, ne_eqb, lt-ltb, le-ltb}
 use lib.Dec.{eqb, ltb}
 use Rattle.rules.specs.Answer.{with_answer, accepted, answer}
-use Rattle.rules.specs.Lines.{TaskQueues, task_queues, front_of}
-use Rattle.rules.specs.Waits.{WaitTables, wait_tables, with_queues, woken, wakes_first}
+use Rattle.rules.specs.Lines.{TaskQueues, task_queues}
+use Rattle.rules.specs.Waits.{WaitTables, wait_tables, with_queues}
 use Rattle.rules.specs.declared.Answer.{Answer}
 
 -- an answer and the tables, each equal to what is said of it
@@ -35,13 +35,6 @@ pub made-is : (q : WaitTables) (row : ℕ → List ℕ) (n : ℕ) {i : ℕ} {os�
     → with_answer r (wait_tables q.tasks q.lines os₁) ≡ accepted 0 n (wait_tables q.tasks q.lines (row n))
 made-is q row n a e f = objects-is q 0 n (f ∙ ap (answer 0 0) a) (e ∙ ap row a)
 
--- a post wakes the first in line j, and its number is the value
-pub first-woken : (j v : ℕ) (ts ls : List ℕ) {i : ℕ} {ts₁ ls₁ : List ℕ} {r : Answer} → i ≡ front_of ls j
-    → task_queues ts₁ ls₁ ≡ woken i 0 v (task_queues ts ls) → r ≡ answer 0 0 i → (os : List ℕ)
-    → with_answer r (wait_tables ts₁ ls₁ os) ≡ wakes_first j v (wait_tables ts ls os)
-first-woken j v ts ls f w a os =
-    requeued-is (wait_tables ts ls os) 0 (front_of ls j) (a ∙ ap (answer 0 0) f) (w ∙ ap (λ (i : ℕ). woken i 0 v (task_queues ts ls)) f)
-
 -- ---- a number that was read, tested against n
 module _ (n : ℕ) {v w : ℕ} (is : v ≡ w) where
   pub is_same : v ≡ n → eqb w n ≡ true
@@ -56,10 +49,7 @@ module _ (n : ℕ) {v w : ℕ} (is : v ≡ w) where
   pub is_within : v ≤ n → ltb n w ≡ false
   is_within h = le-ltb n w (omega arith)
 
--- ---- two tests that were made, as one
+-- ---- two tests that were made, either of them
 module _ {a b p q t : Bool} (e : a ≡ p) (f : b ≡ q) where
-  pub both-tests : (a && b) ≡ t → (p && q) ≡ t
-  both-tests h = (λ z. sym e z && sym f z) ∙ h
-
   pub either-test : (a || b) ≡ t → (p || q) ≡ t
   either-test h = (λ z. sym e z || sym f z) ∙ h

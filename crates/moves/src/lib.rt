@@ -17,18 +17,17 @@ pub fn place(tasks: &Tasks, lines: &Lines, j: usize, p: u32) -> usize
     ensures { result ≡ by_priority tasks.now p (line lines.now j) }
 {
     let n = lines::len(lines, j);
-    let mut k = 0;
-    while k < n {
+    for k in 0..n {
         let m = lines::member(lines, j, k);
         if rows::task_word(tasks, basics::wide(m), TASK_PRIORITY) < p {
             return k;
         }
-        k += 1;
     }
-    k
+    n
 }
 
 // x into line j before the first of a priority lower than p.
+#[tactic(auto, unfolding(rules::specs::Lines::entered))]
 pub fn enter_by_priority(tasks: &Tasks, lines: &mut Lines, j: usize, x: u8, p: u32)
     ensures { lines.new ≡ entered (by_priority tasks.now p) j x lines.old }
 {
@@ -37,6 +36,7 @@ pub fn enter_by_priority(tasks: &Tasks, lines: &mut Lines, j: usize, x: u8, p: u
 }
 
 // Task i, with the row k, goes to k's line, at the back.
+#[tactic(auto, unfolding(rules::specs::Lines::moved))]
 pub fn move_back(tasks: &mut Tasks, lines: &mut Lines, i: u32, k: Task)
     ensures { task_queues tasks.new lines.new ≡ moved at_back i k (task_queues tasks.old lines.old) }
 {
@@ -48,7 +48,9 @@ pub fn move_back(tasks: &mut Tasks, lines: &mut Lines, i: u32, k: Task)
     }
 }
 
-// The same, before the first of a priority lower than p.
+// The same, before the first of a priority lower than p. Stays beside `move_back`: a parameter for how the line is entered would need a promise of
+// its own, and be no plainer.
+#[tactic(auto, unfolding(rules::specs::Lines::moved))]
 pub fn move_by_priority(tasks: &mut Tasks, lines: &mut Lines, i: u32, k: Task, p: u32)
     ensures { task_queues tasks.new lines.new ≡ moved (by_priority tasks.old p) i k (task_queues tasks.old lines.old) }
 {
@@ -93,13 +95,11 @@ pub fn waiting(k: Task, mode: u32, object: u32, limit: u32, held: u32, mask: u32
 {
     Task {
         mode,
-        priority: k.priority,
         object,
         left: begins::ticks_for(limit),
         held,
         mask,
-        outcome: k.outcome,
-        value: k.value,
+        ..k
     }
 }
 

@@ -3,50 +3,78 @@
 
 pub mod readings;
 
-ghost use Rattle.std.specs.Prelude.{◌≡◌};
-ghost use Rattle.rules.specs.Rows.{field, with_field};
+ghost use Rattle.std.specs.Prelude.{◌≡◌, ◌≤◌, eqb};
+ghost use Rattle.basics.specs.Find.{first_below};
+ghost use Rattle.rules.specs.Rows.{field, with_field, with_row};
 ghost use Rattle.rules.specs.Tables.{task_count, task_width, clock_count, clock_width, task, with_task, clock, with_clock, semaphore, with_semaphore, event};
 ghost use Rattle.rules.specs.Tables.{with_event, mailbox, with_mailbox, swi, with_swi};
 
 use basics::wide;
 use rules::numbers::{
-    CLOCK_FIRST, CLOCK_LEFT, CLOCK_ROWS, CLOCK_ROWS_U8, CLOCK_SWI, CLOCK_WIDTH, CLOCK_WIDTH_U8,
-    EVENT_ROWS_U8, EVENT_WIDTH_U8, HELD, MAILBOX_ROWS_U8, MAILBOX_WIDTH_U8, MASK, MODE, OBJECT,
-    OUTCOME, PERIOD, SEMAPHORE_ROWS_U8, SEMAPHORE_WIDTH_U8, SWI_ROWS_U8, SWI_WIDTH_U8, TASK_LEFT,
-    TASK_PRIORITY, TASK_ROWS, TASK_ROWS_U8, TASK_WIDTH, TASK_WIDTH_U8, USED, VALUE,
+    CLOCK_FIRST, CLOCK_LEFT, CLOCK_ROWS_U8, CLOCK_SWI, CLOCK_WIDTH_U8, EVENT_ROWS_U8,
+    EVENT_WIDTH_U8, HELD, MAILBOX_ROWS_U8, MAILBOX_WIDTH_U8, MASK, MODE, OBJECT, OUTCOME, PERIOD,
+    SEMAPHORE_ROWS_U8, SEMAPHORE_WIDTH_U8, SWI_ROWS_U8, SWI_WIDTH_U8, TASK_LEFT, TASK_PRIORITY,
+    TASK_ROWS_U8, TASK_WIDTH_U8, USED, VALUE,
 };
 use rules::{Clock, Clocks, Events, Mailboxes, Semaphores, Swis, Task, Tasks};
 
 // ---- any table of n rows of w words
+// The width and the number of rows stay two numbers: the definitions take them so (`field w n`), and each contract would open a struct of both again.
 
 // Word f of row i; 0 where there is none.
+#[tactic(auto, unfolding(rules::specs::Rows::field))]
 pub fn word(t: &[u32], w: u8, n: u8, i: usize, f: usize) -> u32
     ensures { result ≡ field w n t.now i f }
 {
-    if i < wide(n) {
-        if f < wide(w) {
-            let k = i * wide(w) + f;
-            if k < t.len() {
-                return t[k];
-            }
-        }
+    if i < wide(n) && f < wide(w) {
+        return t.get(i * wide(w) + f).copied().unwrap_or(0);
     }
     0
 }
 
 // Word f of row i is x now, where there is one.
+#[tactic(auto, unfolding(rules::specs::Rows::with_field))]
 pub fn set_word(t: &mut [u32], w: u8, n: u8, i: usize, f: usize, x: u32)
     ensures { t.new ≡ with_field w n t.old i f x }
 {
+    if i < wide(n) && f < wide(w) {
+        let k = i * wide(w) + f;
+        if k < t.len() {
+            t[k] = x;
+        }
+    }
+}
+
+// The lowest number of a row whose word f is 0; n where none is, and no Option: so `first_below` says, and the tables' definitions go by it.
+pub fn first_zero(t: &[u32], w: u8, n: u8, f: usize) -> usize
+    ensures first { result ≡ first_below n (λ i. eqb (field w n t.now i f) 0) }
+    ensures within { result ≤ n }
+{
+    for i in 0..wide(n) {
+        if word(t, w, n, i, f) == 0 {
+            return i;
+        }
+    }
+    wide(n)
+}
+
+// Row i, of n rows of w words, has these words from its first on, where there is such a row.
+#[tactic(auto, unfolding(rules::specs::Rows::with_row))]
+pub fn put_row(t: &mut [u32], w: u8, n: u8, i: usize, row: &[u32])
+    ensures { t.new ≡ with_row w n t.old i row.now }
+{
     if i < wide(n) {
-        if f < wide(w) {
-            let k = i * wide(w) + f;
-            if k < t.len() {
-                t[k] = x;
+        let at = i * wide(w);
+        for (k, x) in row.iter().enumerate() {
+            if k < t.len().saturating_sub(at) {
+                t[at + k] = *x;
             }
         }
     }
 }
+
+// The functions of one table's words below stay, each a name for `word` or `set_word`: the tables are arrays of plain words, and mailboxes and clocks
+// are one type, so that a trait could not tell them apart.
 
 // ---- tasks
 
@@ -63,6 +91,7 @@ pub fn set_task_word(tasks: &mut Tasks, i: usize, f: usize, x: u32)
 }
 
 // Task i's row; all 0 where there is none.
+#[tactic(auto, unfolding(rules::specs::Tables::task))]
 pub fn task(tasks: &Tasks, i: usize) -> Task
     ensures { result ≡ task tasks.now i }
 {
@@ -78,20 +107,19 @@ pub fn task(tasks: &Tasks, i: usize) -> Task
     }
 }
 
+#[tactic(auto, unfolding(rules::specs::Tables::with_task))]
 pub fn set_task(tasks: &mut Tasks, i: usize, k: Task)
     ensures { tasks.new ≡ with_task tasks.old i k }
 {
-    if i < TASK_ROWS {
-        let at = i * TASK_WIDTH;
-        tasks[at] = k.mode;
-        tasks[at + TASK_PRIORITY] = k.priority;
-        tasks[at + OBJECT] = k.object;
-        tasks[at + TASK_LEFT] = k.left;
-        tasks[at + HELD] = k.held;
-        tasks[at + MASK] = k.mask;
-        tasks[at + OUTCOME] = k.outcome;
-        tasks[at + VALUE] = k.value;
-    }
+    put_row(
+        tasks,
+        TASK_WIDTH_U8,
+        TASK_ROWS_U8,
+        i,
+        &[
+            k.mode, k.priority, k.object, k.left, k.held, k.mask, k.outcome, k.value,
+        ],
+    )
 }
 
 // ---- semaphores
@@ -159,6 +187,7 @@ pub fn clock_word(clocks: &Clocks, i: usize, f: usize) -> u32
 }
 
 // Clock i's row; all 0 where there is none.
+#[tactic(auto, unfolding(rules::specs::Tables::clock))]
 pub fn clock(clocks: &Clocks, i: usize) -> Clock
     ensures { result ≡ clock clocks.now i }
 {
@@ -171,15 +200,15 @@ pub fn clock(clocks: &Clocks, i: usize) -> Clock
     }
 }
 
+#[tactic(auto, unfolding(rules::specs::Tables::with_clock))]
 pub fn set_clock(clocks: &mut Clocks, i: usize, k: Clock)
     ensures { clocks.new ≡ with_clock clocks.old i k }
 {
-    if i < CLOCK_ROWS {
-        let at = i * CLOCK_WIDTH;
-        clocks[at] = k.used;
-        clocks[at + CLOCK_SWI] = k.swi;
-        clocks[at + CLOCK_FIRST] = k.first;
-        clocks[at + PERIOD] = k.period;
-        clocks[at + CLOCK_LEFT] = k.left;
-    }
+    put_row(
+        clocks,
+        CLOCK_WIDTH_U8,
+        CLOCK_ROWS_U8,
+        i,
+        &[k.used, k.swi, k.first, k.period, k.left],
+    )
 }

@@ -17,6 +17,7 @@ pub fn is_binary(kind: u32) -> bool
 }
 
 // How far a count of this kind goes.
+#[tactic(auto, unfolding(rules::specs::Semaphores::most))]
 pub fn most(kind: u32) -> u32
     ensures { result ≡ most kind }
 {
@@ -27,14 +28,16 @@ pub fn most(kind: u32) -> u32
 }
 
 // The posted bits in the or-mask, and the whole and-mask if all its bits are posted.
+#[tactic(auto, unfolding(rules::specs::Events::matched))]
 pub fn matched(bits: u32, and_mask: u32, or_mask: u32) -> u32
     ensures { result ≡ matched bits and_mask or_mask }
 {
-    let some = bits & or_mask;
-    if bits & and_mask == and_mask {
-        return some | and_mask;
-    }
-    some
+    let whole = if bits & and_mask == and_mask {
+        and_mask
+    } else {
+        0
+    };
+    (bits & or_mask) | whole
 }
 
 // The entry of unit u; past the heap nothing can be had.
@@ -51,13 +54,11 @@ pub fn unit(heap: &Heap, u: usize) -> u8
 pub fn one_less(n: u32) -> u32
     ensures { result ≡ n - 1 }
 {
-    if n == 0 {
-        return 0;
-    }
-    n - 1
+    n.saturating_sub(1)
 }
 
 // The current task; a number that is no task's counts as 0.
+#[tactic(auto, unfolding(rules::specs::Tables::current))]
 pub fn current(state: &State) -> u8
     ensures { result ≡ current state.now }
 {
@@ -69,6 +70,7 @@ pub fn current(state: &State) -> u8
 }
 
 // How many levels of priority the tasks have: 16 or 32; another number counts as 16.
+#[tactic(auto, unfolding(rules::specs::Tables::levels))]
 pub fn levels(state: &State) -> u32
     ensures { result ≡ levels state.now }
 {

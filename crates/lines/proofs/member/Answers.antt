@@ -16,5 +16,4 @@ pub bounds-lines-j : goal.bounds-lines-j
 bounds-lines-j c = let h = in_row _ _ c.len.ensures c.if-k-len.true in omega arith
 
 pub returns-then-k-len : goal.returns-then-k-len
-returns-then-k-len c =
-    member_is c.args.lines.now c.args.j c.args.k c.len.ensures c.if-k-len.true
+returns-then-k-len c = member_is _ _ _ c.len.ensures c.if-k-len.true
