@@ -9,36 +9,27 @@ use rules::{AgedClock, Clock};
 pub fn with_left(k: Clock, n: u32) -> Clock
     ensures { result ≡ with_left k n }
 {
-    Clock {
-        used: k.used,
-        swi: k.swi,
-        first: k.first,
-        period: k.period,
-        left: n,
-    }
+    Clock { left: n, ..k }
 }
 
 // One tick less; at 0 its Swi is posted, and it has its period again or stops if that is 0.
+#[tactic(auto, unfolding(rules::specs::Tick::aged))]
 pub fn aged(k: Clock) -> AgedClock
     ensures { result ≡ aged k }
 {
-    if k.left == 0 {
-        return AgedClock {
+    match k.left {
+        0 => AgedClock {
             clock: k,
             fired: false,
-        };
-    }
-    if k.left == 1 {
-        let again = with_left(k, k.period);
-        return AgedClock {
-            clock: again,
+        },
+        1 => AgedClock {
+            clock: with_left(k, k.period),
             fired: true,
-        };
-    }
-    let later = with_left(k, k.left - 1);
-    AgedClock {
-        clock: later,
-        fired: false,
+        },
+        left => AgedClock {
+            clock: with_left(k, left - 1),
+            fired: false,
+        },
     }
 }
 
@@ -57,8 +48,5 @@ pub fn age_one(k: Clock) -> AgedClock
 {
     let mut one = k;
     let fired = age(&mut one);
-    AgedClock {
-        clock: one,
-        fired: fired,
-    }
+    AgedClock { clock: one, fired }
 }

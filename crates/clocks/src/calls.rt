@@ -1,37 +1,40 @@
-// Calls 50 to 53. Of each: its code, 0 where it is accepted; its effect where it is; and the call.
+// Calls 50 to 53. Of each: why it is refused, if it is; its effect where it is not; and the call.
 ghost use Rattle.std.specs.Prelude.{◌≡◌};
 ghost use Rattle.rules.specs.Answer.{with_answer, answered, code_of, ◌by◌};
 ghost use Rattle.rules.specs.Clocks.{create_cases, create_effect, delete_cases, delete_effect, start_stop_cases, start_effect, stop_effect, create_call, delete_call};
 ghost use Rattle.rules.specs.Clocks.{start_call, stop_call};
+ghost use Rattle.rules.specs.Refusals.{answer_said, code_said};
 
 use super::ageing::with_left;
 use super::table::free_clock;
-use answers::{accepted, refused, unused};
+use answers::{absent, accepted, unused};
 use rows::{clock, set_clock, swi};
-use rules::numbers::{CLOCK_ROWS, DONE, T, USED};
-use rules::{Answer, Call, Clock, Clocks, Swis};
+use rules::numbers::{CLOCK_COUNT, CLOCK_ROWS, DONE, SWI_COUNT, T, USED};
+use rules::{Answer, Call, Clock, Clocks, Refusal, Swis};
 
 // ---- 50 create (Swi, first ticks, period)
 
-pub fn create_code(clocks: &Clocks, swis: &Swis, x: u32, a: u32, b: u32, d: u32) -> u32
-    ensures { result ≡ code_of (create_cases clocks.now swis.now x a b d) }
+#[tactic(auto, unfolding(rules::specs::Answer::first_given, rules::specs::Answer::absent_code, rules::specs::Clocks::create_cases))]
+pub fn create_code(clocks: &Clocks, swis: &Swis, x: u32, q: Call) -> Result<(), Refusal>
+    ensures { code_said result ≡ code_of (create_cases clocks.now swis.now x q.a q.b q.d) }
 {
     if x != T {
-        return 2;
+        return Err(Refusal::WrongContext);
     }
-    if swi(swis, a as usize, USED) == 0 {
-        return answers::absent_code(a, rules::numbers::SWI_COUNT);
+    if swi(swis, q.a as usize, USED) == 0 {
+        return Err(absent(q.a, SWI_COUNT));
     }
-    if (b == 0) | unused(0, 0, 0, d) {
-        return 4;
+    if (q.b == 0) | unused(0, 0, 0, q.d) {
+        return Err(Refusal::BadArgument);
     }
     if free_clock(clocks) == CLOCK_ROWS {
-        return 6;
+        return Err(Refusal::NoneFree);
     }
-    0
+    Ok(())
 }
 
 // A new clock is stopped.
+#[tactic(auto, unfolding(rules::specs::Clocks::create_effect))]
 pub fn create_effect(clocks: &mut Clocks, a: u32, b: u32, c: u32) -> Answer
     ensures { with_answer result clocks.new ≡ create_effect clocks.old a b c }
 {
@@ -47,34 +50,32 @@ pub fn create_effect(clocks: &mut Clocks, a: u32, b: u32, c: u32) -> Answer
     accepted(DONE, n as u32)
 }
 
-pub fn create(clocks: &mut Clocks, swis: &Swis, x: u32, q: Call) -> Answer
-    ensures { with_answer result clocks.new ≡ answered clocks.old (create_call clocks.old swis.now x by q) }
+pub fn create(clocks: &mut Clocks, swis: &Swis, x: u32, q: Call) -> Result<Answer, Refusal>
+    ensures { with_answer (answer_said result) clocks.new ≡ answered clocks.old (create_call clocks.old swis.now x by q) }
 {
-    let code = create_code(clocks, swis, x, q.a, q.b, q.d);
-    if code != 0 {
-        return refused(code);
-    }
-    create_effect(clocks, q.a, q.b, q.c)
+    create_code(clocks, swis, x, q)?;
+    Ok(create_effect(clocks, q.a, q.b, q.c))
 }
 
 // ---- 51 delete
 
-pub fn delete_code(clocks: &Clocks, x: u32, a: u32, b: u32, c: u32, d: u32) -> u32
-    ensures { result ≡ code_of (delete_cases clocks.now x a b c d) }
+#[tactic(auto, unfolding(rules::specs::Answer::first_given, rules::specs::Answer::absent_code, rules::specs::Clocks::delete_cases))]
+pub fn delete_code(clocks: &Clocks, x: u32, q: Call) -> Result<(), Refusal>
+    ensures { code_said result ≡ code_of (delete_cases clocks.now x by q) }
 {
     if x != T {
-        return 2;
+        return Err(Refusal::WrongContext);
     }
-    let k = clock(clocks, a as usize);
-    if k.used == 0 {
-        return answers::absent_code(a, rules::numbers::CLOCK_COUNT);
+    if clock(clocks, q.a as usize).used == 0 {
+        return Err(absent(q.a, CLOCK_COUNT));
     }
-    if unused(0, b, c, d) {
-        return 4;
+    if unused(0, q.b, q.c, q.d) {
+        return Err(Refusal::BadArgument);
     }
-    0
+    Ok(())
 }
 
+#[tactic(auto, unfolding(rules::specs::Clocks::delete_effect))]
 pub fn delete_effect(clocks: &mut Clocks, a: u32) -> Answer
     ensures { with_answer result clocks.new ≡ delete_effect clocks.old a }
 {
@@ -89,32 +90,30 @@ pub fn delete_effect(clocks: &mut Clocks, a: u32) -> Answer
     accepted(DONE, 0)
 }
 
-pub fn delete(clocks: &mut Clocks, x: u32, q: Call) -> Answer
-    ensures { with_answer result clocks.new ≡ answered clocks.old (delete_call clocks.old x by q) }
+pub fn delete(clocks: &mut Clocks, x: u32, q: Call) -> Result<Answer, Refusal>
+    ensures { with_answer (answer_said result) clocks.new ≡ answered clocks.old (delete_call clocks.old x by q) }
 {
-    let code = delete_code(clocks, x, q.a, q.b, q.c, q.d);
-    if code != 0 {
-        return refused(code);
-    }
-    delete_effect(clocks, q.a)
+    delete_code(clocks, x, q)?;
+    Ok(delete_effect(clocks, q.a))
 }
 
 // ---- 52 start, 53 stop
 
-pub fn start_stop_code(clocks: &Clocks, a: u32, b: u32, c: u32, d: u32) -> u32
-    ensures { result ≡ code_of (start_stop_cases clocks.now a b c d) }
+#[tactic(auto, unfolding(rules::specs::Answer::first_given, rules::specs::Answer::absent_code, rules::specs::Clocks::start_stop_cases))]
+pub fn start_stop_code(clocks: &Clocks, q: Call) -> Result<(), Refusal>
+    ensures { code_said result ≡ code_of (start_stop_cases clocks.now by q) }
 {
-    let k = clock(clocks, a as usize);
-    if k.used == 0 {
-        return answers::absent_code(a, rules::numbers::CLOCK_COUNT);
+    if clock(clocks, q.a as usize).used == 0 {
+        return Err(absent(q.a, CLOCK_COUNT));
     }
-    if unused(0, b, c, d) {
-        return 4;
+    if unused(0, q.b, q.c, q.d) {
+        return Err(Refusal::BadArgument);
     }
-    0
+    Ok(())
 }
 
 // Start sets the first ticks again.
+#[tactic(auto, unfolding(rules::specs::Clocks::start_effect))]
 pub fn start_effect(clocks: &mut Clocks, a: u32) -> Answer
     ensures { with_answer result clocks.new ≡ start_effect clocks.old a }
 {
@@ -124,17 +123,15 @@ pub fn start_effect(clocks: &mut Clocks, a: u32) -> Answer
     accepted(DONE, 0)
 }
 
-pub fn start(clocks: &mut Clocks, q: Call) -> Answer
-    ensures { with_answer result clocks.new ≡ answered clocks.old (start_call clocks.old by q) }
+pub fn start(clocks: &mut Clocks, q: Call) -> Result<Answer, Refusal>
+    ensures { with_answer (answer_said result) clocks.new ≡ answered clocks.old (start_call clocks.old by q) }
 {
-    let code = start_stop_code(clocks, q.a, q.b, q.c, q.d);
-    if code != 0 {
-        return refused(code);
-    }
-    start_effect(clocks, q.a)
+    start_stop_code(clocks, q)?;
+    Ok(start_effect(clocks, q.a))
 }
 
 // A stopped clock has no ticks left.
+#[tactic(auto, unfolding(rules::specs::Clocks::stop_effect))]
 pub fn stop_effect(clocks: &mut Clocks, a: u32) -> Answer
     ensures { with_answer result clocks.new ≡ stop_effect clocks.old a }
 {
@@ -144,12 +141,9 @@ pub fn stop_effect(clocks: &mut Clocks, a: u32) -> Answer
     accepted(DONE, 0)
 }
 
-pub fn stop(clocks: &mut Clocks, q: Call) -> Answer
-    ensures { with_answer result clocks.new ≡ answered clocks.old (stop_call clocks.old by q) }
+pub fn stop(clocks: &mut Clocks, q: Call) -> Result<Answer, Refusal>
+    ensures { with_answer (answer_said result) clocks.new ≡ answered clocks.old (stop_call clocks.old by q) }
 {
-    let code = start_stop_code(clocks, q.a, q.b, q.c, q.d);
-    if code != 0 {
-        return refused(code);
-    }
-    stop_effect(clocks, q.a)
+    start_stop_code(clocks, q)?;
+    Ok(stop_effect(clocks, q.a))
 }

@@ -8,15 +8,18 @@ pub mod table;
 ghost use Rattle.std.specs.Prelude.{◌≡◌};
 ghost use Rattle.rules.specs.Answer.{with_answer, answered, ◌by◌};
 ghost use Rattle.rules.specs.Clocks.{clock_call};
+ghost use Rattle.rules.specs.Refusals.{answer_said};
 
-use answers::refused;
 use calls::{create, delete, start, stop};
-use rules::{Answer, Call, Clocks, Swis};
+use rules::{Answer, Call, Clocks, Refusal, Swis};
 
 // ---- the calls by number
 
-pub fn clock_call(clocks: &mut Clocks, swis: &Swis, x: u32, q: Call) -> Answer
-    ensures { with_answer result clocks.new ≡ answered clocks.old (clock_call clocks.old swis.now x q.number by q) }
+// Made by x: 0 a task, 1 a Swi, 2 an interrupt.
+// Who calls stays a number: the definitions answer any, and an enum would ask more of a caller.
+#[tactic(auto, unfolding(rules::specs::Clocks::clock_call, rules::specs::Answer::first_given))]
+pub fn clock_call(clocks: &mut Clocks, swis: &Swis, x: u32, q: Call) -> Result<Answer, Refusal>
+    ensures { with_answer (answer_said result) clocks.new ≡ answered clocks.old (clock_call clocks.old swis.now x q.number by q) }
 {
     let number = q.number;
     match number {
@@ -24,6 +27,6 @@ pub fn clock_call(clocks: &mut Clocks, swis: &Swis, x: u32, q: Call) -> Answer
         0x51 => delete(clocks, x, q),
         0x52 => start(clocks, q),
         0x53 => stop(clocks, q),
-        _ => refused(1),
+        _ => Err(Refusal::UnknownCall),
     }
 }

@@ -1,12 +1,13 @@
-// 32 pend: its code, 0 where it is accepted; its effect where it is; and the call.
+// 32 pend: whether it is refused, and why; its effect where it is accepted; and the call.
 ghost use Rattle.std.specs.Prelude.{◌≡◌};
 ghost use Rattle.rules.specs.Answer.{with_answer, answered, code_of, ◌by◌};
 ghost use Rattle.rules.specs.Tables.{event, BITS};
 ghost use Rattle.rules.specs.Events.{matched, pend_waits, pend_cases, pend_effect, pend_call};
 ghost use Rattle.rules.specs.Waits.{wait_tables};
+ghost use Rattle.rules.specs.Refusals.{answer_said, code_said};
 
 use rules::numbers::{AT_EVENT, BITS, DONE, EVENT_LINES, NOT_MET, NOW_WAITING, USED};
-use rules::{Answer, Call, Events, Lines, State, Tasks};
+use rules::{Answer, Call, Events, Lines, Refusal, State, Tasks};
 
 // What of event a's posted bits matches these masks.
 pub fn event_match(events: &Events, a: u32, and_mask: u32, or_mask: u32) -> u32
@@ -17,57 +18,64 @@ pub fn event_match(events: &Events, a: u32, and_mask: u32, or_mask: u32) -> u32
 
 // ---- 32: pend, with an and-mask, an or-mask and a limit
 
-// The call would go on to wait.
-pub fn pend_waits(events: &Events, a: u32, b: u32, c: u32, limit: u32) -> bool
-    ensures { result ≡ pend_waits events.now a b c limit }
+// The call would go on to wait. Stays beside its likes of other kinds: one test each, of another word.
+#[tactic(auto, unfolding(rules::specs::Events::pend_waits))]
+pub fn pend_waits(events: &Events, q: Call) -> bool
+    ensures { result ≡ pend_waits events.now by q }
 {
-    (event_match(events, a, b, c) == 0) & (limit != 0)
+    (event_match(events, q.a, q.b, q.c) == 0) & (q.d != 0)
 }
 
-pub fn pend_code(lines: &Lines, events: &Events, state: &State, x: u32, q: Call) -> u32
-    ensures { result ≡ code_of (pend_cases lines.now events.now state.now x by q) }
+#[tactic(auto, unfolding(rules::specs::Answer::first_given, rules::specs::Answer::absent_code, rules::specs::Events::pend_cases))]
+pub fn pend_code(
+    lines: &Lines,
+    events: &Events,
+    state: &State,
+    x: u32,
+    q: Call,
+) -> Result<(), Refusal>
+    ensures { code_said result ≡ code_of (pend_cases lines.now events.now state.now x by q) }
 {
     if moves::begins::outside(x, q.d) {
-        return 2;
+        return Err(Refusal::WrongContext);
     }
     let i = q.a as usize;
     if rows::event(events, i, USED) == 0 {
-        return answers::absent_code(q.a, rules::numbers::EVENT_COUNT);
+        return Err(answers::absent(q.a, rules::numbers::EVENT_COUNT));
     }
     if (q.b == 0) & (q.c == 0) {
-        return 4;
+        return Err(Refusal::BadArgument);
     }
-    if 0 < lines::len(lines, EVENT_LINES + i) {
-        return 5;
+    if lines::anyone(lines, EVENT_LINES + i) {
+        return Err(Refusal::Forbidden);
     }
-    let begins = pend_waits(events, q.a, q.b, q.c, q.d);
+    let begins = pend_waits(events, q);
     moves::begins::wait_code(state, begins)
 }
 
 // Any matched: they are cleared and are the value. Else not met, or the current task waits.
+#[tactic(auto, unfolding(rules::specs::Events::pend_effect))]
 pub fn pend_effect(
     tasks: &mut Tasks,
     lines: &mut Lines,
     events: &mut Events,
     state: &State,
-    a: u32,
-    b: u32,
-    c: u32,
-    limit: u32,
+    q: Call,
 ) -> Answer
-    ensures { with_answer result (wait_tables tasks.new lines.new events.new) ≡ pend_effect (wait_tables tasks.old lines.old events.old) state.now a b c limit }
+    ensures { with_answer result (wait_tables tasks.new lines.new events.new) ≡ pend_effect (wait_tables tasks.old lines.old events.old) state.now by q }
 {
-    let m = event_match(events, a, b, c);
+    let m = event_match(events, q.a, q.b, q.c);
     if m != 0 {
-        let bits = rows::event(events, a as usize, BITS);
-        rows::set_event(events, a as usize, BITS, bits & !m);
+        let i = q.a as usize;
+        let bits = rows::event(events, i, BITS);
+        rows::set_event(events, i, BITS, bits & !m);
         return answers::accepted(DONE, m);
     }
-    if limit == 0 {
+    if q.d == 0 {
         return answers::accepted(NOT_MET, 0);
     }
-    let i = rows::readings::current(state) as u32;
-    moves::wait(tasks, lines, i, AT_EVENT, a, limit, b, c);
+    let i = u32::from(rows::readings::current(state));
+    moves::wait(tasks, lines, i, AT_EVENT, q.a, q.d, q.b, q.c);
     answers::accepted(NOW_WAITING, 0)
 }
 
@@ -78,13 +86,10 @@ pub fn pend(
     state: &State,
     x: u32,
     q: Call,
-) -> Answer
-    ensures { with_answer result (wait_tables tasks.new lines.new events.new)
+) -> Result<Answer, Refusal>
+    ensures { with_answer (answer_said result) (wait_tables tasks.new lines.new events.new)
         ≡ answered (wait_tables tasks.old lines.old events.old) (pend_call (wait_tables tasks.old lines.old events.old) state.now x by q) }
 {
-    let code = pend_code(lines, events, state, x, q);
-    if code != 0 {
-        return answers::refused(code);
-    }
-    pend_effect(tasks, lines, events, state, q.a, q.b, q.c, q.d)
+    pend_code(lines, events, state, x, q)?;
+    Ok(pend_effect(tasks, lines, events, state, q))
 }

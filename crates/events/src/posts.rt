@@ -1,19 +1,21 @@
-// 33 post: its code, 0 where it is accepted; its effect where it is; and the call.
+// 33 post: whether it is refused, and why; its effect where it is accepted; and the call.
 ghost use Rattle.std.specs.Prelude.{◌≡◌};
 ghost use Rattle.rules.specs.Answer.{with_answer, answered, code_of, ◌by◌};
 ghost use Rattle.rules.specs.Events.{waiter_match, posted_bits, post_cases, post_effect, post_call};
 ghost use Rattle.rules.specs.Waits.{wait_tables};
+ghost use Rattle.rules.specs.Refusals.{answer_said, code_said};
 
 use rules::numbers::{BITS, DONE, EVENT_LINES, USED};
-use rules::{Answer, Call, Events, Lines, Tasks};
+use rules::{Answer, Call, Events, Lines, Refusal, Tasks};
 
 // What of these bits the waiter at event a matches; 0 where nobody waits.
+#[tactic(auto, unfolding(rules::specs::Events::waiter_match))]
 pub fn waiter_match(tasks: &Tasks, lines: &Lines, a: u32, bits: u32) -> u32
     ensures { result ≡ waiter_match tasks.now lines.now a bits }
 {
     let j = EVENT_LINES + a as usize;
-    if 0 < lines::len(lines, j) {
-        let k = rows::task(tasks, basics::wide(lines::first(lines, j)));
+    if lines::anyone(lines, j) {
+        let k = rows::task(tasks, usize::from(lines::first(lines, j)));
         return rows::readings::matched(bits, k.held, k.mask);
     }
     0
@@ -21,19 +23,21 @@ pub fn waiter_match(tasks: &Tasks, lines: &Lines, a: u32, bits: u32) -> u32
 
 // ---- 33: post, with a mask
 
-pub fn post_code(events: &Events, a: u32, c: u32, d: u32) -> u32
-    ensures { result ≡ code_of (post_cases events.now a c d) }
+#[tactic(auto, unfolding(rules::specs::Answer::first_given, rules::specs::Answer::absent_code, rules::specs::Events::post_cases))]
+pub fn post_code(events: &Events, q: Call) -> Result<(), Refusal>
+    ensures { code_said result ≡ code_of (post_cases events.now q.a q.c q.d) }
 {
-    if rows::event(events, a as usize, USED) == 0 {
-        return answers::absent_code(a, rules::numbers::EVENT_COUNT);
+    if rows::event(events, q.a as usize, USED) == 0 {
+        return Err(answers::absent(q.a, rules::numbers::EVENT_COUNT));
     }
-    if answers::unused(0, 0, c, d) {
-        return 4;
+    if answers::unused(0, 0, q.c, q.d) {
+        return Err(Refusal::BadArgument);
     }
-    0
+    Ok(())
 }
 
 // With these bits posted: the waiter ready, what it matches cleared, and its number the value; or value 0.
+#[tactic(auto, unfolding(rules::specs::Events::posted_bits))]
 pub fn post_bits(
     tasks: &mut Tasks,
     lines: &mut Lines,
@@ -66,13 +70,15 @@ pub fn post_effect(
     post_bits(tasks, lines, events, a, bits | mask)
 }
 
-pub fn post(tasks: &mut Tasks, lines: &mut Lines, events: &mut Events, q: Call) -> Answer
-    ensures { with_answer result (wait_tables tasks.new lines.new events.new)
+pub fn post(
+    tasks: &mut Tasks,
+    lines: &mut Lines,
+    events: &mut Events,
+    q: Call,
+) -> Result<Answer, Refusal>
+    ensures { with_answer (answer_said result) (wait_tables tasks.new lines.new events.new)
         ≡ answered (wait_tables tasks.old lines.old events.old) (post_call (wait_tables tasks.old lines.old events.old) by q) }
 {
-    let code = post_code(events, q.a, q.c, q.d);
-    if code != 0 {
-        return answers::refused(code);
-    }
-    post_effect(tasks, lines, events, q.a, q.b)
+    post_code(events, q)?;
+    Ok(post_effect(tasks, lines, events, q.a, q.b))
 }

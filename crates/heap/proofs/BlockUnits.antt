@@ -1,5 +1,5 @@
 -- Blocks, and the entries of a block, over any list: what the loops keep and what they end with.
-use Prim.Native.Nat.{ℕ, zero, suc, ◌+◌, ◌*◌, ◌-◌, ◌/◌, ◌%◌, ◌≤◌, ◌<◌, min}
+use Prim.Native.Nat.{ℕ, zero, suc, ◌+◌, ◌-◌, ◌/◌, ◌%◌, ◌≤◌, ◌<◌, min}
 use mathlib.Core.Path.{◌≡◌, refl, sym, ap, ◌∙◌}
 use mathlib.Core.Bool.{Bool, true, false, not, ◌&&◌, ◌||◌, true≢false, and-eq-true_iff}
 use mathlib.Core.List.{List, ◌∷◌}
@@ -13,7 +13,7 @@ use Rattle.basics.specs.Lists.{zeros}
 use Rattle.basics.specs.Find.{first_below, first_from}
 use Rattle.basics.proofs.Runs.{sets-snoc}
 use Rattle.rules.specs.Tables.{heap_units, unit_bytes}
-use Rattle.rules.specs.Heap.{unit, with_units, units_of, lowest_run, block_size, is_block, take_effect, give_effect}
+use Rattle.rules.specs.Heap.{unit, with_units, units_of, block_size, is_block, give_effect}
 use Rattle.rules.specs.Answer.{answer, with_answer}
 use Rattle.rules.specs.declared.Answer.{Answer}
 use Rattle.heap.specs.Free.{adjacent}
@@ -83,11 +83,6 @@ module _ (u n v : ℕ) where
     marked-out l = sym (units-out h u es (omega (arith, size)))
 
 -- ---- the effects
-pub take-is : (h : List ℕ) (a : ℕ) {n u : ℕ} {g : List ℕ} {r : Answer} → n ≡ units_of a → u ≡ lowest_run h n
-    → g ≡ with_units h u (1 ∷ replicate (n - 1) 2) → r ≡ answer 0 0 (u * unit_bytes) → with_answer r g ≡ take_effect h a
-unfolding take_effect
-take-is h a p q e f = rw (f, e, q, p)
-
 -- all free again
 cleared : (n : ℕ) → 0 < n → 0 ∷ replicate (n - 1) 0 ≡ zeros n
 cleared zero l = absurd (omega arith)

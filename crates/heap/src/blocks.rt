@@ -33,16 +33,15 @@ pub fn mark(heap: &mut Heap, u: usize, n: usize, first: u8, later: u8)
     if u < HEAP_UNITS {
         if n <= HEAP_UNITS - u {
             heap[u] = first;
-            let mut k = 1;
-            while k < n {
+            for k in 1..n {
                 heap[u + k] = later;
-                k += 1;
             }
         }
     }
 }
 
 // A live block starts at byte a, and b bytes round up to its size.
+#[tactic(auto, unfolding(rules::specs::Heap::is_block))]
 pub fn is_block(heap: &Heap, a: u32, b: u32) -> bool
     ensures { result ≡ is_block heap.now a b }
 {

@@ -1,30 +1,37 @@
 -- What the stores of `messages` mean to the mailbox whose row they are in.
-use Prim.Native.Nat.{ℕ, suc, ◌+◌, ◌*◌, ◌-◌, min, ◌≤◌, ◌<◌}
+use Prim.Native.Nat.{ℕ, zero, suc, ◌+◌, ◌*◌, ◌-◌, min, ◌≤◌, ◌<◌}
 use mathlib.Core.Path.{◌≡◌, refl, sym, ap, ◌∙◌}
-use mathlib.Core.Logic.{inr}
 use mathlib.Core.List.{List, [], ◌∷◌, ◌++◌}
-use native.Mathlib.Numerals.{add-one}
 use native.Mathlib.Omega.{arith}
 use borrow.Author.Tests.{lt-ltb, le-ltb, le-leb, lt-leb}
-use lib.ListN.{length, take, drop, get_or, set, length-drop, length-replicate, replicate-append-replicate}
-use lib.Seq.{sets, set-set, length-take-le, take-suc, take_all, get_or-drop}
-use Rattle.basics.specs.Lists.{zeros}
-use Rattle.basics.proofs.Runs.{sets-snoc, sets-set, get_or-sets-out}
+use lib.ListN.{length, take, drop, get_or, set, length-drop}
+use lib.Seq.{sets, set-set, paste}
+use Rattle.std.proofs.lemmas.List.Edits.{sets-eq}
+use Rattle.std.specs.List.{copy_within}
+use Rattle.basics.specs.Lists.{zeros, firsts, reads}
+use Rattle.basics.proofs.Runs.{sets-snoc, reads-suc}
 use Rattle.rules.specs.Rows.{listed, with_listed}
-use Rattle.rules.specs.Tables.{mailbox_count, mailbox_width, mailbox_most, MESSAGES, mailbox, with_mailbox, mailbox_row, messages, with_messages}
-use Rattle.rules_laws.proofs.Rows.{by-range, field_in, field_out, with_field-in, with_row-in, with_row-out}
+use Rattle.rules.specs.Tables.{mailbox_count, mailbox_width, mailbox_most, MESSAGES, mailbox, with_mailbox, messages, with_messages}
+use Rattle.rules_laws.proofs.Rows.{by-range, field_in, field_out, with_field-in}
 use Rattle.rules_laws.proofs.Listed.{length-listed, listed_le, at_listed, with_listed-is, listed_kept}
 use Rattle.rules_laws.proofs.InPlace.{length-snoc, grown, joined_is}
 
--- ---- a list that loses its first: of the others, k stand where they will
-pub record Up (m : ℕ) (t : List ℕ) (a k : ℕ) (now : List ℕ) : Type 0 where
-  pub below : k ≤ length (drop 1 (listed m t a))
-  pub same : now ≡ sets t (a + 1) (take k (drop 1 (listed m t a)))
+-- ---- a list that loses its first: the others one place further front
+firsts_are : (n : ℕ) (s : List ℕ) → n ≤ length s → firsts n s ≡ take n s
+unfolding firsts
+firsts_are zero s h = refl
+firsts_are (suc n) [] h = absurd (omega arith)
+firsts_are (suc n) (x ∷ s) h = ap (λ (r : List ℕ). x ∷ r) (firsts_are n s (omega arith))
+
+behind-first : (t : List ℕ) (a k : ℕ) → a + 1 + k ≤ length t → drop 1 (reads t (a + 1) k) ≡ take (k - 1) (drop (a + 2) t)
+unfolding reads firsts
+behind-first t a zero h = refl
+behind-first t a (suc k) h =
+    let e : suc (a + 1) ≡ a + 2 = omega arith in
+    let f : suc k - 1 ≡ k = omega arith in
+    rw (reads-suc, e, f) (firsts_are k (drop (a + 2) t) (omega (arith, length-drop (a + 2) t)))
 
 module _ (m : ℕ) (t : List ℕ) (a : ℕ) where
-  pub up_none : Up m t a 0 t
-  up_none = record { below = omega arith; same = refl }
-
   ys : List ℕ
   ys = drop 1 (listed m t a)
 
@@ -32,37 +39,25 @@ module _ (m : ℕ) (t : List ℕ) (a : ℕ) where
   unfolding ys
   size = length-drop 1 (listed m t a)
 
-  module _ (k : ℕ) {now : List ℕ} (inv : Up m t a k now) where
-    pub up_more : k < length (drop 1 (listed m t a)) → {to : List ℕ} → to ≡ set now (a + 1 + k) (get_or now (a + 2 + k) 0) → Up m t a (k + 1) to
-    unfolding ys
-    up_more h q =
-        let s : length (take k ys) ≡ k = length-take-le k ys inv.below in
-        let p : a + 2 + k ≡ a + 1 + (1 + k) = omega arith in
-        let r : get_or now (a + 2 + k) 0 ≡ get_or ys k 0 =
-        ap (λ (l : List ℕ). get_or l (a + 2 + k) 0) inv.same
-        ∙ get_or-sets-out (take k ys) t (a + 1) (a + 2 + k) (inr (omega (arith, s)))
-        ∙ ap (λ (i : ℕ). get_or t i 0) p
-        ∙ at_listed m t a (1 + k) (omega (arith, size))
-        ∙ sym (get_or-drop 1 (listed m t a) k 0) in
-        let e : take k ys ++ (get_or ys k 0 ∷ []) ≡ take (k + 1) ys = rw add-one (sym (take-suc ys k 0 h)) in
-        record {
-          below = omega arith;
-          same =
-              q
-              ∙ ap (set now (a + 1 + k)) r
-              ∙ ap (λ (l : List ℕ). set l (a + 1 + k) (get_or ys k 0)) inv.same
-              ∙ sets-snoc (take k ys) t (a + 1) k (get_or ys k 0) s
-              ∙ ap (sets t (a + 1)) e;
-        }
+  module _ (fits : a + m < length t) where
+    -- the others as they stand
+    ys-are : ys ≡ take (length ys) (drop (a + 2) t)
+    unfolding ys listed
+    ys-are =
+        let e : min (get_or t a 0) m - 1 ≡ length ys = omega (arith, size, length-listed m t a) in
+        behind-first t a (min (get_or t a 0) m) (omega arith) ∙ ap (λ (n : ℕ). take n (drop (a + 2) t)) e
 
-    -- at the end one more goes behind them, and their number is stored
-    pub up-all : (x : ℕ) {n : ℕ} → n ≡ length (drop 1 (listed m t a)) → n ≤ k
-        → set (set now (a + 1 + k) x) a (n + 1) ≡ with_listed m t a (drop 1 (listed m t a) ++ (x ∷ []))
+    -- moved up, one more goes behind them, and their number is stored
+    pub up-all : (x : ℕ) {n : ℕ} {now : List ℕ} → n ≡ length (drop 1 (listed m t a)) → now ≡ paste t (a + 1) (drop (a + 2) t) n
+        → set (set now (a + 1 + n) x) a (n + 1) ≡ with_listed m t a (drop 1 (listed m t a) ++ (x ∷ []))
     unfolding ys
-    up-all x {n} e h =
-        let s : length ys ≡ k = omega (arith, inv.below) in
-        ap (λ (l : List ℕ). set (set l (a + 1 + k) x) a (n + 1)) (inv.same ∙ ap (sets t (a + 1)) (take_all k ys (omega arith)))
-        ∙ ap (λ (l : List ℕ). set l a (n + 1)) (sets-snoc ys t (a + 1) k x s)
+    up-all x {n} e f =
+        let moved : paste t (a + 1) (drop (a + 2) t) n ≡ sets t (a + 1) ys =
+        rw e
+        (ap (λ (l : List ℕ). take (a + 1) t ++ l ++ drop (a + 1 + length ys) t) (sym ys-are)
+        ∙ sym (sets-eq ys t (a + 1) (omega (arith, size, length-listed m t a)))) in
+        ap (λ (l : List ℕ). set (set l (a + 1 + n) x) a (n + 1)) (f ∙ moved)
+        ∙ ap (λ (l : List ℕ). set l a (n + 1)) (sets-snoc ys t (a + 1) n x (sym e))
         ∙ grown m t a (ys ++ (x ∷ [])) (omega (arith, length-snoc ys x, size)) (omega (arith, length-snoc ys x))
 
   -- a 0 behind them is a place given up, once their number says so
@@ -100,8 +95,8 @@ module _ (ms : List ℕ) (i : ℕ) where
       ∙ ap (λ (n : ℕ). min n mailbox_most) (sym (field_in mailbox_width mailbox_count ms i MESSAGES h (omega arith))))
       (λ h. ap length (messages-out h) ∙ sym (ap (λ (n : ℕ). min n mailbox_most) (field_out mailbox_width mailbox_count ms i MESSAGES h)))
 
-  pub behind-is : length (drop 1 (messages ms i)) ≡ length (messages ms i) - 1
-  behind-is = length-drop 1 (messages ms i)
+  pub few_behind : length (drop 1 (messages ms i)) < mailbox_most
+  few_behind = omega (arith, length-drop 1 (messages ms i), count-is)
 
   -- who has a message has a row
   pub has-row : {n : ℕ} → n ≡ length (messages ms i) → 0 < n → i < mailbox_count
@@ -158,10 +153,12 @@ module _ (ms : List ℕ) (i : ℕ) where
     pub behind-le : length (drop 1 (listed mailbox_most ms (at i))) < mailbox_most
     behind-le = omega (arith, length-drop 1 (listed mailbox_most ms (at i)), listed_le mailbox_most ms (at i))
 
-    pub shift_is : (x k : ℕ) {n : ℕ} {now : List ℕ} → Up mailbox_most ms (at i) k now → n ≡ length (drop 1 (listed mailbox_most ms (at i))) → n ≤ k
-        → set (set now (at i + 1 + k) x) (at i) (n + 1) ≡ with_messages ms i (drop 1 (messages ms i) ++ (x ∷ []))
-    shift_is x k inv e q =
-        up-all mailbox_most ms (at i) k inv x e q
+    pub shift_is : length ms ≡ mailbox_count * mailbox_width → (x : ℕ) {n : ℕ} {now : List ℕ} → n ≡ length (drop 1 (messages ms i))
+        → now ≡ copy_within ms (at i + 2) (at i + 2 + n) (at i + 1)
+        → set (set now (at i + 1 + n) x) (at i) (n + 1) ≡ with_messages ms i (drop 1 (messages ms i) ++ (x ∷ []))
+    shift_is size x {n} e f =
+        let z : at i + 2 + n - (at i + 2) ≡ n = omega arith in
+        up-all mailbox_most ms (at i) (omega arith) x (listed-behind e) (rw z at f)
         ∙ stored (λ l. drop 1 l ++ (x ∷ [])) (omega (arith, length-snoc (drop 1 (listed mailbox_most ms (at i))) x, behind-le))
 
   -- ---- taken: shifted with a 0, then one less
@@ -195,24 +192,13 @@ module _ (ms : List ℕ) (i : ℕ) where
       nothing [] s = refl
       nothing (x ∷ xs) s = absurd (omega arith)
 
--- ---- a whole row: zeros, then the capacity
-module _ (ms : List ℕ) (i : ℕ) where
-  pub zeros-more : (k : ℕ) {now : List ℕ} → now ≡ sets ms (i * mailbox_width) (zeros k)
-      → set now (i * mailbox_width + k) 0 ≡ sets ms (i * mailbox_width) (zeros (k + 1))
-  zeros-more k e =
-      ap (λ (l : List ℕ). set l (i * mailbox_width + k) 0) e
-      ∙ sets-snoc (zeros k) ms (i * mailbox_width) k 0 (length-replicate {A = ℕ} k 0)
-      ∙ ap (sets ms (i * mailbox_width)) (replicate-append-replicate k 1 0)
+-- ---- what the check is given at the functions of `messages`
+pub ruleset counted = (count-is)
 
-  pub row_is : (x k : ℕ) {now : List ℕ} → i < mailbox_count → now ≡ sets ms (i * mailbox_width) (zeros k) → k ≤ mailbox_width → mailbox_width ≤ k
-      → set now (i * mailbox_width) x ≡ mailbox_row ms i (x ∷ zeros (mailbox_width - 1))
-  row_is x k h e p q =
-      let s : k ≡ mailbox_width = omega arith in
-      let z : i * mailbox_width ≡ i * mailbox_width + 0 = omega arith in
-      ap (λ (l : List ℕ). set l (i * mailbox_width) x) (e ∙ ap (λ (n : ℕ). sets ms (i * mailbox_width) (zeros n)) s)
-      ∙ ap (λ (n : ℕ). set (sets ms (i * mailbox_width) (zeros mailbox_width)) n x) z
-      ∙ sets-set (zeros mailbox_width) ms (i * mailbox_width) 0 x (omega arith)
-      ∙ sym (with_row-in mailbox_width mailbox_count ms i (x ∷ zeros (mailbox_width - 1)) h)
+pub ruleset read = (oldest-is)
 
-  pub no_row : (x : ℕ) → mailbox_count ≤ i → ms ≡ mailbox_row ms i (x ∷ zeros (mailbox_width - 1))
-  no_row x h = sym (with_row-out mailbox_width mailbox_count ms i (x ∷ zeros (mailbox_width - 1)) h)
+pub ruleset joined = (put_is, full_is, with_out)
+
+pub ruleset shifted = (few_behind, shift_is, with_out)
+
+pub ruleset taken = (count-is, take-is, none_is)

@@ -12,10 +12,14 @@ ghost use Rattle.std.specs.Prelude.{◌≡◌};
 ghost use Rattle.rules.specs.Answer.{with_answer, answered, ◌by◌};
 ghost use Rattle.rules.specs.Mailboxes.{mailbox_call};
 ghost use Rattle.rules.specs.Waits.{wait_tables};
+ghost use Rattle.rules.specs.Refusals.{answer_said};
 
-use rules::{Answer, Call, Lines, Mailboxes, State, Tasks};
+use rules::{Answer, Call, Lines, Mailboxes, Refusal, State, Tasks};
 
 // The call of this number, made by x: 0 a task, 1 a Swi, 2 an interrupt.
+// Who calls stays a number: the definitions answer any, and an enum would ask more of a caller.
+// The tables stay apart, here and below: the signature says which of them a call may touch.
+#[tactic(auto, unfolding(rules::specs::Mailboxes::mailbox_call, rules::specs::Answer::first_given))]
 pub fn mailbox_call(
     tasks: &mut Tasks,
     lines: &mut Lines,
@@ -23,8 +27,8 @@ pub fn mailbox_call(
     state: &State,
     x: u32,
     q: Call,
-) -> Answer
-    ensures { with_answer result (wait_tables tasks.new lines.new mailboxes.new)
+) -> Result<Answer, Refusal>
+    ensures { with_answer (answer_said result) (wait_tables tasks.new lines.new mailboxes.new)
         ≡ answered (wait_tables tasks.old lines.old mailboxes.old) (mailbox_call (wait_tables tasks.old lines.old mailboxes.old) state.now x q.number by q) }
 {
     let number = q.number;
@@ -33,6 +37,6 @@ pub fn mailbox_call(
         0x41 => calls::delete(lines, mailboxes, x, q),
         0x42 => posts::post(tasks, lines, mailboxes, state, x, q),
         0x43 => pends::pend(tasks, lines, mailboxes, state, x, q),
-        _ => answers::refused(1),
+        _ => Err(Refusal::UnknownCall),
     }
 }

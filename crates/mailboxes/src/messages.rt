@@ -3,31 +3,25 @@ ghost use Rattle.std.specs.Prelude.{◌≡◌, [], ◌∷◌, ◌++◌, length, 
 ghost use Rattle.rules.specs.Tables.{messages, with_messages};
 
 use rules::Mailboxes;
-use rules::numbers::{MAILBOX_MOST, MAILBOX_PLACES, MAILBOX_ROWS, MAILBOX_WIDTH, MESSAGES, OLDEST};
+use rules::numbers::{MAILBOX_MOST, MAILBOX_ROWS, MAILBOX_WIDTH, MESSAGES, OLDEST};
 
 // How many messages mailbox i has.
+#[tactic(auto, using(crate::proofs::InMailbox::counted))]
 pub fn count(mailboxes: &Mailboxes, i: usize) -> usize
     ensures { result ≡ length (messages mailboxes.now i) }
 {
-    let n = rows::mailbox(mailboxes, i, MESSAGES);
-    if n < MAILBOX_MOST {
-        return n as usize;
-    }
-    MAILBOX_PLACES
+    rows::mailbox(mailboxes, i, MESSAGES).min(MAILBOX_MOST) as usize
 }
 
 // How many of them stand behind the oldest.
 pub fn count_behind(mailboxes: &Mailboxes, i: usize) -> usize
     ensures { result ≡ length (drop 1 (messages mailboxes.now i)) }
 {
-    let n = count(mailboxes, i);
-    if 0 < n {
-        return n - 1;
-    }
-    0
+    count(mailboxes, i).saturating_sub(1)
 }
 
 // The oldest message of mailbox i; 0 where there is none.
+#[tactic(auto, using(crate::proofs::InMailbox::read))]
 pub fn oldest(mailboxes: &Mailboxes, i: usize) -> u32
     ensures { result ≡ get_or (messages mailboxes.now i) 0 0 }
 {
@@ -38,6 +32,7 @@ pub fn oldest(mailboxes: &Mailboxes, i: usize) -> u32
 }
 
 // The word joins the messages of mailbox i at the back; eight messages stay as they are.
+#[tactic(auto, using(crate::proofs::InMailbox::joined))]
 pub fn put_word(mailboxes: &mut Mailboxes, i: usize, word: u32)
     ensures { mailboxes.new ≡ with_messages mailboxes.old i (messages mailboxes.old i ++ (word ∷ [])) }
 {
@@ -52,23 +47,21 @@ pub fn put_word(mailboxes: &mut Mailboxes, i: usize, word: u32)
 }
 
 // The oldest message of mailbox i goes, and the word joins the others at the back.
+#[tactic(auto, using(crate::proofs::InMailbox::shifted))]
 pub fn shift(mailboxes: &mut Mailboxes, i: usize, word: u32)
     ensures { mailboxes.new ≡ with_messages mailboxes.old i (drop 1 (messages mailboxes.old i) ++ (word ∷ [])) }
 {
     if i < MAILBOX_ROWS {
         let at = i * MAILBOX_WIDTH + MESSAGES;
         let n = count_behind(mailboxes, i);
-        let mut k = 0;
-        while k < n {
-            mailboxes[at + 1 + k] = mailboxes[at + 2 + k];
-            k += 1;
-        }
-        mailboxes[at + 1 + k] = word;
+        mailboxes.copy_within(at + 2..at + 2 + n, at + 1);
+        mailboxes[at + 1 + n] = word;
         mailboxes[at] = n as u32 + 1;
     }
 }
 
 // The oldest message of mailbox i goes.
+#[tactic(auto, using(crate::proofs::InMailbox::taken))]
 pub fn take_word(mailboxes: &mut Mailboxes, i: usize)
     ensures { mailboxes.new ≡ with_messages mailboxes.old i (drop 1 (messages mailboxes.old i)) }
 {

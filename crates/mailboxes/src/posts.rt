@@ -1,17 +1,19 @@
-// 42 post: its code, 0 where it is accepted; its effect where it is; and the call.
+// 42 post: whether it is refused, and why; its effect where it is accepted; and the call.
 ghost use Rattle.std.specs.Prelude.{◌≡◌};
 ghost use Rattle.rules.specs.Answer.{with_answer, answered, code_of, ◌by◌};
 ghost use Rattle.rules.specs.Mailboxes.{post_cases, post_effect, post_call};
 ghost use Rattle.rules.specs.Waits.{wait_tables};
+ghost use Rattle.rules.specs.Refusals.{answer_said, code_said};
 
 use super::messages::put_word;
 use super::waiters::{is_full, not_done, post_waits, waits_first};
 use rules::numbers::{CAPACITY, DONE, MAILBOX_LINES, READING, WRITING};
-use rules::{Answer, Call, Lines, Mailboxes, State, Tasks};
+use rules::{Answer, Call, Lines, Mailboxes, Refusal, State, Tasks};
 
 // ---- 42 post (mailbox, word, limit): to the first waiting reader, else to the back, else wait
 
-// The code of call 42.
+// Whether call 42 is refused, and why.
+#[tactic(auto, unfolding(rules::specs::Answer::first_given, rules::specs::Answer::absent_code, rules::specs::Mailboxes::post_cases))]
 pub fn post_code(
     tasks: &Tasks,
     lines: &Lines,
@@ -19,23 +21,24 @@ pub fn post_code(
     state: &State,
     x: u32,
     q: Call,
-) -> u32
-    ensures { result ≡ code_of (post_cases tasks.now lines.now mailboxes.now state.now x q.a q.c q.d) }
+) -> Result<(), Refusal>
+    ensures { code_said result ≡ code_of (post_cases tasks.now lines.now mailboxes.now state.now x q.a q.c q.d) }
 {
     if moves::begins::outside(x, q.c) {
-        return 2;
+        return Err(Refusal::WrongContext);
     }
     if rows::mailbox(mailboxes, q.a as usize, CAPACITY) == 0 {
-        return answers::absent_code(q.a, rules::numbers::MAILBOX_COUNT);
+        return Err(answers::absent(q.a, rules::numbers::MAILBOX_COUNT));
     }
     if answers::unused(0, 0, 0, q.d) {
-        return 4;
+        return Err(Refusal::BadArgument);
     }
     let begins = post_waits(tasks, lines, mailboxes, q.a, q.c);
     moves::begins::wait_code(state, begins)
 }
 
 // The word goes to the first waiting reader, whose number is the value; or to the back, or the post is not done at once.
+#[tactic(auto, unfolding(rules::specs::Mailboxes::post_effect))]
 pub fn post_effect(
     tasks: &mut Tasks,
     lines: &mut Lines,
@@ -65,13 +68,10 @@ pub fn post(
     state: &State,
     x: u32,
     q: Call,
-) -> Answer
-    ensures { with_answer result (wait_tables tasks.new lines.new mailboxes.new)
+) -> Result<Answer, Refusal>
+    ensures { with_answer (answer_said result) (wait_tables tasks.new lines.new mailboxes.new)
         ≡ answered (wait_tables tasks.old lines.old mailboxes.old) (post_call (wait_tables tasks.old lines.old mailboxes.old) state.now x by q) }
 {
-    let code = post_code(tasks, lines, mailboxes, state, x, q);
-    if code != 0 {
-        return answers::refused(code);
-    }
-    post_effect(tasks, lines, mailboxes, state, q.a, q.b, q.c)
+    post_code(tasks, lines, mailboxes, state, x, q)?;
+    Ok(post_effect(tasks, lines, mailboxes, state, q.a, q.b, q.c))
 }

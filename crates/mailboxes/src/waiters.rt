@@ -13,17 +13,18 @@ use rules::{Answer, Lines, Mailboxes, State, Tasks};
 pub fn anyone(lines: &Lines, a: u32) -> bool
     ensures { result ≡ anyone lines.now (mailbox_line a) }
 {
-    0 < lines::len(lines, MAILBOX_LINES + a as usize)
+    lines::anyone(lines, MAILBOX_LINES + a as usize)
 }
 
 // The first who waits at mailbox a; 0 where nobody does.
 pub fn first(lines: &Lines, a: u32) -> u32
     ensures { result ≡ front_of lines.now (mailbox_line a) }
 {
-    lines::first(lines, MAILBOX_LINES + a as usize) as u32
+    u32::from(lines::first(lines, MAILBOX_LINES + a as usize))
 }
 
 // Someone waits at mailbox a, and the first is in this mode.
+#[tactic(auto, unfolding(rules::specs::Mailboxes::waits_first))]
 pub fn waits_first(tasks: &Tasks, lines: &Lines, a: u32, mode: u32) -> bool
     ensures { result ≡ waits_first tasks.now lines.now a mode }
 {
@@ -32,6 +33,7 @@ pub fn waits_first(tasks: &Tasks, lines: &Lines, a: u32, mode: u32) -> bool
 }
 
 // Mailbox a has no room for a message.
+#[tactic(auto, unfolding(rules::specs::Mailboxes::is_full))]
 pub fn is_full(mailboxes: &Mailboxes, a: u32) -> bool
     ensures { result ≡ is_full mailboxes.now a }
 {
@@ -41,6 +43,7 @@ pub fn is_full(mailboxes: &Mailboxes, a: u32) -> bool
 }
 
 // A post goes on to wait.
+#[tactic(auto, unfolding(rules::specs::Mailboxes::post_waits))]
 pub fn post_waits(tasks: &Tasks, lines: &Lines, mailboxes: &Mailboxes, a: u32, limit: u32) -> bool
     ensures { result ≡ post_waits tasks.now lines.now mailboxes.now a limit }
 {
@@ -48,7 +51,8 @@ pub fn post_waits(tasks: &Tasks, lines: &Lines, mailboxes: &Mailboxes, a: u32, l
     !reader & is_full(mailboxes, a) & (limit != 0)
 }
 
-// A pend goes on to wait.
+// A pend goes on to wait. Stays beside its likes of other kinds: one test each, of another word.
+#[tactic(auto, unfolding(rules::specs::Mailboxes::pend_waits))]
 pub fn pend_waits(mailboxes: &Mailboxes, a: u32, limit: u32) -> bool
     ensures { result ≡ pend_waits mailboxes.now a limit }
 {
@@ -74,7 +78,7 @@ pub fn not_done(
     if limit == 0 {
         return answers::accepted(NOT_MET, 0);
     }
-    let i = rows::readings::current(state) as u32;
+    let i = u32::from(rows::readings::current(state));
     moves::wait(tasks, lines, i, mode, a, limit, word, 0);
     answers::accepted(NOW_WAITING, 0)
 }

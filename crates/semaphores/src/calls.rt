@@ -1,40 +1,43 @@
-// Calls 20, 21 and 24. Of each: its code, 0 where it is accepted; its effect where it is; and the call.
+// Calls 20, 21 and 24. Of each: whether it is refused, and why; its effect where it is accepted; and the call.
 ghost use Rattle.std.specs.Prelude.{◌≡◌, not, ◌||◌, ltb, leb};
 ghost use Rattle.rules.specs.Answer.{with_answer, answered, code_of, unused, ◌by◌};
 ghost use Rattle.rules.specs.Waits.{wait_tables};
 ghost use Rattle.rules.specs.Semaphores.{most, create_cases, create_effect, delete_cases, delete_effect, reset_cases, reset_effect, create_call, delete_call};
 ghost use Rattle.rules.specs.Semaphores.{reset_call};
 ghost use Rattle.rules.specs.Tables.{TaskTable, LineTable};
+ghost use Rattle.rules.specs.Refusals.{answer_said, code_said};
 
 use super::table::{free_semaphore, put_semaphore};
 use rules::numbers::{COUNT, DONE, KIND, KIND_COUNT, SEMAPHORE_ROWS, T, USED};
-use rules::{Answer, Call, Lines, Semaphores};
+use rules::{Answer, Call, Lines, Refusal, Semaphores};
 
 // ---- 20: create, of a kind, with a count
 
 // The kind or the count is bad, or an unused argument is not 0.
-pub fn bad_create(kind: u32, count: u32, c: u32, d: u32) -> bool
-    ensures { result ≡ (not (ltb kind 4) || not (leb count (most kind)) || unused 0 0 c d) }
+pub fn bad_create(q: Call) -> bool
+    ensures { result ≡ (not (ltb q.a 4) || not (leb q.b (most q.a)) || unused 0 0 q.c q.d) }
 {
-    !(kind < KIND_COUNT) | !(count <= rows::readings::most(kind)) | answers::unused(0, 0, c, d)
+    !(q.a < KIND_COUNT) | !(q.b <= rows::readings::most(q.a)) | answers::unused(0, 0, q.c, q.d)
 }
 
-pub fn create_code(semaphores: &Semaphores, x: u32, a: u32, b: u32, c: u32, d: u32) -> u32
-    ensures { result ≡ code_of (create_cases semaphores.now x a b c d) }
+#[tactic(auto, unfolding(rules::specs::Answer::first_given, rules::specs::Semaphores::create_cases))]
+pub fn create_code(semaphores: &Semaphores, x: u32, q: Call) -> Result<(), Refusal>
+    ensures { code_said result ≡ code_of (create_cases semaphores.now x by q) }
 {
     if x != T {
-        return 2;
+        return Err(Refusal::WrongContext);
     }
-    if bad_create(a, b, c, d) {
-        return 4;
+    if bad_create(q) {
+        return Err(Refusal::BadArgument);
     }
     if free_semaphore(semaphores) == SEMAPHORE_ROWS {
-        return 6;
+        return Err(Refusal::NoneFree);
     }
-    0
+    Ok(())
 }
 
 // The tasks and the lines stay, whatever they are.
+#[tactic(auto, unfolding(rules::specs::Semaphores::create_effect))]
 pub fn create_effect(semaphores: &mut Semaphores, a: u32, b: u32) -> Answer
     ensures { (ts : TaskTable) (ls : LineTable) → with_answer result (wait_tables ts ls semaphores.new)
         ≡ create_effect (wait_tables ts ls semaphores.old) a b }
@@ -44,39 +47,39 @@ pub fn create_effect(semaphores: &mut Semaphores, a: u32, b: u32) -> Answer
     answers::accepted(DONE, i as u32)
 }
 
-pub fn create(semaphores: &mut Semaphores, x: u32, q: Call) -> Answer
-    ensures { (ts : TaskTable) (ls : LineTable) → with_answer result (wait_tables ts ls semaphores.new)
+pub fn create(semaphores: &mut Semaphores, x: u32, q: Call) -> Result<Answer, Refusal>
+    ensures { (ts : TaskTable) (ls : LineTable) → with_answer (answer_said result) (wait_tables ts ls semaphores.new)
         ≡ answered (wait_tables ts ls semaphores.old) (create_call (wait_tables ts ls semaphores.old) x by q) }
 {
-    let code = create_code(semaphores, x, q.a, q.b, q.c, q.d);
-    if code != 0 {
-        return answers::refused(code);
-    }
-    create_effect(semaphores, q.a, q.b)
+    create_code(semaphores, x, q)?;
+    Ok(create_effect(semaphores, q.a, q.b))
 }
 
 // ---- 21: delete
 
-pub fn delete_code(lines: &Lines, semaphores: &Semaphores, x: u32, q: Call) -> u32
-    ensures { result ≡ code_of (delete_cases lines.now semaphores.now x by q) }
+// Stays beside the deletes of other kinds: each reads another table, and only where the tests before it passed.
+#[tactic(auto, unfolding(rules::specs::Answer::first_given, rules::specs::Answer::absent_code, rules::specs::Semaphores::delete_cases))]
+pub fn delete_code(lines: &Lines, semaphores: &Semaphores, x: u32, q: Call) -> Result<(), Refusal>
+    ensures { code_said result ≡ code_of (delete_cases lines.now semaphores.now x by q) }
 {
     if x != T {
-        return 2;
+        return Err(Refusal::WrongContext);
     }
     let i = q.a as usize;
     if rows::semaphore(semaphores, i, USED) == 0 {
-        return answers::absent_code(q.a, rules::numbers::SEMAPHORE_COUNT);
+        return Err(answers::absent(q.a, rules::numbers::SEMAPHORE_COUNT));
     }
     if answers::unused(0, q.b, q.c, q.d) {
-        return 4;
+        return Err(Refusal::BadArgument);
     }
-    if 0 < lines::len(lines, i) {
-        return 5;
+    if lines::anyone(lines, i) {
+        return Err(Refusal::Forbidden);
     }
-    0
+    Ok(())
 }
 
 // The row is all 0.
+#[tactic(auto, unfolding(rules::specs::Semaphores::delete_effect))]
 pub fn delete_effect(semaphores: &mut Semaphores, a: u32) -> Answer
     ensures { (ts : TaskTable) (ls : LineTable) → with_answer result (wait_tables ts ls semaphores.new)
         ≡ delete_effect (wait_tables ts ls semaphores.old) a }
@@ -85,15 +88,17 @@ pub fn delete_effect(semaphores: &mut Semaphores, a: u32) -> Answer
     answers::accepted(DONE, 0)
 }
 
-pub fn delete(lines: &Lines, semaphores: &mut Semaphores, x: u32, q: Call) -> Answer
-    ensures { (ts : TaskTable) → with_answer result (wait_tables ts lines.now semaphores.new)
+pub fn delete(
+    lines: &Lines,
+    semaphores: &mut Semaphores,
+    x: u32,
+    q: Call,
+) -> Result<Answer, Refusal>
+    ensures { (ts : TaskTable) → with_answer (answer_said result) (wait_tables ts lines.now semaphores.new)
         ≡ answered (wait_tables ts lines.now semaphores.old) (delete_call (wait_tables ts lines.now semaphores.old) x by q) }
 {
-    let code = delete_code(lines, semaphores, x, q);
-    if code != 0 {
-        return answers::refused(code);
-    }
-    delete_effect(semaphores, q.a)
+    delete_code(lines, semaphores, x, q)?;
+    Ok(delete_effect(semaphores, q.a))
 }
 
 // ---- 24: reset, to a count as in 20
@@ -105,25 +110,27 @@ pub fn bad_reset(kind: u32, count: u32, c: u32, d: u32) -> bool
     !(count <= rows::readings::most(kind)) | answers::unused(0, 0, c, d)
 }
 
-pub fn reset_code(lines: &Lines, semaphores: &Semaphores, x: u32, q: Call) -> u32
-    ensures { result ≡ code_of (reset_cases lines.now semaphores.now x by q) }
+#[tactic(auto, unfolding(rules::specs::Answer::first_given, rules::specs::Answer::absent_code, rules::specs::Semaphores::reset_cases))]
+pub fn reset_code(lines: &Lines, semaphores: &Semaphores, x: u32, q: Call) -> Result<(), Refusal>
+    ensures { code_said result ≡ code_of (reset_cases lines.now semaphores.now x by q) }
 {
     if x != T {
-        return 2;
+        return Err(Refusal::WrongContext);
     }
     let i = q.a as usize;
     if rows::semaphore(semaphores, i, USED) == 0 {
-        return answers::absent_code(q.a, rules::numbers::SEMAPHORE_COUNT);
+        return Err(answers::absent(q.a, rules::numbers::SEMAPHORE_COUNT));
     }
     if bad_reset(rows::semaphore(semaphores, i, KIND), q.b, q.c, q.d) {
-        return 4;
+        return Err(Refusal::BadArgument);
     }
-    if 0 < lines::len(lines, i) {
-        return 5;
+    if lines::anyone(lines, i) {
+        return Err(Refusal::Forbidden);
     }
-    0
+    Ok(())
 }
 
+#[tactic(auto, unfolding(rules::specs::Semaphores::reset_effect))]
 pub fn reset_effect(semaphores: &mut Semaphores, a: u32, b: u32) -> Answer
     ensures { (ts : TaskTable) (ls : LineTable) → with_answer result (wait_tables ts ls semaphores.new)
         ≡ reset_effect (wait_tables ts ls semaphores.old) a b }
@@ -132,13 +139,10 @@ pub fn reset_effect(semaphores: &mut Semaphores, a: u32, b: u32) -> Answer
     answers::accepted(DONE, 0)
 }
 
-pub fn reset(lines: &Lines, semaphores: &mut Semaphores, x: u32, q: Call) -> Answer
-    ensures { (ts : TaskTable) → with_answer result (wait_tables ts lines.now semaphores.new)
+pub fn reset(lines: &Lines, semaphores: &mut Semaphores, x: u32, q: Call) -> Result<Answer, Refusal>
+    ensures { (ts : TaskTable) → with_answer (answer_said result) (wait_tables ts lines.now semaphores.new)
         ≡ answered (wait_tables ts lines.now semaphores.old) (reset_call (wait_tables ts lines.now semaphores.old) x by q) }
 {
-    let code = reset_code(lines, semaphores, x, q);
-    if code != 0 {
-        return answers::refused(code);
-    }
-    reset_effect(semaphores, q.a, q.b)
+    reset_code(lines, semaphores, x, q)?;
+    Ok(reset_effect(semaphores, q.a, q.b))
 }

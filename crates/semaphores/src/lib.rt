@@ -10,10 +10,14 @@ ghost use Rattle.std.specs.Prelude.{◌≡◌};
 ghost use Rattle.rules.specs.Answer.{with_answer, answered, ◌by◌};
 ghost use Rattle.rules.specs.Semaphores.{semaphore_call};
 ghost use Rattle.rules.specs.Waits.{wait_tables};
+ghost use Rattle.rules.specs.Refusals.{answer_said};
 
-use rules::{Answer, Call, Lines, Semaphores, State, Tasks};
+use rules::{Answer, Call, Lines, Refusal, Semaphores, State, Tasks};
 
 // The call of this number, made by x: 0 a task, 1 a Swi, 2 an interrupt.
+// Who calls stays a number: the definitions answer any, and an enum would ask more of a caller.
+// The tables stay apart, here and below: the signature says which of them a call may touch.
+#[tactic(auto, unfolding(rules::specs::Answer::first_given, rules::specs::Semaphores::semaphore_call))]
 pub fn semaphore_call(
     tasks: &mut Tasks,
     lines: &mut Lines,
@@ -21,8 +25,8 @@ pub fn semaphore_call(
     state: &State,
     x: u32,
     q: Call,
-) -> Answer
-    ensures { with_answer result (wait_tables tasks.new lines.new semaphores.new)
+) -> Result<Answer, Refusal>
+    ensures { with_answer (answer_said result) (wait_tables tasks.new lines.new semaphores.new)
         ≡ answered (wait_tables tasks.old lines.old semaphores.old) (semaphore_call (wait_tables tasks.old lines.old semaphores.old) state.now x q.number by q) }
 {
     let number = q.number;
@@ -32,6 +36,6 @@ pub fn semaphore_call(
         0x22 => pends::pend(tasks, lines, semaphores, state, x, q),
         0x23 => posts::post(tasks, lines, semaphores, q),
         0x24 => calls::reset(lines, semaphores, x, q),
-        _ => answers::refused(1),
+        _ => Err(Refusal::UnknownCall),
     }
 }

@@ -1,34 +1,37 @@
-// 22 pend: its code, 0 where it is accepted; its effect where it is; and the call.
+// 22 pend: whether it is refused, and why; its effect where it is accepted; and the call.
 ghost use Rattle.std.specs.Prelude.{◌≡◌};
 ghost use Rattle.rules.specs.Answer.{with_answer, answered, code_of, ◌by◌};
 ghost use Rattle.rules.specs.Tables.{task, at_semaphore};
 ghost use Rattle.rules.specs.Lines.{moved, task_queues};
 ghost use Rattle.rules.specs.Waits.{waiting, wait_tables};
 ghost use Rattle.rules.specs.Semaphores.{pend_waits, place_in, pend_cases, pend_effect, pend_call};
+ghost use Rattle.rules.specs.Refusals.{answer_said, code_said};
 
 use rules::numbers::{AT_SEMAPHORE, BY_PRIORITY, COUNT, DONE, KIND, NOT_MET, NOW_WAITING, USED};
-use rules::{Answer, Call, Lines, Semaphores, State, Tasks};
+use rules::{Answer, Call, Lines, Refusal, Semaphores, State, Tasks};
 
 // ---- 22: pend, with a limit
 
-// The call would go on to wait.
+// The call would go on to wait. Stays beside its likes of other kinds: one test each, of another word.
+#[tactic(auto, unfolding(rules::specs::Semaphores::pend_waits))]
 pub fn pend_waits(semaphores: &Semaphores, a: u32, limit: u32) -> bool
     ensures { result ≡ pend_waits semaphores.now a limit }
 {
     (rows::semaphore(semaphores, a as usize, COUNT) == 0) & (limit != 0)
 }
 
-pub fn pend_code(semaphores: &Semaphores, state: &State, x: u32, q: Call) -> u32
-    ensures { result ≡ code_of (pend_cases semaphores.now state.now x by q) }
+#[tactic(auto, unfolding(rules::specs::Answer::first_given, rules::specs::Answer::absent_code, rules::specs::Semaphores::pend_cases))]
+pub fn pend_code(semaphores: &Semaphores, state: &State, x: u32, q: Call) -> Result<(), Refusal>
+    ensures { code_said result ≡ code_of (pend_cases semaphores.now state.now x by q) }
 {
     if moves::begins::outside(x, q.b) {
-        return 2;
+        return Err(Refusal::WrongContext);
     }
     if rows::semaphore(semaphores, q.a as usize, USED) == 0 {
-        return answers::absent_code(q.a, rules::numbers::SEMAPHORE_COUNT);
+        return Err(answers::absent(q.a, rules::numbers::SEMAPHORE_COUNT));
     }
     if answers::unused(0, 0, q.c, q.d) {
-        return 4;
+        return Err(Refusal::BadArgument);
     }
     let begins = pend_waits(semaphores, q.a, q.b);
     moves::begins::wait_code(state, begins)
@@ -50,6 +53,7 @@ pub fn begin(tasks: &mut Tasks, lines: &mut Lines, kind: u32, i: u32, a: u32, li
 }
 
 // Takes one, or is not met, or the current task waits.
+#[tactic(auto, unfolding(rules::specs::Semaphores::pend_effect))]
 pub fn pend_effect(
     tasks: &mut Tasks,
     lines: &mut Lines,
@@ -69,14 +73,8 @@ pub fn pend_effect(
         return answers::accepted(NOT_MET, 0);
     }
     let kind = rows::semaphore(semaphores, a as usize, KIND);
-    begin(
-        tasks,
-        lines,
-        kind,
-        rows::readings::current(state) as u32,
-        a,
-        limit,
-    );
+    let i = u32::from(rows::readings::current(state));
+    begin(tasks, lines, kind, i, a, limit);
     answers::accepted(NOW_WAITING, 0)
 }
 
@@ -87,13 +85,10 @@ pub fn pend(
     state: &State,
     x: u32,
     q: Call,
-) -> Answer
-    ensures { with_answer result (wait_tables tasks.new lines.new semaphores.new)
+) -> Result<Answer, Refusal>
+    ensures { with_answer (answer_said result) (wait_tables tasks.new lines.new semaphores.new)
         ≡ answered (wait_tables tasks.old lines.old semaphores.old) (pend_call (wait_tables tasks.old lines.old semaphores.old) state.now x by q) }
 {
-    let code = pend_code(semaphores, state, x, q);
-    if code != 0 {
-        return answers::refused(code);
-    }
-    pend_effect(tasks, lines, semaphores, state, q.a, q.b)
+    pend_code(semaphores, state, x, q)?;
+    Ok(pend_effect(tasks, lines, semaphores, state, q.a, q.b))
 }

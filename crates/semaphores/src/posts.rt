@@ -1,14 +1,16 @@
-// 23 post: its code, 0 where it is accepted; its effect where it is; and the call.
+// 23 post: whether it is refused, and why; its effect where it is accepted; and the call.
 ghost use Rattle.std.specs.Prelude.{◌≡◌, not, ◌&&◌, leb};
 ghost use Rattle.rules.specs.Answer.{with_answer, answered, code_of, ◌by◌};
 ghost use Rattle.rules.specs.Tables.{semaphore, KIND, COUNT};
 ghost use Rattle.rules.specs.Semaphores.{count_up, is_binary, post_cases, post_effect, post_call};
 ghost use Rattle.rules.specs.Waits.{wait_tables};
+ghost use Rattle.rules.specs.Refusals.{answer_said, code_said};
 
 use rules::numbers::{COUNT, COUNT_MOST, DONE, KIND, USED};
-use rules::{Answer, Call, Lines, Semaphores, Tasks};
+use rules::{Answer, Call, Lines, Refusal, Semaphores, Tasks};
 
 // One up, and no more than the kind's most.
+#[tactic(auto, unfolding(rules::specs::Semaphores::count_up))]
 pub fn count_up(kind: u32, n: u32) -> u32
     ensures { result ≡ count_up kind n }
 {
@@ -29,22 +31,24 @@ pub fn at_end(semaphores: &Semaphores, a: u32) -> bool
     counting & (COUNT_MOST <= rows::semaphore(semaphores, i, COUNT))
 }
 
-pub fn post_code(semaphores: &Semaphores, a: u32, b: u32, c: u32, d: u32) -> u32
-    ensures { result ≡ code_of (post_cases semaphores.now a b c d) }
+#[tactic(auto, unfolding(rules::specs::Answer::first_given, rules::specs::Answer::absent_code, rules::specs::Semaphores::post_cases))]
+pub fn post_code(semaphores: &Semaphores, q: Call) -> Result<(), Refusal>
+    ensures { code_said result ≡ code_of (post_cases semaphores.now by q) }
 {
-    if rows::semaphore(semaphores, a as usize, USED) == 0 {
-        return answers::absent_code(a, rules::numbers::SEMAPHORE_COUNT);
+    if rows::semaphore(semaphores, q.a as usize, USED) == 0 {
+        return Err(answers::absent(q.a, rules::numbers::SEMAPHORE_COUNT));
     }
-    if answers::unused(0, b, c, d) {
-        return 4;
+    if answers::unused(0, q.b, q.c, q.d) {
+        return Err(Refusal::BadArgument);
     }
-    if at_end(semaphores, a) {
-        return 7;
+    if at_end(semaphores, q.a) {
+        return Err(Refusal::AtEnd);
     }
-    0
+    Ok(())
 }
 
 // The first waiter ready, and its number the value; or value 0 and the count one up.
+#[tactic(auto, unfolding(rules::specs::Semaphores::post_effect))]
 pub fn post_effect(
     tasks: &mut Tasks,
     lines: &mut Lines,
@@ -54,7 +58,7 @@ pub fn post_effect(
     ensures { with_answer result (wait_tables tasks.new lines.new semaphores.new) ≡ post_effect (wait_tables tasks.old lines.old semaphores.old) a }
 {
     let i = a as usize;
-    if 0 < lines::len(lines, i) {
+    if lines::anyone(lines, i) {
         return moves::wake_first(tasks, lines, i, 0);
     }
     let kind = rows::semaphore(semaphores, i, KIND);
@@ -63,13 +67,15 @@ pub fn post_effect(
     answers::accepted(DONE, 0)
 }
 
-pub fn post(tasks: &mut Tasks, lines: &mut Lines, semaphores: &mut Semaphores, q: Call) -> Answer
-    ensures { with_answer result (wait_tables tasks.new lines.new semaphores.new)
+pub fn post(
+    tasks: &mut Tasks,
+    lines: &mut Lines,
+    semaphores: &mut Semaphores,
+    q: Call,
+) -> Result<Answer, Refusal>
+    ensures { with_answer (answer_said result) (wait_tables tasks.new lines.new semaphores.new)
         ≡ answered (wait_tables tasks.old lines.old semaphores.old) (post_call (wait_tables tasks.old lines.old semaphores.old) by q) }
 {
-    let code = post_code(semaphores, q.a, q.b, q.c, q.d);
-    if code != 0 {
-        return answers::refused(code);
-    }
-    post_effect(tasks, lines, semaphores, q.a)
+    post_code(semaphores, q)?;
+    Ok(post_effect(tasks, lines, semaphores, q.a))
 }

@@ -1,13 +1,12 @@
--- The searches for a Swi, and a number that no call on Swis has.
+-- The searches for a Swi.
 use Rattle.std.proofs.Common.{◌≡◌, ℕ, ◌+◌, ◌<◌, ◌≤◌, Bool, true, false, not, ◌&&◌, eqb, ◌≢◌, List, length, get_or, take, drop, sym, ap, ◌∙◌, add-one, arith, take-append-drop, take_all, take-suc, le-ltb, lt-ltb, eq-eqb, ne_eqb}
 use Rattle.basics.specs.Lists.{bit, count}
 use Rattle.basics.specs.Find.{all_below}
 use Rattle.basics.proofs.Laws.{count-append, count-snoc}
 use Rattle.basics.proofs.Finds.{all_yes, all-no}
-use Rattle.rules.specs.Answer.{unknown}
 use Rattle.rules.specs.Tables.{clock_count, clock}
 use Rattle.rules.specs.Lines.{line, active_line}
-use Rattle.rules.specs.Swis.{SwiQueues, is_active, is_named, swi_call}
+use Rattle.rules.specs.Swis.{is_active, is_named}
 use Rattle.rules.specs.declared.Clock.{Clock}
 
 -- ---- a search among the active Swis has passed k of them
@@ -19,20 +18,20 @@ module _ (ls : List ℕ) (i k : ℕ) {n : ℕ} (e : n ≡ length (line ls active
       let q : k < length xs = omega arith in
       rw (add-one, take-suc xs k 0 q) (count-snoc i (get_or xs k 0) (take k xs))
 
-  module _ (h : k < n) {m w : ℕ} (f : m ≡ get_or (line ls active_line) k 0) (g : w ≡ m) where
-    pub active-here : w ≡ i → true ≡ is_active ls i
+  module _ (h : k < n) {m : ℕ} (f : m ≡ get_or (line ls active_line) k 0) where
+    pub active-here : m ≡ i → true ≡ is_active ls i
     unfolding is_active
     active-here s =
         let xs : List ℕ = line ls active_line in
-        let b : bit (eqb (get_or xs k 0) i) ≡ 1 = ap bit (eq-eqb (get_or xs k 0) i (sym (g ∙ f) ∙ s)) in
+        let b : bit (eqb (get_or xs k 0) i) ≡ 1 = ap bit (eq-eqb (get_or xs k 0) i (sym f ∙ s)) in
         let c = count-append i (take (k + 1) xs) (drop (k + 1) xs) in
         let d = ap (count i) (take-append-drop (k + 1) xs) in
         sym (lt-ltb 0 (count i xs) (omega (arith, count-more h)))
 
-    pub active-not : w ≢ i → count i (take k (line ls active_line)) ≡ 0 → count i (take (k + 1) (line ls active_line)) ≡ 0
+    pub active-not : m ≢ i → count i (take k (line ls active_line)) ≡ 0 → count i (take (k + 1) (line ls active_line)) ≡ 0
     active-not s z =
         let xs : List ℕ = line ls active_line in
-        let b : bit (eqb (get_or xs k 0) i) ≡ 0 = ap bit (ne_eqb (get_or xs k 0) i (λ (o : get_or xs k 0 ≡ i). s (g ∙ f ∙ o))) in
+        let b : bit (eqb (get_or xs k 0) i) ≡ 0 = ap bit (ne_eqb (get_or xs k 0) i (λ (o : get_or xs k 0 ≡ i). s (f ∙ o))) in
         omega (arith, count-more h)
 
   pub active-none : n ≤ k → count i (take k (line ls active_line)) ≡ 0 → false ≡ is_active ls i
@@ -57,12 +56,3 @@ module _ (cs : List ℕ) (i n : ℕ) {k : Clock} (e : k ≡ clock cs n) where
 
   pub named-not : (eqb k.used 1 && eqb k.swi i) ≡ false → all_below n (not_by cs i) ≡ true → all_below (n + 1) (not_by cs i) ≡ true
   named-not t a = all_yes (not_by cs i) n a not_by-is (ap not t)
-
--- ---- a number that no call on Swis has
-pub no_call_lem : (p : SwiQueues) (cs st : List ℕ) (x n a b c d : ℕ)
-    → n ≢ 0x10 → n ≢ 0x11 → n ≢ 0x12 → n ≢ 0x13 → n ≢ 0x14 → n ≢ 0x15 → n ≢ 0x16 → n ≢ 0x17 → n ≢ 0x18
-    → swi_call p cs st x n a b c d ≡ unknown p
-unfolding swi_call
-no_call_lem p cs st x n a b c d h0 h1 h2 h3 h4 h5 h6 h7 h8 =
-    rw (ne_eqb n 0x10 h0, ne_eqb n 0x11 h1, ne_eqb n 0x12 h2, ne_eqb n 0x13 h3, ne_eqb n 0x14 h4)
-    (rw (ne_eqb n 0x15 h5, ne_eqb n 0x16 h6, ne_eqb n 0x17 h7, ne_eqb n 0x18 h8))

@@ -8,10 +8,13 @@ pub mod table;
 ghost use Rattle.std.specs.Prelude.{◌≡◌};
 ghost use Rattle.rules.specs.Answer.{with_answer, answered, ◌by◌};
 ghost use Rattle.rules.specs.Swis.{swi_call, swi_queues};
+ghost use Rattle.rules.specs.Refusals.{answer_said};
 
-use rules::{Answer, Call, Clocks, Lines, State, Swis};
+use rules::{Answer, Call, Clocks, Lines, Refusal, State, Swis};
 
 // The call of this number, made by x: 0 a task, 1 a Swi, 2 an interrupt.
+// Who calls stays a number: the definitions answer any, and an enum would ask more of a caller.
+#[tactic(auto, unfolding(rules::specs::Swis::swi_call, rules::specs::Answer::first_given))]
 pub fn swi_call(
     swis: &mut Swis,
     lines: &mut Lines,
@@ -19,8 +22,8 @@ pub fn swi_call(
     state: &State,
     x: u32,
     q: Call,
-) -> Answer
-    ensures { with_answer result (swi_queues swis.new lines.new)
+) -> Result<Answer, Refusal>
+    ensures { with_answer (answer_said result) (swi_queues swis.new lines.new)
         ≡ answered (swi_queues swis.old lines.old) (swi_call (swi_queues swis.old lines.old) clocks.now state.now x q.number by q) }
 {
     let number = q.number;
@@ -34,6 +37,6 @@ pub fn swi_call(
         0x16 => posts::clear_bits(swis, lines, q),
         0x17 => calls::end(swis, lines, state, x, q),
         0x18 => calls::taken(swis, lines, x, q),
-        _ => answers::refused(1),
+        _ => Err(Refusal::UnknownCall),
     }
 }

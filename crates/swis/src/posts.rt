@@ -3,11 +3,13 @@ ghost use Rattle.std.specs.Prelude.{◌≡◌};
 ghost use Rattle.rules.specs.Answer.{with_answer, answered, code_of, ◌by◌};
 ghost use Rattle.rules.specs.Swis.{posted, one_down, post_cases, mask_cases, post_effect, change_effect, zero_effect, post_call, add_call, take_call, set_bits_call, swi_queues};
 ghost use Rattle.rules.specs.Swis.{clear_bits_call};
+ghost use Rattle.rules.specs.Refusals.{answer_said, code_said};
 
 use rules::numbers::{DONE, POSTED, POSTED_LINES, PRIORITY, TRIGGER, USED};
-use rules::{Answer, Call, Lines, Swis};
+use rules::{Answer, Call, Lines, Refusal, Swis};
 
 // Swi i joins its priority's queue at the back, unless it is posted already.
+#[tactic(auto, unfolding(rules::specs::Swis::posted))]
 pub fn post_swi(swis: &mut Swis, lines: &mut Lines, i: u32)
     ensures { swi_queues swis.new lines.new ≡ posted i (swi_queues swis.old lines.old) }
 {
@@ -25,36 +27,36 @@ pub fn post_swi(swis: &mut Swis, lines: &mut Lines, i: u32)
 pub fn one_down(v: u32) -> u32
     ensures { result ≡ one_down v }
 {
-    if v == 0 {
-        return 4294967295;
-    }
-    v - 1
+    std::num::wrapping_sub_u32(v, 1)
 }
 
 // ---- the checks
 
 // Of a call that takes a Swi alone.
-pub fn post_code(swis: &Swis, a: u32, b: u32, c: u32, d: u32) -> u32
-    ensures { result ≡ code_of (post_cases swis.now a b c d) }
+#[tactic(auto, unfolding(rules::specs::Answer::first_given, rules::specs::Answer::absent_code, rules::specs::Swis::post_cases))]
+pub fn post_code(swis: &Swis, q: Call) -> Result<(), Refusal>
+    ensures { code_said result ≡ code_of (post_cases swis.now by q) }
 {
-    if rows::swi(swis, a as usize, USED) == 0 {
-        return answers::absent_code(a, rules::numbers::SWI_COUNT);
+    if rows::swi(swis, q.a as usize, USED) == 0 {
+        return Err(answers::absent(q.a, rules::numbers::SWI_COUNT));
     }
-    if answers::unused(0, b, c, d) {
-        return 4;
+    if answers::unused(0, q.b, q.c, q.d) {
+        return Err(Refusal::BadArgument);
     }
-    0
+    Ok(())
 }
 
 // Of a call that takes a Swi and any mask.
-pub fn mask_code(swis: &Swis, a: u32, c: u32, d: u32) -> u32
-    ensures { result ≡ code_of (mask_cases swis.now a c d) }
+#[tactic(auto, unfolding(rules::specs::Swis::post_cases, rules::specs::Swis::mask_cases))]
+pub fn mask_code(swis: &Swis, q: Call) -> Result<(), Refusal>
+    ensures { code_said result ≡ code_of (mask_cases swis.now q.a q.c q.d) }
 {
-    post_code(swis, a, 0, c, d)
+    post_code(swis, Call { b: 0, ..q })
 }
 
 // ---- the effects
 
+#[tactic(auto, unfolding(rules::specs::Swis::post_effect))]
 pub fn post_effect(swis: &mut Swis, lines: &mut Lines, a: u32) -> Answer
     ensures { with_answer result (swi_queues swis.new lines.new) ≡ post_effect (swi_queues swis.old lines.old) a }
 {
@@ -63,6 +65,7 @@ pub fn post_effect(swis: &mut Swis, lines: &mut Lines, a: u32) -> Answer
 }
 
 // The trigger is v now, and the Swi posted.
+#[tactic(auto, unfolding(rules::specs::Swis::change_effect))]
 pub fn change_effect(swis: &mut Swis, lines: &mut Lines, a: u32, v: u32) -> Answer
     ensures { with_answer result (swi_queues swis.new lines.new) ≡ change_effect (swi_queues swis.old lines.old) a v }
 {
@@ -72,6 +75,7 @@ pub fn change_effect(swis: &mut Swis, lines: &mut Lines, a: u32, v: u32) -> Answ
 }
 
 // The trigger is v now, and the Swi posted if that is 0.
+#[tactic(auto, unfolding(rules::specs::Swis::zero_effect, rules::specs::Swis::change_effect))]
 pub fn zero_effect(swis: &mut Swis, lines: &mut Lines, a: u32, v: u32) -> Answer
     ensures { with_answer result (swi_queues swis.new lines.new) ≡ zero_effect (swi_queues swis.old lines.old) a v }
 {
@@ -85,60 +89,45 @@ pub fn zero_effect(swis: &mut Swis, lines: &mut Lines, a: u32, v: u32) -> Answer
 // ---- the calls
 
 // 12: post.
-pub fn post(swis: &mut Swis, lines: &mut Lines, q: Call) -> Answer
-    ensures { with_answer result (swi_queues swis.new lines.new) ≡ answered (swi_queues swis.old lines.old) (post_call (swi_queues swis.old lines.old) by q) }
+pub fn post(swis: &mut Swis, lines: &mut Lines, q: Call) -> Result<Answer, Refusal>
+    ensures { with_answer (answer_said result) (swi_queues swis.new lines.new) ≡ answered (swi_queues swis.old lines.old) (post_call (swi_queues swis.old lines.old) by q) }
 {
-    let code = post_code(swis, q.a, q.b, q.c, q.d);
-    if code != 0 {
-        return answers::refused(code);
-    }
-    post_effect(swis, lines, q.a)
+    post_code(swis, q)?;
+    Ok(post_effect(swis, lines, q.a))
 }
 
 // 13: add one to the trigger and post.
-pub fn add(swis: &mut Swis, lines: &mut Lines, q: Call) -> Answer
-    ensures { with_answer result (swi_queues swis.new lines.new) ≡ answered (swi_queues swis.old lines.old) (add_call (swi_queues swis.old lines.old) by q) }
+pub fn add(swis: &mut Swis, lines: &mut Lines, q: Call) -> Result<Answer, Refusal>
+    ensures { with_answer (answer_said result) (swi_queues swis.new lines.new) ≡ answered (swi_queues swis.old lines.old) (add_call (swi_queues swis.old lines.old) by q) }
 {
-    let code = post_code(swis, q.a, q.b, q.c, q.d);
-    if code != 0 {
-        return answers::refused(code);
-    }
+    post_code(swis, q)?;
     let v = rows::swi(swis, q.a as usize, TRIGGER);
-    change_effect(swis, lines, q.a, std::num::wrapping_add_u32(v, 1))
+    Ok(change_effect(swis, lines, q.a, std::num::wrapping_add_u32(v, 1)))
 }
 
 // 14: take one from the trigger and post if it is 0 now.
-pub fn take(swis: &mut Swis, lines: &mut Lines, q: Call) -> Answer
-    ensures { with_answer result (swi_queues swis.new lines.new) ≡ answered (swi_queues swis.old lines.old) (take_call (swi_queues swis.old lines.old) by q) }
+pub fn take(swis: &mut Swis, lines: &mut Lines, q: Call) -> Result<Answer, Refusal>
+    ensures { with_answer (answer_said result) (swi_queues swis.new lines.new) ≡ answered (swi_queues swis.old lines.old) (take_call (swi_queues swis.old lines.old) by q) }
 {
-    let code = post_code(swis, q.a, q.b, q.c, q.d);
-    if code != 0 {
-        return answers::refused(code);
-    }
+    post_code(swis, q)?;
     let v = rows::swi(swis, q.a as usize, TRIGGER);
-    zero_effect(swis, lines, q.a, one_down(v))
+    Ok(zero_effect(swis, lines, q.a, one_down(v)))
 }
 
 // 15: set the mask's bits in the trigger and post.
-pub fn set_bits(swis: &mut Swis, lines: &mut Lines, q: Call) -> Answer
-    ensures { with_answer result (swi_queues swis.new lines.new) ≡ answered (swi_queues swis.old lines.old) (set_bits_call (swi_queues swis.old lines.old) by q) }
+pub fn set_bits(swis: &mut Swis, lines: &mut Lines, q: Call) -> Result<Answer, Refusal>
+    ensures { with_answer (answer_said result) (swi_queues swis.new lines.new) ≡ answered (swi_queues swis.old lines.old) (set_bits_call (swi_queues swis.old lines.old) by q) }
 {
-    let code = mask_code(swis, q.a, q.c, q.d);
-    if code != 0 {
-        return answers::refused(code);
-    }
+    mask_code(swis, q)?;
     let v = rows::swi(swis, q.a as usize, TRIGGER);
-    change_effect(swis, lines, q.a, v | q.b)
+    Ok(change_effect(swis, lines, q.a, v | q.b))
 }
 
 // 16: clear the mask's bits in the trigger and post if it is 0 now.
-pub fn clear_bits(swis: &mut Swis, lines: &mut Lines, q: Call) -> Answer
-    ensures { with_answer result (swi_queues swis.new lines.new) ≡ answered (swi_queues swis.old lines.old) (clear_bits_call (swi_queues swis.old lines.old) by q) }
+pub fn clear_bits(swis: &mut Swis, lines: &mut Lines, q: Call) -> Result<Answer, Refusal>
+    ensures { with_answer (answer_said result) (swi_queues swis.new lines.new) ≡ answered (swi_queues swis.old lines.old) (clear_bits_call (swi_queues swis.old lines.old) by q) }
 {
-    let code = mask_code(swis, q.a, q.c, q.d);
-    if code != 0 {
-        return answers::refused(code);
-    }
+    mask_code(swis, q)?;
     let v = rows::swi(swis, q.a as usize, TRIGGER);
-    zero_effect(swis, lines, q.a, v & !q.b)
+    Ok(zero_effect(swis, lines, q.a, v & !q.b))
 }

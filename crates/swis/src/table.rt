@@ -3,12 +3,10 @@ ghost use Rattle.std.specs.Prelude.{◌≡◌, ◌≤◌, not, ◌||◌, [], ◌
 ghost use Rattle.rules.specs.Tables.{swi, swi_row, POSTED};
 ghost use Rattle.rules.specs.Swis.{is_active, is_named, free_swi};
 
-use rules::numbers::{
-    ACTIVE_LINE, CLOCK_ROWS, INITIAL, POSTED, PRIORITY, SWI_ROWS, SWI_WIDTH, TAKEN, TRIGGER, USED,
-};
+use rules::numbers::{ACTIVE_LINE, CLOCK_ROWS, POSTED, SWI_ROWS_U8, SWI_WIDTH_U8, USED};
 use rules::{Clocks, Lines, Swis};
 
-// Swi i's six words; where there is no such Swi nothing changes.
+// Swi i's six words; where there is no such Swi nothing changes. Stays a list of words: the clause names each, and a Swi has no type of its own.
 pub fn put_swi(
     swis: &mut Swis,
     i: usize,
@@ -21,43 +19,28 @@ pub fn put_swi(
 )
     ensures { swis.new ≡ swi_row swis.old i (used ∷ priority ∷ initial ∷ trigger ∷ posted ∷ taken ∷ []) }
 {
-    if i < SWI_ROWS {
-        let at = i * SWI_WIDTH;
-        swis[at] = used;
-        swis[at + PRIORITY] = priority;
-        swis[at + INITIAL] = initial;
-        swis[at + TRIGGER] = trigger;
-        swis[at + POSTED] = posted;
-        swis[at + TAKEN] = taken;
-    }
+    let row = [used, priority, initial, trigger, posted, taken];
+    rows::put_row(swis, SWI_WIDTH_U8, SWI_ROWS_U8, i, &row);
 }
 
-// The lowest free number; 16 where none is free.
+// The lowest free number; 16 where none is free. Stays a number, and no Option: `free_swi` of rules/specs is that number.
+#[tactic(auto, unfolding(rules::specs::Swis::free_swi))]
 pub fn free_swi(swis: &Swis) -> usize
     ensures { (result ≡ free_swi swis.now) × (result ≤ 16) }
 {
-    let mut i = 0;
-    while i < SWI_ROWS {
-        if rows::swi(swis, i, USED) == 0 {
-            return i;
-        }
-        i += 1;
-    }
-    SWI_ROWS
+    rows::first_zero(swis, SWI_WIDTH_U8, SWI_ROWS_U8, USED)
 }
 
 // Swi i is active.
+#[tactic(auto, unfolding(basics::specs::Lists::count))]
 pub fn is_active(lines: &Lines, i: u32) -> bool
     ensures { result ≡ is_active lines.now i }
 {
-    let swi = i as usize;
     let n = lines::len(lines, ACTIVE_LINE);
-    let mut k = 0;
-    while k < n {
-        if basics::wide(lines::member(lines, ACTIVE_LINE, k)) == swi {
+    for k in 0..n {
+        if lines::member(lines, ACTIVE_LINE, k) as u32 == i {
             return true;
         }
-        k += 1;
     }
     false
 }
@@ -66,13 +49,11 @@ pub fn is_active(lines: &Lines, i: u32) -> bool
 pub fn is_named(clocks: &Clocks, i: u32) -> bool
     ensures { result ≡ is_named clocks.now i }
 {
-    let mut n = 0;
-    while n < CLOCK_ROWS {
+    for n in 0..CLOCK_ROWS {
         let k = rows::clock(clocks, n);
         if (k.used == 1) & (k.swi == i) {
             return true;
         }
-        n += 1;
     }
     false
 }

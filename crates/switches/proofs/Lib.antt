@@ -1,4 +1,3 @@
-pub mod Numbers
 pub mod Steps
 pub mod Still
 pub mod Ticks

@@ -3,9 +3,10 @@ ghost use Rattle.std.specs.Prelude.{◌≡◌};
 ghost use Rattle.rules.specs.Answer.{with_answer, answered, code_of, ◌by◌};
 ghost use Rattle.rules.specs.Switches.{setting, settings, turned, may_not_name, bad_which, bad_key, off_cases, restore_cases, in_cases, interrupt_cases, off_call};
 ghost use Rattle.rules.specs.Switches.{restore_call, in_call, out_call};
+ghost use Rattle.rules.specs.Refusals.{answer_said, code_said};
 
 use rules::numbers::{DEPTH, DONE, I, MOST_DEPTH, S, SWIS, TASKS};
-use rules::{Answer, Call, State};
+use rules::{Answer, Call, Refusal, State};
 
 // ---- the bits by which 77 and 78 name the switches
 
@@ -40,6 +41,7 @@ fn setting(switch: u32, bit: u32) -> u32
 pub fn turn(state: &mut State, bits: u32, v: u32)
     ensures { state.new ≡ turned bits v state.old }
 {
+    // Stays a match: by a test of each bit every call is dearer (docs/PERFORMANCE.md).
     match bits & BOTH_BITS {
         SWIS_BIT => {
             state[SWIS] = v;
@@ -78,110 +80,106 @@ pub fn bad_key(which: u32, key: u32) -> bool
 
 // ---- 77: switches off
 
-pub fn off_code(x: u32, which: u32, b: u32, c: u32, d: u32) -> u32
-    ensures { result ≡ code_of (off_cases x which b c d) }
+#[tactic(auto, unfolding(rules::specs::Answer::first_given, rules::specs::Switches::off_cases))]
+pub fn off_code(x: u32, q: Call) -> Result<(), Refusal>
+    ensures { code_said result ≡ code_of (off_cases x by q) }
 {
-    if may_not_name(x, which) {
-        return 2;
+    if may_not_name(x, q.a) {
+        return Err(Refusal::WrongContext);
     }
-    if bad_which(which) | answers::unused(0, b, c, d) {
-        return 4;
+    if bad_which(q.a) | answers::unused(0, q.b, q.c, q.d) {
+        return Err(Refusal::BadArgument);
     }
-    0
+    Ok(())
 }
 
 // 77 off: the named ones' old settings.
-pub fn off(state: &mut State, x: u32, q: Call) -> Answer
-    ensures { with_answer result state.new ≡ answered state.old (off_call state.old x by q) }
+#[tactic(auto, unfolding(rules::specs::Switches::off_effect))]
+pub fn off(state: &mut State, x: u32, q: Call) -> Result<Answer, Refusal>
+    ensures { with_answer (answer_said result) state.new ≡ answered state.old (off_call state.old x by q) }
 {
+    off_code(x, q)?;
     let which = q.a;
-    let code = off_code(x, which, q.b, q.c, q.d);
-    if code != 0 {
-        return answers::refused(code);
-    }
     let old = settings(state) & which;
     turn(state, which, OFF);
-    answers::accepted(DONE, old)
+    Ok(answers::accepted(DONE, old))
 }
 
 // ---- 78: switches on
 
-pub fn restore_code(x: u32, which: u32, key: u32, c: u32, d: u32) -> u32
-    ensures { result ≡ code_of (restore_cases x which key c d) }
+#[tactic(auto, unfolding(rules::specs::Answer::first_given, rules::specs::Switches::restore_cases))]
+pub fn restore_code(x: u32, q: Call) -> Result<(), Refusal>
+    ensures { code_said result ≡ code_of (restore_cases x by q) }
 {
+    let which = q.a;
     if may_not_name(x, which) {
-        return 2;
+        return Err(Refusal::WrongContext);
     }
-    if bad_which(which) | bad_key(which, key) | answers::unused(0, 0, c, d) {
-        return 4;
+    if bad_which(which) | bad_key(which, q.b) | answers::unused(0, 0, q.c, q.d) {
+        return Err(Refusal::BadArgument);
     }
-    0
+    Ok(())
 }
 
 // 78 restore: those of the named ones whose bit is in the key.
-pub fn restore(state: &mut State, x: u32, q: Call) -> Answer
-    ensures { with_answer result state.new ≡ answered state.old (restore_call state.old x by q) }
+#[tactic(auto, unfolding(rules::specs::Switches::restore_effect))]
+pub fn restore(state: &mut State, x: u32, q: Call) -> Result<Answer, Refusal>
+    ensures { with_answer (answer_said result) state.new ≡ answered state.old (restore_call state.old x by q) }
 {
+    restore_code(x, q)?;
     let which = q.a;
     let key = q.b;
-    let code = restore_code(x, which, key, q.c, q.d);
-    if code != 0 {
-        return answers::refused(code);
-    }
     turn(state, which & key, ON);
-    answers::accepted(DONE, 0)
+    Ok(answers::accepted(DONE, 0))
 }
 
 // ---- 74 and 75: the interrupt
 
-pub fn in_code(state: &State, a: u32, b: u32, c: u32, d: u32) -> u32
-    ensures { result ≡ code_of (in_cases state.now a b c d) }
+#[tactic(auto, unfolding(rules::specs::Answer::first_given, rules::specs::Switches::in_cases))]
+pub fn in_code(state: &State, q: Call) -> Result<(), Refusal>
+    ensures { code_said result ≡ code_of (in_cases state.now by q) }
 {
-    if answers::unused(a, b, c, d) {
-        return 4;
+    if answers::unused(q.a, q.b, q.c, q.d) {
+        return Err(Refusal::BadArgument);
     }
     if MOST_DEPTH <= state[DEPTH] {
-        return 7;
+        return Err(Refusal::AtEnd);
     }
-    0
+    Ok(())
 }
 
 // 74 interrupt in.
-pub fn interrupt_in(state: &mut State, q: Call) -> Answer
-    ensures { with_answer result state.new ≡ answered state.old (in_call state.old by q) }
+#[tactic(auto, unfolding(rules::specs::Switches::in_effect))]
+pub fn interrupt_in(state: &mut State, q: Call) -> Result<Answer, Refusal>
+    ensures { with_answer (answer_said result) state.new ≡ answered state.old (in_call state.old by q) }
 {
-    let code = in_code(state, q.a, q.b, q.c, q.d);
-    if code != 0 {
-        return answers::refused(code);
-    }
+    in_code(state, q)?;
     let depth = state[DEPTH];
     if depth < MOST_DEPTH {
         state[DEPTH] = depth + 1;
-        return answers::accepted(DONE, 0);
     }
-    answers::accepted(DONE, 0)
+    Ok(answers::accepted(DONE, 0))
 }
 
-pub fn interrupt_code(x: u32, a: u32, b: u32, c: u32, d: u32) -> u32
-    ensures { result ≡ code_of (interrupt_cases x a b c d) }
+#[tactic(auto, unfolding(rules::specs::Answer::first_given, rules::specs::Switches::interrupt_cases))]
+pub fn interrupt_code(x: u32, q: Call) -> Result<(), Refusal>
+    ensures { code_said result ≡ code_of (interrupt_cases x by q) }
 {
     if x != I {
-        return 2;
+        return Err(Refusal::WrongContext);
     }
-    if answers::unused(a, b, c, d) {
-        return 4;
+    if answers::unused(q.a, q.b, q.c, q.d) {
+        return Err(Refusal::BadArgument);
     }
-    0
+    Ok(())
 }
 
 // 75 interrupt out.
-pub fn interrupt_out(state: &mut State, x: u32, q: Call) -> Answer
-    ensures { with_answer result state.new ≡ answered state.old (out_call state.old x by q) }
+#[tactic(auto, unfolding(rules::specs::Switches::out_effect))]
+pub fn interrupt_out(state: &mut State, x: u32, q: Call) -> Result<Answer, Refusal>
+    ensures { with_answer (answer_said result) state.new ≡ answered state.old (out_call state.old x by q) }
 {
-    let code = interrupt_code(x, q.a, q.b, q.c, q.d);
-    if code != 0 {
-        return answers::refused(code);
-    }
+    interrupt_code(x, q)?;
     state[DEPTH] = rows::readings::one_less(state[DEPTH]);
-    answers::accepted(DONE, 0)
+    Ok(answers::accepted(DONE, 0))
 }

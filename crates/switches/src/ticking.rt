@@ -5,9 +5,10 @@ ghost use Rattle.switches.specs.Still.{clocks_still, eight_still, eight_tick};
 ghost use Rattle.rules.specs.Answer.{with_answer, answered, ◌by◌};
 ghost use Rattle.rules.specs.Swis.{swi_queues};
 ghost use Rattle.rules.specs.Lines.{task_queues};
+ghost use Rattle.rules.specs.Refusals.{answer_said};
 
 use rules::numbers::{CLOCK_LEFT, CLOCK_ROWS, DONE, NOT_MET, SLEEPING, TASK_LEFT, TICK};
-use rules::{Answer, Call, Clocks, Lines, State, Swis, Task, Tasks};
+use rules::{Answer, Call, Clocks, Lines, Refusal, State, Swis, Task, Tasks};
 
 // The Swi of a clock that has come to 0 is posted.
 pub fn post_if(fired: bool, swis: &mut Swis, lines: &mut Lines, i: u32)
@@ -19,6 +20,7 @@ pub fn post_if(fired: bool, swis: &mut Swis, lines: &mut Lines, i: u32)
 }
 
 // Clock n, one tick older.
+#[tactic(auto, unfolding(rules::specs::Tick::clock_tick))]
 pub fn clock_tick(clocks: &mut Clocks, swis: &mut Swis, lines: &mut Lines, n: usize)
     ensures { clock_tables clocks.new swis.new lines.new ≡ clock_tick (clock_tables clocks.old swis.old lines.old) n }
 {
@@ -35,11 +37,9 @@ pub fn clock_tick(clocks: &mut Clocks, swis: &mut Swis, lines: &mut Lines, n: us
 pub fn clocks_still(clocks: &Clocks) -> bool
     ensures { result ≡ clocks_still clocks.now }
 {
-    let mut left: u32 = 0;
-    let mut n: usize = 0;
-    while n < CLOCK_ROWS {
-        left = left | rows::clock_word(clocks, n, CLOCK_LEFT);
-        n += 1;
+    let mut left = 0;
+    for n in 0..CLOCK_ROWS {
+        left |= rows::clock_word(clocks, n, CLOCK_LEFT);
     }
     left == 0
 }
@@ -51,10 +51,8 @@ pub fn clocks_tick(clocks: &mut Clocks, swis: &mut Swis, lines: &mut Lines)
     if clocks_still(clocks) {
         return;
     }
-    let mut n: usize = 0;
-    while n < CLOCK_ROWS {
+    for n in 0..CLOCK_ROWS {
         clock_tick(clocks, swis, lines, n);
-        n += 1;
     }
 }
 
@@ -63,14 +61,8 @@ pub fn one_less(k: Task) -> Task
     ensures { result ≡ one_less k }
 {
     Task {
-        mode: k.mode,
-        priority: k.priority,
-        object: k.object,
         left: rows::readings::one_less(k.left),
-        held: k.held,
-        mask: k.mask,
-        outcome: k.outcome,
-        value: k.value,
+        ..k
     }
 }
 
@@ -85,6 +77,7 @@ pub fn ended_with(mode: u32) -> u32
 }
 
 // Task i, one tick older.
+#[tactic(auto, unfolding(rules::specs::Tick::task_tick, rules::specs::Tables::task))]
 pub fn task_tick(tasks: &mut Tasks, lines: &mut Lines, i: u32)
     ensures { task_queues tasks.new lines.new ≡ task_tick (task_queues tasks.old lines.old) i }
 {
@@ -105,11 +98,9 @@ pub fn eight_still(tasks: &Tasks, g: u8) -> bool
     ensures { result ≡ eight_still tasks.now g }
 {
     let at = (g as usize) * 8;
-    let mut left: u32 = 0;
-    let mut k: usize = 0;
-    while k < 8 {
-        left = left | rows::task_word(tasks, at + k, TASK_LEFT);
-        k += 1;
+    let mut left = 0;
+    for k in 0..8 {
+        left |= rows::task_word(tasks, at + k, TASK_LEFT);
     }
     left == 0
 }
@@ -122,10 +113,8 @@ pub fn eight_tick(tasks: &mut Tasks, lines: &mut Lines, g: u8)
         return;
     }
     let at = (g as u32) * 8;
-    let mut k: u32 = 0;
-    while k < 8 {
+    for k in 0..8 {
         task_tick(tasks, lines, at + k);
-        k += 1;
     }
 }
 
@@ -133,14 +122,13 @@ pub fn eight_tick(tasks: &mut Tasks, lines: &mut Lines, g: u8)
 pub fn tasks_tick(tasks: &mut Tasks, lines: &mut Lines)
     ensures { task_queues tasks.new lines.new ≡ tasks_ticked tasks.old lines.old }
 {
-    let mut g: u8 = 0;
-    while g < 4 {
+    for g in 0..4 {
         eight_tick(tasks, lines, g);
-        g += 1;
     }
 }
 
-// The tick.
+// The tick. The tables stay a list: it says which of them a tick may change.
+#[tactic(auto, unfolding(rules::specs::Tick::ticked))]
 pub fn tick(
     tasks: &mut Tasks,
     lines: &mut Lines,
@@ -155,7 +143,7 @@ pub fn tick(
     tasks_tick(tasks, lines);
 }
 
-// 76 tick.
+// 76 tick, on the tables that a tick may change.
 pub fn tick_call(
     tasks: &mut Tasks,
     lines: &mut Lines,
@@ -164,14 +152,11 @@ pub fn tick_call(
     state: &mut State,
     x: u32,
     q: Call,
-) -> Answer
-    ensures { with_answer result (tick_tables tasks.new lines.new swis.new clocks.new state.new)
+) -> Result<Answer, Refusal>
+    ensures { with_answer (answer_said result) (tick_tables tasks.new lines.new swis.new clocks.new state.new)
         ≡ answered (tick_tables tasks.old lines.old swis.old clocks.old state.old) (tick_call (tick_tables tasks.old lines.old swis.old clocks.old state.old) x by q) }
 {
-    let code = super::state::interrupt_code(x, q.a, q.b, q.c, q.d);
-    if code != 0 {
-        return answers::refused(code);
-    }
+    super::state::interrupt_code(x, q)?;
     tick(tasks, lines, swis, clocks, state);
-    answers::accepted(DONE, 0)
+    Ok(answers::accepted(DONE, 0))
 }

@@ -1,37 +1,40 @@
-// The calls that name a task: 00 create, 01 delete, 02 set priority and 06 last result. Of each: its code, 0 where it is accepted; its
-// effect where it is; and the call. x is who calls: 0 T, 1 S, 2 I; a, b, c, d are the arguments.
+// The calls that name a task: 00 create, 01 delete, 02 set priority and 06 last result. Of each: why it is refused, if it
+// is; its effect where it is not; and the call. x is who calls: 0 T, 1 S, 2 I; q has the arguments.
 ghost use Rattle.std.specs.Prelude.{◌≡◌};
 ghost use Rattle.rules.specs.Answer.{code_of, with_answer, answered, ◌by◌};
 ghost use Rattle.rules.specs.Lines.{task_queues};
 ghost use Rattle.rules.specs.Tasks.{create_cases, create_effect, delete_cases, delete_effect, set_priority_cases, reprioritized, set_priority_effect, last_result_cases};
 ghost use Rattle.rules.specs.Tasks.{create_call, delete_call, set_priority_call, last_result_call};
 ghost use Rattle.rules.specs.Tables.{LineTable};
+ghost use Rattle.rules.specs.Refusals.{answer_said, code_said};
 
 use super::table::{blocked, current, free_task, is_priority, no_task, placed_at, with_priority};
 use rules::numbers::{
     DONE, I, INACTIVE, MINUS_ONE, MODE, NOT_IN_USE, T, TASK_PRIORITY, TASK_ROWS, TERMINATED,
 };
-use rules::{Answer, Call, Lines, State, Tasks};
+use rules::{Answer, Call, Lines, Refusal, State, Tasks};
 
 // ---- 00 create (priority; T)
 
 // 4 for a bad priority, 6 where no number is free.
-pub fn create_code(tasks: &Tasks, state: &State, x: u32, a: u32, b: u32, c: u32, d: u32) -> u32
-    ensures { result ≡ code_of (create_cases tasks.now state.now x a b c d) }
+#[tactic(auto, unfolding(rules::specs::Answer::first_given, rules::specs::Tasks::create_cases))]
+pub fn create_code(tasks: &Tasks, state: &State, x: u32, q: Call) -> Result<(), Refusal>
+    ensures { code_said result ≡ code_of (create_cases tasks.now state.now x by q) }
 {
     if x != T {
-        return 2;
+        return Err(Refusal::WrongContext);
     }
-    if !is_priority(rows::readings::levels(state), a) | answers::unused(0, b, c, d) {
-        return 4;
+    if !is_priority(rows::readings::levels(state), q.a) | answers::unused(0, q.b, q.c, q.d) {
+        return Err(Refusal::BadArgument);
     }
     if free_task(tasks) == TASK_ROWS {
-        return 6;
+        return Err(Refusal::NoneFree);
     }
-    0
+    Ok(())
 }
 
 // A task at the lowest free number, ready at once unless at -1: value its number.
+#[tactic(auto, unfolding(rules::specs::Tasks::create_effect))]
 pub fn create_effect(tasks: &mut Tasks, lines: &mut Lines, a: u32) -> Answer
     ensures { with_answer result (task_queues tasks.new lines.new) ≡ create_effect (task_queues tasks.old lines.old) a }
 {
@@ -41,40 +44,45 @@ pub fn create_effect(tasks: &mut Tasks, lines: &mut Lines, a: u32) -> Answer
 }
 
 // 00 create.
-pub fn create(tasks: &mut Tasks, lines: &mut Lines, state: &State, x: u32, q: Call) -> Answer
-    ensures { with_answer result (task_queues tasks.new lines.new)
+pub fn create(
+    tasks: &mut Tasks,
+    lines: &mut Lines,
+    state: &State,
+    x: u32,
+    q: Call,
+) -> Result<Answer, Refusal>
+    ensures { with_answer (answer_said result) (task_queues tasks.new lines.new)
         ≡ answered (task_queues tasks.old lines.old) (create_call (task_queues tasks.old lines.old) state.now x by q) }
 {
-    let code = create_code(tasks, state, x, q.a, q.b, q.c, q.d);
-    if code != 0 {
-        return answers::refused(code);
-    }
-    create_effect(tasks, lines, q.a)
+    create_code(tasks, state, x, q)?;
+    Ok(create_effect(tasks, lines, q.a))
 }
 
 // ---- 01 delete (task; T)
 
 // 5 but for a terminated or inactive task.
-pub fn delete_code(tasks: &Tasks, x: u32, a: u32, b: u32, c: u32, d: u32) -> u32
-    ensures { result ≡ code_of (delete_cases tasks.now x a b c d) }
+#[tactic(auto, unfolding(rules::specs::Answer::first_given, rules::specs::Tasks::delete_cases, rules::specs::Answer::absent_code, rules::specs::Tables::task))]
+pub fn delete_code(tasks: &Tasks, x: u32, q: Call) -> Result<(), Refusal>
+    ensures { code_said result ≡ code_of (delete_cases tasks.now x by q) }
 {
     if x != T {
-        return 2;
+        return Err(Refusal::WrongContext);
     }
-    let mode = rows::task_word(tasks, a as usize, MODE);
+    let mode = rows::task_word(tasks, q.a as usize, MODE);
     if mode == NOT_IN_USE {
-        return answers::absent_code(a, rules::numbers::TASK_COUNT);
+        return Err(answers::absent(q.a, rules::numbers::TASK_COUNT));
     }
-    if answers::unused(0, b, c, d) {
-        return 4;
+    if answers::unused(0, q.b, q.c, q.d) {
+        return Err(Refusal::BadArgument);
     }
     if !((mode == TERMINATED) | (mode == INACTIVE)) {
-        return 5;
+        return Err(Refusal::Forbidden);
     }
-    0
+    Ok(())
 }
 
 // The number is free again. No line is touched: such a task stands in none.
+#[tactic(auto, unfolding(rules::specs::Tasks::delete_effect))]
 pub fn delete_effect(tasks: &mut Tasks, a: u32) -> Answer
     ensures { (ls : LineTable) → with_answer result (task_queues tasks.new ls) ≡ delete_effect (task_queues tasks.old ls) a }
 {
@@ -83,44 +91,43 @@ pub fn delete_effect(tasks: &mut Tasks, a: u32) -> Answer
 }
 
 // 01 delete.
-pub fn delete(tasks: &mut Tasks, x: u32, q: Call) -> Answer
-    ensures { (ls : LineTable) → with_answer result (task_queues tasks.new ls)
+pub fn delete(tasks: &mut Tasks, x: u32, q: Call) -> Result<Answer, Refusal>
+    ensures { (ls : LineTable) → with_answer (answer_said result) (task_queues tasks.new ls)
         ≡ answered (task_queues tasks.old ls) (delete_call (task_queues tasks.old ls) x by q) }
 {
-    let code = delete_code(tasks, x, q.a, q.b, q.c, q.d);
-    if code != 0 {
-        return answers::refused(code);
-    }
-    delete_effect(tasks, q.a)
+    delete_code(tasks, x, q)?;
+    Ok(delete_effect(tasks, q.a))
 }
 
 // ---- 02 set priority (task, priority; T S)
 
 // 5 for task 0, a terminated task, or -1 for the current or a blocked task.
-pub fn set_priority_code(tasks: &Tasks, state: &State, x: u32, q: Call) -> u32
-    ensures { result ≡ code_of (set_priority_cases tasks.now state.now x by q) }
+#[tactic(auto, unfolding(rules::specs::Answer::first_given, rules::specs::Tasks::set_priority_cases, rules::specs::Answer::absent_code, rules::specs::Tables::task))]
+pub fn set_priority_code(tasks: &Tasks, state: &State, x: u32, q: Call) -> Result<(), Refusal>
+    ensures { code_said result ≡ code_of (set_priority_cases tasks.now state.now x by q) }
 {
     if x == I {
-        return 2;
+        return Err(Refusal::WrongContext);
     }
     let mode = rows::task_word(tasks, q.a as usize, MODE);
     if mode == NOT_IN_USE {
-        return answers::absent_code(q.a, rules::numbers::TASK_COUNT);
+        return Err(answers::absent(q.a, rules::numbers::TASK_COUNT));
     }
     if !is_priority(rows::readings::levels(state), q.b) | answers::unused(0, 0, q.c, q.d) {
-        return 4;
+        return Err(Refusal::BadArgument);
     }
     if (q.a == 0) | (mode == TERMINATED) {
-        return 5;
+        return Err(Refusal::Forbidden);
     }
     if (q.b == MINUS_ONE) & ((q.a == current(state)) | blocked(mode)) {
-        return 5;
+        return Err(Refusal::Forbidden);
     }
-    0
+    Ok(())
 }
 
 // The same priority changes nothing; a blocked task keeps its place in line; a ready or inactive
 // one joins the new queue at the back, or is inactive at -1.
+#[tactic(auto, unfolding(rules::specs::Tasks::reprioritized))]
 pub fn reprioritize(tasks: &mut Tasks, lines: &mut Lines, a: u32, p: u32)
     ensures { task_queues tasks.new lines.new ≡ reprioritized (task_queues tasks.old lines.old) a p }
 {
@@ -135,6 +142,7 @@ pub fn reprioritize(tasks: &mut Tasks, lines: &mut Lines, a: u32, p: u32)
 }
 
 // Value the old priority.
+#[tactic(auto, unfolding(rules::specs::Tasks::set_priority_effect, rules::specs::Tables::task))]
 pub fn set_priority_effect(tasks: &mut Tasks, lines: &mut Lines, a: u32, b: u32) -> Answer
     ensures { with_answer result (task_queues tasks.new lines.new) ≡ set_priority_effect (task_queues tasks.old lines.old) a b }
 {
@@ -144,41 +152,43 @@ pub fn set_priority_effect(tasks: &mut Tasks, lines: &mut Lines, a: u32, b: u32)
 }
 
 // 02 set priority.
-pub fn set_priority(tasks: &mut Tasks, lines: &mut Lines, state: &State, x: u32, q: Call) -> Answer
-    ensures { with_answer result (task_queues tasks.new lines.new)
+pub fn set_priority(
+    tasks: &mut Tasks,
+    lines: &mut Lines,
+    state: &State,
+    x: u32,
+    q: Call,
+) -> Result<Answer, Refusal>
+    ensures { with_answer (answer_said result) (task_queues tasks.new lines.new)
         ≡ answered (task_queues tasks.old lines.old) (set_priority_call (task_queues tasks.old lines.old) state.now x by q) }
 {
-    let code = set_priority_code(tasks, state, x, q);
-    if code != 0 {
-        return answers::refused(code);
-    }
-    set_priority_effect(tasks, lines, q.a, q.b)
+    set_priority_code(tasks, state, x, q)?;
+    Ok(set_priority_effect(tasks, lines, q.a, q.b))
 }
 
 // ---- 06 last result (task; T S I)
 
 // 3 for a number outside the table, 11 for a task not in use.
-pub fn last_result_code(tasks: &Tasks, a: u32, b: u32, c: u32, d: u32) -> u32
-    ensures { result ≡ code_of (last_result_cases tasks.now a b c d) }
+#[tactic(auto, unfolding(rules::specs::Answer::first_given, rules::specs::Tasks::last_result_cases, rules::specs::Answer::absent_code, rules::specs::Tables::task))]
+pub fn last_result_code(tasks: &Tasks, q: Call) -> Result<(), Refusal>
+    ensures { code_said result ≡ code_of (last_result_cases tasks.now by q) }
 {
-    if rows::task_word(tasks, a as usize, MODE) == NOT_IN_USE {
-        return answers::absent_code(a, rules::numbers::TASK_COUNT);
+    if rows::task_word(tasks, q.a as usize, MODE) == NOT_IN_USE {
+        return Err(answers::absent(q.a, rules::numbers::TASK_COUNT));
     }
-    if answers::unused(0, b, c, d) {
-        return 4;
+    if answers::unused(0, q.b, q.c, q.d) {
+        return Err(Refusal::BadArgument);
     }
-    0
+    Ok(())
 }
 
 // 06 last result: outcome and value of its last ended wait or sleep. Nothing is changed.
-pub fn last_result(tasks: &Tasks, q: Call) -> Answer
-    ensures { (ls : LineTable) → with_answer result (task_queues tasks.now ls)
+#[tactic(auto, unfolding(rules::specs::Tasks::last_result_effect))]
+pub fn last_result(tasks: &Tasks, q: Call) -> Result<Answer, Refusal>
+    ensures { (ls : LineTable) → with_answer (answer_said result) (task_queues tasks.now ls)
         ≡ answered (task_queues tasks.now ls) (last_result_call (task_queues tasks.now ls) by q) }
 {
-    let code = last_result_code(tasks, q.a, q.b, q.c, q.d);
-    if code != 0 {
-        return answers::refused(code);
-    }
+    last_result_code(tasks, q)?;
     let k = rows::task(tasks, q.a as usize);
-    answers::accepted(k.outcome, k.value)
+    Ok(answers::accepted(k.outcome, k.value))
 }

@@ -9,12 +9,21 @@ ghost use Rattle.std.specs.Prelude.{◌≡◌};
 ghost use Rattle.rules.specs.Answer.{with_answer, answered, ◌by◌};
 ghost use Rattle.rules.specs.Tasks.{task_call};
 ghost use Rattle.rules.specs.Lines.{task_queues};
+ghost use Rattle.rules.specs.Refusals.{answer_said};
 
-use rules::{Answer, Call, Lines, State, Tasks};
+use rules::{Answer, Call, Lines, Refusal, State, Tasks};
 
 // 00 to 06; 1 for another number.
-pub fn task_call(tasks: &mut Tasks, lines: &mut Lines, state: &State, x: u32, q: Call) -> Answer
-    ensures { with_answer result (task_queues tasks.new lines.new)
+// Who calls stays a number: the definitions answer any, and an enum would ask more of a caller.
+#[tactic(auto, unfolding(rules::specs::Tasks::task_call, rules::specs::Answer::first_given))]
+pub fn task_call(
+    tasks: &mut Tasks,
+    lines: &mut Lines,
+    state: &State,
+    x: u32,
+    q: Call,
+) -> Result<Answer, Refusal>
+    ensures { with_answer (answer_said result) (task_queues tasks.new lines.new)
         ≡ answered (task_queues tasks.old lines.old) (task_call (task_queues tasks.old lines.old) state.now x q.number by q) }
 {
     let number = q.number;
@@ -26,6 +35,6 @@ pub fn task_call(tasks: &mut Tasks, lines: &mut Lines, state: &State, x: u32, q:
         0x04 => running::end(tasks, lines, state, x, q),
         0x05 => running::sleep(tasks, lines, state, x, q),
         0x06 => calls::last_result(tasks, q),
-        _ => answers::refused(1),
+        _ => Err(Refusal::UnknownCall),
     }
 }

@@ -4,31 +4,27 @@ ghost use Rattle.rules.specs.Tables.{minus_one, ready, inactive, no_task, curren
 ghost use Rattle.rules.specs.Tasks.{is_priority, free_task, blocked, placed_at, with_priority, ended};
 
 use rules::numbers::{
-    INACTIVE, MINUS_ONE, MODE, NOT_IN_USE, READY, SLEEPING, TASK_ROWS, TERMINATED, WRITING,
+    INACTIVE, MINUS_ONE, MODE, NOT_IN_USE, READY, SLEEPING, TASK_ROWS_U8, TASK_WIDTH_U8,
+    TERMINATED, WRITING,
 };
 use rules::{State, Task, Tasks};
 
 // ---- what several calls look at
 
 // A priority that a task may have with n levels: -1, or 1 to n - 1.
+#[tactic(auto, unfolding(rules::specs::Tasks::is_priority))]
 pub fn is_priority(n: u32, p: u32) -> bool
     ensures { result ≡ is_priority n p }
 {
     (p == MINUS_ONE) | ((0 < p) & (p < n))
 }
 
-// The lowest free number; 32 where none is free.
+// The lowest free number; 32 where none is free. Stays a number, and no Option: `free_task` of rules/specs is that number.
+#[tactic(auto, unfolding(rules::specs::Tasks::free_task, rules::specs::Tables::task))]
 pub fn free_task(tasks: &Tasks) -> usize
     ensures { (result ≡ free_task tasks.now) × (result ≤ 32) }
 {
-    let mut i = 0;
-    while i < TASK_ROWS {
-        if rows::task_word(tasks, i, MODE) == NOT_IN_USE {
-            return i;
-        }
-        i += 1;
-    }
-    TASK_ROWS
+    rows::first_zero(tasks, TASK_WIDTH_U8, TASK_ROWS_U8, MODE)
 }
 
 // A task of this mode is blocked: it sleeps or waits.
@@ -42,7 +38,7 @@ pub fn blocked(mode: u32) -> bool
 pub fn current(state: &State) -> u32
     ensures { result ≡ current state.now }
 {
-    basics::wide(rows::readings::current(state)) as u32
+    u32::from(rows::readings::current(state))
 }
 
 // ---- rows
@@ -80,12 +76,7 @@ pub fn placed_at(k: Task, p: u32) -> Task
     Task {
         mode: mode_at(p),
         priority: p,
-        object: k.object,
-        left: k.left,
-        held: k.held,
-        mask: k.mask,
-        outcome: k.outcome,
-        value: k.value,
+        ..k
     }
 }
 
@@ -93,16 +84,7 @@ pub fn placed_at(k: Task, p: u32) -> Task
 pub fn with_priority(k: Task, p: u32) -> Task
     ensures { result ≡ with_priority k p }
 {
-    Task {
-        mode: k.mode,
-        priority: p,
-        object: k.object,
-        left: k.left,
-        held: k.held,
-        mask: k.mask,
-        outcome: k.outcome,
-        value: k.value,
-    }
+    Task { priority: p, ..k }
 }
 
 // The row of a terminated task: priority and last result kept.
@@ -111,12 +93,10 @@ pub fn ended(k: Task) -> Task
 {
     Task {
         mode: TERMINATED,
-        priority: k.priority,
         object: 0,
         left: 0,
         held: 0,
         mask: 0,
-        outcome: k.outcome,
-        value: k.value,
+        ..k
     }
 }

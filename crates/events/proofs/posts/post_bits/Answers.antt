@@ -1,13 +1,9 @@
--- `post_bits` meets its contract: bits that match the waiter's masks are taken and the waiter woken; else all bits stay.
-use Rattle.events.proofs.PendPost.{posted-only, posted-serves}
+-- `post_bits` meets its contract: bits that match the waiter's masks are taken and the waiter woken, whatever the table of events is.
+use Rattle.moves.proofs.Served.{is-other}
+use Rattle.rules.specs.Events.{posted_bits}
 use Rattle.events.proofs.posts.post_bits.Goals as goal
 
-pub returns-then-m-eq0 : goal.returns-then-m-eq0
-returns-then-m-eq0 c =
-    posted-only c.args.tasks.now c.args.lines.now c.args.events.now c.args.a c.args.bits c.waiter_match-m.ensures
-    c.if-m-eq0.true c.set_event.ensures c.accepted.ensures
-
 pub returns : goal.returns
+unfolding posted_bits
 returns c =
-    posted-serves c.args.tasks.now c.args.lines.now c.args.events.now c.args.a c.args.bits c.waiter_match-m.ensures
-    c.if-m-eq0.false c.set_event-2.ensures (c.wake_first.ensures _)
+    rw (is-other 0 c.waiter_match-m.ensures c.if-m-eq0.false, ← c.waiter_match-m.ensures, ← c.set_event-2.ensures) (c.wake_first.ensures _)

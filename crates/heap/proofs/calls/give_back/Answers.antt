@@ -1,23 +1,10 @@
 -- `give_back` meets its contract: the codes in order, then the units of the block are free again.
 use mathlib.Core.Path.{◌∙◌}
-use borrow.Author.Tests.{eq-eqb, ne_eqb}
+use borrow.Author.Tests.{eq-eqb}
 use Rattle.rules.specs.Answer.{first_given}
 use Rattle.rules.specs.Heap.{give_cases}
 use Rattle.heap.proofs.BlockUnits.{give-is, block-is}
 use Rattle.heap.proofs.calls.give_back.Goals as goal
-
-pub returns-then-x-ne-T : goal.returns-then-x-ne-T
-unfolding first_given give_cases
-returns-then-x-ne-T c = rw (c.refused.ensures, ne_eqb _ 0 c.if-x-ne-T.true)
-
-pub returns-then-is_block-unused : goal.returns-then-is_block-unused
-unfolding first_given give_cases
-returns-then-is_block-unused c =
-    rw (
-      c.refused-then-is_block-unused.ensures,
-      eq-eqb _ 0 c.if-x-ne-T.false,
-      rw (c.is_block.ensures, c.unused.ensures) at c.if-is_block-unused.true,
-    )
 
 pub returns : goal.returns
 unfolding first_given give_cases

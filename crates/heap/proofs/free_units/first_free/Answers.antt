@@ -1,5 +1,4 @@
 -- `first_free` meets its contract: no unit passed is free; four are tried a turn, and the last few one by one.
-use Prim.Native.Nat.{◌-◌}
 use mathlib.Core.Path.{sym, ◌∙◌}
 use Rattle.heap.proofs.Runs.{free-here, past-1, past-2, past-3, past-4}
 use Rattle.std.proofs.Common.{rules}

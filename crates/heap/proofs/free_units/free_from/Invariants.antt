@@ -4,6 +4,3 @@ use Rattle.heap.proofs.free_units.free_from.Given as goal
 
 abbrev pub invariant-loop-p : goal.invariant-loop-p
 invariant-loop-p l = FreeTo l.heap l.end l.p
-
-abbrev pub decreases-loop-p : goal.decreases-loop-p
-decreases-loop-p l = l.p

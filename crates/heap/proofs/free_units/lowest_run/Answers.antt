@@ -1,5 +1,4 @@
 -- `lowest_run` meets its contract: no run begins before u, so the next free place has the lowest, or there is none.
-use Prim.Native.Nat.{◌-◌}
 use Rattle.heap.proofs.Runs.{run-never, run-start, run-here, run-later, run-next, run_end}
 use Rattle.std.proofs.Common.{rules}
 use Rattle.heap.proofs.free_units.lowest_run.Goals as goal

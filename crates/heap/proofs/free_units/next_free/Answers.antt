@@ -1,5 +1,4 @@
 -- `next_free` meets its contract: no unit passed is free, so the first that is free is found, or none is.
-use Prim.Native.Nat.{◌-◌}
 use mathlib.Core.Path.{sym, ◌∙◌}
 use Rattle.heap.proofs.Runs.{free-here, free_on, free-end}
 use Rattle.heap.proofs.free_units.next_free.Goals as goal

@@ -1,5 +1,4 @@
 -- `none_free` meets its contract: after k turns it tells whether the first k units are taken, after sixteen that is the answer; past the last sixteen it is false.
-use Prim.Native.Nat.{◌-◌}
 use Rattle.heap.proofs.Runs.{none-past, taken_none, taken_more, taken-all}
 use Rattle.heap.proofs.free_units.none_free.Goals as goal
 

@@ -1,5 +1,4 @@
 -- `past_full` meets its contract: sixteen units that are all taken hold no free one, so the first free one from behind them is the same.
-use Prim.Native.Nat.{◌-◌}
 use mathlib.Core.Path.{sym, ◌∙◌}
 use native.Mathlib.Omega.{arith}
 use Rattle.heap.proofs.Runs.{none-low, free-on16}

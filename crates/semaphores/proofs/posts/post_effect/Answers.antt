@@ -1,14 +1,8 @@
--- `post_effect` meets its contract: the first who waits is woken; where nobody waits the count goes up.
-use Rattle.semaphores.proofs.PendPost.{post-wakes, post-counts}
+-- `post_effect` meets its contract: where somebody waits, the first is woken, whatever the table of semaphores is.
+use mathlib.Core.Path.{sym, ◌∙◌}
+use Rattle.rules.specs.Semaphores.{post_effect}
 use Rattle.semaphores.proofs.posts.post_effect.Goals as goal
 
-pub returns-then-len-gt0 : goal.returns-then-len-gt0
-returns-then-len-gt0 c =
-    post-wakes c.args.tasks.now c.args.lines.now c.args.semaphores.now c.args.a c.len.ensures c.if-len-gt0.true
-    (c.wake_first.ensures c.args.semaphores.now)
-
-pub returns : goal.returns
-returns c =
-    post-counts c.args.tasks.now c.args.lines.now c.args.semaphores.now c.args.a c.len.ensures c.if-len-gt0.false
-    c.semaphore-kind.ensures c.semaphore-n.ensures c.count_up.ensures
-    c.set_semaphore.ensures c.accepted.ensures
+pub returns-then-anyone : goal.returns-then-anyone
+unfolding post_effect
+returns-then-anyone c = rw (sym c.anyone.ensures ∙ c.if-anyone.true) (c.wake_first.ensures _)

@@ -1,6 +1,6 @@
 -- `clocks_still` meets its contract: the ticks left of the clocks passed, put together, are 0 where each is.
-use Rattle.std.proofs.Common.{◌≡◌, ℕ, ◌-◌, ◌≤◌, eqb, List}
-use Rattle.rules.specs.Tables.{clock_count, clock}
+use Rattle.std.proofs.Common.{◌≡◌, ℕ, eqb, List}
+use Rattle.rules.specs.Tables.{clock}
 use Rattle.switches.specs.Still.{still}
 use Rattle.switches.proofs.ticking.clocks_still.Given as goal
 
@@ -8,7 +8,4 @@ abbrev pub ticks : List ℕ → ℕ → ℕ
 ticks cs n = (clock cs n).left
 
 abbrev pub invariant-loop-n : goal.invariant-loop-n
-invariant-loop-n l = (l.n ≤ clock_count) × (eqb l.left 0 ≡ still l.n (ticks l.clocks))
-
-abbrev pub decreases-loop-n : goal.decreases-loop-n
-decreases-loop-n l = clock_count - l.n
+invariant-loop-n l = eqb l.left 0 ≡ still l.n (ticks l.clocks)

@@ -1,5 +1,5 @@
 -- `clocks_tick` meets its contract: with no ticks left anywhere nothing changes; else each clock's tick is one step more in rising number.
-use Rattle.std.proofs.Common.{◌-◌, sym, refl, arith}
+use Rattle.std.proofs.Common.{sym, refl}
 use Rattle.switches.proofs.Still.{still-stays, clock-still}
 use Rattle.switches.proofs.Ticks.{one_more}
 use Rattle.basics.proofs.Finds.{rising_none}
@@ -14,8 +14,8 @@ returns-then-clocks_still c =
 
 pub loop-n-init : goal.loop-n-init
 loop-n-init c =
-    (omega arith, sym (rising_none clock_tick (clock_tables c.args.clocks.now c.args.swis.now c.args.lines.now)))
+    sym (rising_none clock_tick (clock_tables c.args.clocks.now c.args.swis.now c.args.lines.now))
 
 pub loop-n-preserved : goal.loop-n-preserved
 loop-n-preserved c =
-    (omega arith, one_more clock_tick (clock_tables c.args.clocks.now c.args.swis.now c.args.lines.now) c.loop-n.n c.loop-n.invariant.1 c.clock_tick.ensures)
+    one_more clock_tick (clock_tables c.args.clocks.now c.args.swis.now c.args.lines.now) c.loop-n.n c.loop-n.invariant c.clock_tick.ensures

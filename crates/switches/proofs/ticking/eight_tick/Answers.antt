@@ -1,11 +1,10 @@
 -- `eight_tick` meets its contract: with no ticks left among the eight nothing changes; else each task's tick is one step more.
-use Rattle.std.proofs.Common.{◌+◌, ◌-◌, ◌*◌, sym, refl, arith}
+use Rattle.std.proofs.Common.{◌+◌, ◌*◌, sym, refl}
 use Rattle.switches.proofs.Still.{still-stays}
 use Rattle.switches.proofs.Ticks.{one_more, task-still}
 use Rattle.basics.proofs.Finds.{rising_none}
 use Rattle.rules.specs.Lines.{task_queues}
 use Rattle.rules.specs.Tables.{task}
-use Rattle.rules.specs.Tick.{task_tick}
 use Rattle.switches.proofs.ticking.eight_tick.Invariants.{from}
 use Rattle.switches.proofs.ticking.eight_tick.Goals as goal
 
@@ -18,9 +17,9 @@ returns-then-eight_still c =
 pub loop-k-init : goal.loop-k-init
 unfolding task
 loop-k-init c =
-    (omega arith, sym (rising_none (from c.args.g) (task_queues c.args.tasks.now c.args.lines.now)))
+    sym (rising_none (from c.args.g) (task_queues c.args.tasks.now c.args.lines.now))
 
 pub loop-k-preserved : goal.loop-k-preserved
 unfolding task
 loop-k-preserved c =
-    (omega arith, one_more (from c.args.g) (task_queues c.args.tasks.now c.args.lines.now) c.loop-k.k c.loop-k.invariant.1 c.task_tick.ensures)
+    one_more (from c.args.g) (task_queues c.args.tasks.now c.args.lines.now) c.loop-k.k c.loop-k.invariant c.task_tick.ensures

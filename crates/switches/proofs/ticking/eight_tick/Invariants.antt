@@ -1,5 +1,5 @@
 -- `eight_tick` meets its contract: with no ticks left among the eight nothing changes; else each task's tick is one step more.
-use Rattle.std.proofs.Common.{◌≡◌, ℕ, ◌+◌, ◌-◌, ◌*◌, ◌≤◌}
+use Rattle.std.proofs.Common.{◌≡◌, ℕ, ◌+◌, ◌*◌}
 use Rattle.basics.specs.Find.{rising}
 use Rattle.rules.specs.Lines.{TaskQueues, task_queues}
 use Rattle.rules.specs.Tick.{task_tick}
@@ -9,7 +9,4 @@ abbrev pub from : ℕ → TaskQueues → ℕ → TaskQueues
 from g q k = task_tick q (g * 8 + k)
 
 abbrev pub invariant-loop-k : goal.invariant-loop-k
-invariant-loop-k l = (l.k ≤ 8) × (task_queues l.tasks l.lines ≡ rising l.k (from l.g) (task_queues l.initial.tasks l.initial.lines))
-
-abbrev pub decreases-loop-k : goal.decreases-loop-k
-decreases-loop-k l = 8 - l.k
+invariant-loop-k l = task_queues l.tasks l.lines ≡ rising l.k (from l.g) (task_queues l.initial.tasks l.initial.lines)
