@@ -23,12 +23,10 @@ const WORD_BITS: usize = 32;
 pub fn highest_posted(lines: &Lines) -> usize
     ensures { (result ≡ highest_posted lines.now) × (result ≤ 16) }
 {
-    let mut level = SWI_QUEUES;
-    while 0 < level {
-        if anyone(lines, POSTED_LINES + (level - 1)) {
-            return level;
+    for p in (0..SWI_QUEUES).rev() {
+        if anyone(lines, POSTED_LINES + p) {
+            return p + 1;
         }
-        level -= 1;
     }
     0
 }
@@ -37,10 +35,7 @@ pub fn highest_posted(lines: &Lines) -> usize
 fn empty(lines: &Lines, j: usize) -> u32
     ensures { (result ≡ bit (not (anyone lines.now j))) × (result ≤ 1) }
 {
-    if anyone(lines, j) {
-        return 0;
-    }
-    1
+    u32::from(!anyone(lines, j))
 }
 
 // A word with its n lowest bits set; all 32 where n is 32 or more.
@@ -63,9 +58,7 @@ fn ready_queues(lines: &Lines, from: u8, n: usize) -> u32
 {
     let first = basics::wide(from);
     let mut empties = 0;
-    let mut p = basics::least(n, WORD_BITS);
-    while 0 < p {
-        p -= 1;
+    for p in (0..basics::least(n, WORD_BITS)).rev() {
         empties = empties * 2 + empty(lines, READY_LINES + (first + p));
     }
     ones(n) - empties
@@ -95,6 +88,7 @@ pub fn highest_ready(lines: &Lines, state: &State) -> usize
 }
 
 // One more than the top active Swi's priority; 0 where none is active.
+#[tactic(auto, unfolding(rules::specs::Dispatch::active_level))]
 pub fn active_level(swis: &Swis, lines: &Lines) -> usize
     ensures { result ≡ active_level swis.now lines.now }
 {
@@ -106,6 +100,7 @@ pub fn active_level(swis: &Swis, lines: &Lines) -> usize
 }
 
 // At depth 0 with Swis on, the highest posted Swi is above the top active one, or none is active.
+#[tactic(auto, unfolding(rules::specs::Dispatch::swi_due))]
 pub fn swi_due(swis: &Swis, lines: &Lines, state: &State) -> bool
     ensures { result ≡ swi_due swis.now lines.now state.now }
 {
@@ -119,6 +114,7 @@ pub fn swi_due(swis: &Swis, lines: &Lines, state: &State) -> bool
 }
 
 // Depth 0, no Swi active and both switches on.
+#[tactic(auto, unfolding(rules::specs::Dispatch::task_due))]
 pub fn task_due(lines: &Lines, state: &State) -> bool
     ensures { result ≡ task_due lines.now state.now }
 {

@@ -13,6 +13,8 @@ use rules::numbers::{
 use rules::{Lines, State, Swis, Thread};
 
 // The context of a call: 0 a task, 1 a Swi, 2 an interrupt.
+// Stays a number: what it promises is the number `context` of rules/specs/Dispatch.
+#[tactic(auto, unfolding(rules::specs::Dispatch::context))]
 pub fn context(lines: &Lines, state: &State) -> u32
     ensures { result ≡ context lines.now state.now }
 {
@@ -25,14 +27,8 @@ pub fn context(lines: &Lines, state: &State) -> u32
     T
 }
 
-// A byte as a number.
-pub fn number(x: u8) -> u32
-    ensures { result ≡ x }
-{
-    x as u32
-}
-
 // The running thread.
+#[tactic(auto, unfolding(rules::specs::Dispatch::running))]
 pub fn running(lines: &Lines, state: &State) -> Thread
     ensures { result ≡ running lines.now state.now }
 {
@@ -40,12 +36,13 @@ pub fn running(lines: &Lines, state: &State) -> Thread
         return Thread::Interrupt;
     }
     if lines::anyone(lines, ACTIVE_LINE) {
-        return Thread::Swi(number(lines::top(lines)));
+        return Thread::Swi(u32::from(lines::top(lines)));
     }
-    Thread::Task(number(rows::readings::current(state)))
+    Thread::Task(u32::from(rows::readings::current(state)))
 }
 
 // Swi i, posted in line j, starts: its trigger is kept as taken and set back to its initial value.
+#[tactic(auto, unfolding(rules::specs::Dispatch::started))]
 pub fn start(swis: &mut Swis, lines: &mut Lines, i: u8, j: usize)
     ensures { swi_queues swis.new lines.new ≡ started i j (swi_queues swis.old lines.old) }
 {
@@ -61,6 +58,7 @@ pub fn start(swis: &mut Swis, lines: &mut Lines, i: u8, j: usize)
 
 // The first Swi at the highest posted priority starts, if one is due. That is tested here and not by `due::swi_due`, so that the highest
 // priority is searched for once.
+#[tactic(auto, unfolding(rules::specs::Dispatch::swi_due, rules::specs::Dispatch::swi_dispatched))]
 pub fn dispatch_swis(swis: &mut Swis, lines: &mut Lines, state: &State)
     ensures { swi_queues swis.new lines.new ≡ swi_dispatched state.now (swi_queues swis.old lines.old) }
 {
@@ -79,10 +77,11 @@ pub fn dispatch_swis(swis: &mut Swis, lines: &mut Lines, state: &State)
 }
 
 // The current task is the front of the highest ready queue, if tasks may be switched.
+#[tactic(auto, unfolding(rules::specs::Dispatch::task_dispatched))]
 pub fn dispatch_tasks(lines: &Lines, state: &mut State)
     ensures { state.new ≡ task_dispatched lines.now state.old }
 {
     if due::task_due(lines, state) {
-        state[CURRENT] = number(due::front(lines, state));
+        state[CURRENT] = u32::from(due::front(lines, state));
     }
 }

@@ -1,2 +1,1 @@
-pub mod ByParts
 pub mod Settles

@@ -10,6 +10,7 @@ use rules::numbers::{DEPTH, NOT_MET, NOW_WAITING};
 use rules::{Answer, Lines, State, Swis};
 
 // Which parts of the dispatch rule can have something to do: the Swis', the tasks'.
+// Stays two flags: each is asked for alone, and `parts_settled` of specs/ reads them so.
 #[derive(Clone, Copy)]
 struct Parts {
     swis: bool,
@@ -57,6 +58,7 @@ fn mailbox_moves(number: u32, outcome: u32, value: u32) -> bool
 
 // What an accepted call on sound tables can have left to do. Before it there was nothing; calls of
 // Swis and switches apart no Swi moves, and the number and the answer tell where no task has.
+#[tactic(auto, unfolding(crate::specs::Settle::left_by))]
 fn left_by(number: u32, outcome: u32, value: u32) -> Parts
     ensures { result ≡ left_by number outcome value }
 {
@@ -73,6 +75,7 @@ fn left_by(number: u32, outcome: u32, value: u32) -> Parts
 
 // The Swis' part of dispatch, where one may be due. None is at depth above 0, as after each tick: there
 // no search begins.
+#[tactic(auto, unfolding(rules::specs::Dispatch::swi_dispatched, rules::specs::Dispatch::swi_due))]
 fn settle_swis(some: bool, swis: &mut Swis, lines: &mut Lines, state: &State)
     ensures { swi_queues swis.new lines.new ≡ cond some (swi_dispatched state.now (swi_queues swis.old lines.old)) (swi_queues swis.old lines.old) }
 {
@@ -90,7 +93,8 @@ fn settle_tasks(some: bool, lines: &Lines, state: &mut State)
     }
 }
 
-// Dispatch, after an accepted call only, as far as it can have something to do.
+// Dispatch, after an accepted call only, as far as it can have something to do. Takes the answer as it leaves the call, whose code is document 01's number.
+#[tactic(auto, unfolding(crate::specs::Settle::settled_after, crate::specs::Settle::parts_settled))]
 pub fn settle(number: u32, answer: Answer, swis: &mut Swis, lines: &mut Lines, state: &mut State)
     ensures { dispatch_tables swis.new lines.new state.new ≡ settled_after number answer swis.old lines.old state.old }
 {

@@ -1,13 +1,12 @@
--- The heap's entries one after the other, and what is no mode.
-use Prim.Native.Nat.{ℕ, suc, ◌+◌, ◌-◌, ◌≤◌, zero-le}
+-- The heap's entries one after the other.
+use Prim.Native.Nat.{ℕ, ◌+◌, ◌-◌, ◌<◌}
 use mathlib.Core.Path.{◌≡◌, refl, ◌∙◌}
-use mathlib.Core.Logic.{◌≢◌}
 use mathlib.Core.Bool.{Bool, true, false, not, ◌&&◌, ◌||◌, cond as if}
 use mathlib.Core.List.{List}
 use native.Mathlib.Omega.{arith}
-use borrow.Author.Tests.{le-ltb, ne_eqb}
+use borrow.Author.Tests.{lt-ltb, ne_eqb}
 use lib.Dec.{eqb, ltb}
-use Rattle.rules.specs.Tables.{not_in_use, ready, sleeping, at_semaphore, at_event, reading, writing, terminated, inactive}
+use lib.ListN.{get_or}
 use Rattle.rules.specs.Heap.{unit, free, later_in}
 
 -- ---- the heap: what stands before unit u; before the first as if a free one did
@@ -33,17 +32,11 @@ after_free h u = go (eqb u 0)
     go true = refl
     go false = refl
 
+pub unit-here : (h : List ℕ) (u : ℕ) → u < 256 → get_or h u 0 ≡ unit h u
+unit-here h u l = rw (lt-ltb u 256 l)
+
 -- the test of one entry is the rule of unit u
 pub heap-step : (h : List ℕ) (u : ℕ) {p x : ℕ} {b : Bool} → p ≡ unit_before h u → x ≡ unit h u
     → b ≡ (ltb x 3 && (not (eqb x later_in) || not (eqb p free)))
     → b ≡ (ltb (unit h u) 3 && (not (eqb (unit h u) later_in) || (not (eqb u 0) && not (eqb (unit h (u - 1)) free))))
 heap-step h u p x e = e ∙ rw (p, x, after_free h u)
-
--- ---- what is no mode is past them all
-more : (m n : ℕ) → m ≤ n → n ≢ m → suc m ≤ n
-more m n h d = omega arith
-
-pub no_mode : (n : ℕ) → n ≢ not_in_use → n ≢ ready → n ≢ sleeping → n ≢ at_semaphore → n ≢ at_event → n ≢ reading → n ≢ writing
-    → n ≢ terminated → n ≢ inactive → ltb n 9 ≡ false
-no_mode n a b c d e f g h i =
-    le-ltb n 9 (more 8 n (more 7 n (more 6 n (more 5 n (more 4 n (more 3 n (more 2 n (more 1 n (more 0 n zero-le a) b) c) d) e) f) g) h) i)

@@ -17,6 +17,7 @@ use rules::{Events, Lines, Mailboxes, Semaphores, Swis, Tasks};
 // ---- semaphores
 
 // The count is what the kind allows, and 0 with waiters; one not in use is all 0 and has none.
+#[tactic(auto, unfolding(rules::specs::Sound::semaphore_rule))]
 fn semaphore_sound(semaphores: &Semaphores, lines: &Lines, s: usize) -> bool
     ensures { result ≡ holds (semaphore_rule semaphores.now lines.now s) }
 {
@@ -35,19 +36,14 @@ fn semaphore_sound(semaphores: &Semaphores, lines: &Lines, s: usize) -> bool
 pub fn semaphores_sound(semaphores: &Semaphores, lines: &Lines) -> bool
     ensures { result ≡ holds (semaphores_rule semaphores.now lines.now) }
 {
-    let mut ok = true;
-    let mut s = 0;
-    while s < SEMAPHORE_ROWS {
-        ok = ok & semaphore_sound(semaphores, lines, s);
-        s += 1;
-    }
-    ok
+    super::each(SEMAPHORE_ROWS, |s| semaphore_sound(semaphores, lines, s))
 }
 
 // ---- events
 
 // At most one waits, and the posted bits do not satisfy it; one not in use is all 0 and has no
 // waiter. False where there is no such event.
+#[tactic(auto, unfolding(rules::specs::Sound::event_rule))]
 fn event_sound(tasks: &Tasks, events: &Events, lines: &Lines, e: usize) -> bool
     ensures { result ≡ (ltb e event_count && holds (event_rule tasks.now events.now lines.now e)) }
 {
@@ -69,31 +65,20 @@ fn event_sound(tasks: &Tasks, events: &Events, lines: &Lines, e: usize) -> bool
 pub fn events_sound(tasks: &Tasks, events: &Events, lines: &Lines) -> bool
     ensures { result ≡ holds (events_rule tasks.now events.now lines.now) }
 {
-    let mut ok = true;
-    let mut e = 0;
-    while e < EVENT_ROWS {
-        ok = ok & event_sound(tasks, events, lines, e);
-        e += 1;
-    }
-    ok
+    super::each(EVENT_ROWS, |e| event_sound(tasks, events, lines, e))
 }
 
 // ---- mailboxes
 
 // Zeros stand behind mailbox m's messages, up to its 8 places. False where there is no such
-// mailbox.
+// mailbox. Stays beside that of the lines: what both do is `each_from`.
 fn zeros_behind(mailboxes: &Mailboxes, m: usize) -> bool
     ensures { result ≡ (ltb m mailbox_count && all_of (λ x. eqb x 0) (behind mailbox_most mailboxes.now (m * mailbox_width + 1))) }
 {
     if m < MAILBOX_ROWS {
         let at = m * MAILBOX_WIDTH + MESSAGES;
-        let mut k = basics::least(basics::index(mailboxes[at]), MAILBOX_PLACES);
-        let mut ok = true;
-        while k < MAILBOX_PLACES {
-            ok = ok & (mailboxes[at + 1 + k] == 0);
-            k += 1;
-        }
-        return ok;
+        let n = basics::least(basics::index(mailboxes[at]), MAILBOX_PLACES);
+        return super::each_from(n, MAILBOX_PLACES, |k| mailboxes[at + 1 + k] == 0);
     }
     false
 }
@@ -112,19 +97,14 @@ fn waiters_sound(tasks: &Tasks, lines: &Lines, j: usize, messages: u32, capacity
         (every (line lines.now j)
         (λ x. ((task tasks.now x).mode is reading gives messages is 0) and ((task tasks.now x).mode is writing gives messages is capacity))) }
 {
-    let n = lines::len(lines, j);
-    let mut ok = true;
-    let mut k = 0;
-    while k < n {
-        let waiter = rows::task(tasks, basics::wide(lines::member(lines, j, k)));
-        ok = ok & waiter_sound(waiter.mode, messages, capacity);
-        k += 1;
-    }
-    ok
+    super::each_in(lines, j, |x| {
+        waiter_sound(rows::task(tasks, x).mode, messages, capacity)
+    })
 }
 
 // No more messages than the capacity, at most 8, and zeros behind them; one not in use has no
 // waiter. False where there is no such mailbox.
+#[tactic(auto, unfolding(rules::specs::Sound::mailbox_rule))]
 fn mailbox_sound(tasks: &Tasks, mailboxes: &Mailboxes, lines: &Lines, m: usize) -> bool
     ensures { result ≡ (ltb m mailbox_count && holds (mailbox_rule tasks.now mailboxes.now lines.now m)) }
 {
@@ -145,18 +125,13 @@ fn mailbox_sound(tasks: &Tasks, mailboxes: &Mailboxes, lines: &Lines, m: usize) 
 pub fn mailboxes_sound(tasks: &Tasks, mailboxes: &Mailboxes, lines: &Lines) -> bool
     ensures { result ≡ holds (mailboxes_rule tasks.now mailboxes.now lines.now) }
 {
-    let mut ok = true;
-    let mut m = 0;
-    while m < MAILBOX_ROWS {
-        ok = ok & mailbox_sound(tasks, mailboxes, lines, m);
-        m += 1;
-    }
-    ok
+    super::each(MAILBOX_ROWS, |m| mailbox_sound(tasks, mailboxes, lines, m))
 }
 
 // ---- Swis
 
 // Priority 0 to 15; one not in use is all 0, and the taken trigger of one not active is 0.
+#[tactic(auto, unfolding(rules::specs::Sound::swi_rule))]
 fn swi_sound(swis: &Swis, lines: &Lines, i: usize) -> bool
     ensures { result ≡ holds (swi_rule swis.now lines.now i) }
 {
@@ -178,13 +153,7 @@ fn swi_sound(swis: &Swis, lines: &Lines, i: usize) -> bool
 pub fn swis_sound(swis: &Swis, lines: &Lines) -> bool
     ensures { result ≡ holds (swis_rule swis.now lines.now) }
 {
-    let mut ok = true;
-    let mut i = 0;
-    while i < SWI_ROWS {
-        ok = ok & swi_sound(swis, lines, i);
-        i += 1;
-    }
-    ok
+    super::each(SWI_ROWS, |i| swi_sound(swis, lines, i))
 }
 
 // ---- active Swis
@@ -193,15 +162,7 @@ pub fn swis_sound(swis: &Swis, lines: &Lines) -> bool
 fn active_used(swis: &Swis, lines: &Lines) -> bool
     ensures { result ≡ holds (every (line lines.now active_line) (λ x. swi swis.now x USED is 1)) }
 {
-    let n = lines::len(lines, ACTIVE_LINE);
-    let mut ok = true;
-    let mut k = 0;
-    while k < n {
-        let x = basics::wide(lines::member(lines, ACTIVE_LINE, k));
-        ok = ok & (rows::swi(swis, x, USED) == 1);
-        k += 1;
-    }
-    ok
+    super::each_in(lines, ACTIVE_LINE, |x| rows::swi(swis, x, USED) == 1)
 }
 
 // The priority of the active Swi behind k others.
@@ -221,13 +182,9 @@ fn active_rise(swis: &Swis, lines: &Lines) -> bool
         (get_or (line lines.now active_line) (suc k) 0) PRIORITY)) }
 {
     let n = basics::one_less(lines::len(lines, ACTIVE_LINE));
-    let mut ok = true;
-    let mut k = 0;
-    while k < n {
-        ok = ok & (active_priority(swis, lines, k) < active_priority(swis, lines, k + 1));
-        k += 1;
-    }
-    ok
+    super::each(n, |k| {
+        active_priority(swis, lines, k) < active_priority(swis, lines, k + 1)
+    })
 }
 
 // Active Swis are in use and rise strictly in priority.

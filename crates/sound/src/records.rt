@@ -7,9 +7,9 @@ ghost use Rattle.rules.specs.Sound.{state_rule, heap_rule, clock_rule, clocks_ru
 
 use rules::numbers::{
     AT_EVENT, AT_SEMAPHORE, CLOCK_ROWS, CURRENT, DEPTH, DEPTH_END, ENTRY_COUNT, EVENT_COUNT,
-    FOREVER, FREE, HEAP_UNITS, INACTIVE, LATER_IN, LEVELS, MAILBOX_COUNT, MINUS_ONE, NOT_IN_USE,
-    NOT_MET, NOW_WAITING, READING, READY, SEMAPHORE_COUNT, SLEEPING, TASK_COUNT, TASK_ROWS,
-    TERMINATED, USED, WRITING,
+    FOREVER, FREE, INACTIVE, LATER_IN, LEVELS, MAILBOX_COUNT, MINUS_ONE, NOT_IN_USE, NOT_MET,
+    NOW_WAITING, READING, READY, SEMAPHORE_COUNT, SLEEPING, TASK_COUNT, TASK_ROWS, TERMINATED,
+    USED, WRITING,
 };
 use rules::{Clock, Clocks, Heap, State, Swis, Task, Tasks};
 
@@ -39,18 +39,15 @@ fn unit_sound(before: u8, entry: u8) -> bool
     (entry < ENTRY_COUNT) & ((entry != LATER_IN) | (before != FREE))
 }
 
-// The same of each entry, the first as if it stood after a free one.
+// The same of each entry, the first as if it stood after a free one. Stays a loop of its own: its rule is on two neighbours.
 pub fn heap_sound(heap: &Heap) -> bool
     ensures { result ≡ holds (heap_rule heap.now) }
 {
     let mut ok = true;
     let mut before = FREE;
-    let mut u = 0;
-    while u < HEAP_UNITS {
-        let entry = rows::readings::unit(heap, u);
-        ok = ok & unit_sound(before, entry);
-        before = entry;
-        u += 1;
+    for entry in heap {
+        ok = ok & unit_sound(before, *entry);
+        before = *entry;
     }
     ok
 }
@@ -58,6 +55,7 @@ pub fn heap_sound(heap: &Heap) -> bool
 // ---- clocks
 
 // A clock in use names a Swi in use and has first ticks from 1; one not in use is all 0.
+#[tactic(auto, unfolding(rules::specs::Sound::clock_rule))]
 fn clock_sound(swis: &Swis, k: Clock) -> bool
     ensures { result ≡ holds (clock_rule swis.now k) }
 {
@@ -71,13 +69,7 @@ fn clock_sound(swis: &Swis, k: Clock) -> bool
 pub fn clocks_sound(clocks: &Clocks, swis: &Swis) -> bool
     ensures { result ≡ holds (clocks_rule clocks.now swis.now) }
 {
-    let mut ok = true;
-    let mut n = 0;
-    while n < CLOCK_ROWS {
-        ok = ok & clock_sound(swis, rows::clock(clocks, n));
-        n += 1;
-    }
-    ok
+    super::each(CLOCK_ROWS, |n| clock_sound(swis, rows::clock(clocks, n)))
 }
 
 // ---- tasks
@@ -119,14 +111,15 @@ fn wait_sound(k: Task, n: u32) -> bool
 
 // Any other task than task 0, by its mode: not in use, ready, sleeping, at a semaphore, at an
 // event, reading, writing, terminated, inactive.
+// Stays a match on a number: `other_rule` tells of any word that may stand there.
+#[tactic(auto, unfolding(rules::specs::Sound::other_rule))]
 fn other_sound(k: Task, n: u32) -> bool
     ensures { result ≡ holds (other_rule n k) }
 {
     let result = result_sound(k);
     let level = level_sound(k, n);
     let clear = no_wait(k);
-    let mode = k.mode;
-    match mode {
+    match k.mode {
         NOT_IN_USE => result & (k.priority == 0) & clear & (k.outcome == 0) & (k.value == 0),
         READY => result & clear & level,
         SLEEPING => {
@@ -167,11 +160,5 @@ fn task_sound(tasks: &Tasks, i: usize, n: u32) -> bool
 pub fn tasks_sound(tasks: &Tasks, n: u32) -> bool
     ensures { result ≡ holds (tasks_rule n tasks.now) }
 {
-    let mut ok = true;
-    let mut i = 0;
-    while i < TASK_ROWS {
-        ok = ok & task_sound(tasks, i, n);
-        i += 1;
-    }
-    ok
+    super::each(TASK_ROWS, |i| task_sound(tasks, i, n))
 }

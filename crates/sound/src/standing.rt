@@ -1,7 +1,7 @@
 // Who stands where: zeros behind each line, each ready or waiting task and each posted Swi once in
 // its own line, and nothing else in a line.
 ghost use Rattle.std.specs.Prelude.{◌≡◌, ◌&&◌, ◌*◌, suc, ◌≤◌, eqb, ltb, get_or};
-ghost use Rattle.basics.specs.Lists.{bit, count, all_of};
+ghost use Rattle.basics.specs.Lists.{count, all_of};
 ghost use Rattle.basics.specs.Rule.{holds, ◌is◌, ◌under◌, ◌and◌, ◌gives◌, every};
 ghost use Rattle.rules.specs.Rows.{behind};
 ghost use Rattle.rules.specs.Tables.{task_count, swi_count};
@@ -17,18 +17,14 @@ use rules::{Lines, Swis, Task, Tasks};
 // ---- the lines
 
 // Zeros stand behind line j, up to its 32 places. False where there is no such line.
+// Stays beside that of the mailboxes: the tables are of two types, and what both do is `each_from`.
 fn zeros_behind(lines: &Lines, j: usize) -> bool
     ensures { result ≡ (ltb j line_count && all_of (λ x. eqb x 0) (behind line_most lines.now (j * line_width))) }
 {
     if j < LINE_COUNT {
         let at = j * LINE_WIDTH;
-        let mut k = basics::least(basics::wide(lines[at]), LINE_MOST);
-        let mut ok = true;
-        while k < LINE_MOST {
-            ok = ok & (lines[at + 1 + k] == 0);
-            k += 1;
-        }
-        return ok;
+        let n = basics::least(basics::wide(lines[at]), LINE_MOST);
+        return super::each_from(n, LINE_MOST, |k| lines[at + 1 + k] == 0);
     }
     false
 }
@@ -50,13 +46,7 @@ fn line_sound(lines: &Lines, j: usize) -> bool
 pub fn lines_sound(lines: &Lines) -> bool
     ensures { result ≡ holds (lines_rule lines.now) }
 {
-    let mut ok = true;
-    let mut j = 0;
-    while j < LINE_COUNT {
-        ok = ok & line_sound(lines, j);
-        j += 1;
-    }
-    ok
+    super::each(LINE_COUNT, |j| line_sound(lines, j))
 }
 
 // ---- the line of each task and Swi
@@ -68,7 +58,8 @@ pub fn task_home(tasks: &Tasks, i: usize) -> usize
     lines::home_of(rows::task(tasks, i))
 }
 
-// The line in which Swi i stands as a posted one; 255 for none.
+// The line in which Swi i stands as a posted one; 255 for none. Stays a number: so `swi_home` of rules/specs says.
+#[tactic(auto, unfolding(rules::specs::Lines::swi_home))]
 pub fn swi_home(swis: &Swis, i: usize) -> usize
     ensures { result ≡ swi_home swis.now i }
 {
@@ -94,52 +85,27 @@ fn home_in(tasks: &Tasks, swis: &Swis, j: usize, x: usize) -> usize
 fn at_home(tasks: &Tasks, swis: &Swis, lines: &Lines, j: usize) -> bool
     ensures { result ≡ holds (every (line lines.now j) (λ x. home_in tasks.now swis.now j x is j)) }
 {
-    let n = lines::len(lines, j);
-    let mut ok = true;
-    let mut k = 0;
-    while k < n {
-        let x = basics::wide(lines::member(lines, j, k));
-        ok = ok & (home_in(tasks, swis, j, x) == j);
-        k += 1;
-    }
-    ok
+    super::each_in(lines, j, |x| home_in(tasks, swis, j, x) == j)
 }
 
 // The same of each line but that of the active Swis.
 pub fn members_sound(tasks: &Tasks, swis: &Swis, lines: &Lines) -> bool
     ensures { result ≡ holds (members_rule tasks.now swis.now lines.now) }
 {
-    let mut ok = true;
-    let mut j = 0;
-    while j < LINE_COUNT {
-        ok = ok & ((j == ACTIVE_LINE) | at_home(tasks, swis, lines, j));
-        j += 1;
-    }
-    ok
+    super::each(LINE_COUNT, |j| {
+        (j == ACTIVE_LINE) | at_home(tasks, swis, lines, j)
+    })
 }
 
 // ---- each stands once
-
-// 1 for true, 0 for false.
-fn bit(b: bool) -> usize
-    ensures { (result ≡ bit b) × (result ≤ 1) }
-{
-    if b {
-        return 1;
-    }
-    0
-}
 
 // How often x stands in line j.
 pub fn times(lines: &Lines, j: usize, x: usize) -> usize
     ensures { (result ≡ count x (line lines.now j)) × (result ≤ 32) }
 {
-    let n = lines::len(lines, j);
     let mut m = 0;
-    let mut k = 0;
-    while k < n {
-        m += bit(basics::wide(lines::member(lines, j, k)) == x);
-        k += 1;
+    for k in 0..lines::len(lines, j) {
+        m += usize::from(basics::wide(lines::member(lines, j, k)) == x);
     }
     m
 }
@@ -156,24 +122,12 @@ fn stands_once(lines: &Lines, home: usize, x: usize) -> bool
 pub fn task_once(tasks: &Tasks, lines: &Lines) -> bool
     ensures { result ≡ holds (once_rule task_count (task_home tasks.now) lines.now) }
 {
-    let mut ok = true;
-    let mut i = 0;
-    while i < TASK_ROWS {
-        ok = ok & stands_once(lines, task_home(tasks, i), i);
-        i += 1;
-    }
-    ok
+    super::each(TASK_ROWS, |i| stands_once(lines, task_home(tasks, i), i))
 }
 
 // Each posted Swi stands once in its priority's queue.
 pub fn swi_once(swis: &Swis, lines: &Lines) -> bool
     ensures { result ≡ holds (once_rule swi_count (swi_home swis.now) lines.now) }
 {
-    let mut ok = true;
-    let mut i = 0;
-    while i < SWI_ROWS {
-        ok = ok & stands_once(lines, swi_home(swis, i), i);
-        i += 1;
-    }
-    ok
+    super::each(SWI_ROWS, |i| stands_once(lines, swi_home(swis, i), i))
 }

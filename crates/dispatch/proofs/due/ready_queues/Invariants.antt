@@ -9,6 +9,3 @@ use Rattle.dispatch.proofs.due.ready_queues.Given as goal
 abbrev pub invariant-loop-p : goal.invariant-loop-p
 invariant-loop-p l =
     (l.first ≡ l.from) × (l.first < 256) × Made (min l.n 32) (λ q. not (anyone l.lines (ready_line (l.from + q)))) l.p l.empties
-
-abbrev pub decreases-loop-p : goal.decreases-loop-p
-decreases-loop-p l = l.p

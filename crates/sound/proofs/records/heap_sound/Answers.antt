@@ -1,17 +1,14 @@
 -- `heap_sound` meets its contract: each turn adds one unit, told from the one before it
-use Prim.Native.Nat.{◌-◌}
 use mathlib.Core.Path.{sym}
+use native.Mathlib.Omega.{arith}
 use Rattle.basics.proofs.Finds.{all_none, all-step}
-use Rattle.sound.proofs.Steps.{before-none, before_more, heap-step}
-use Rattle.std.proofs.Common.{rules}
+use Rattle.sound.proofs.Steps.{before-none, before_more, heap-step, unit-here}
 use Rattle.sound.proofs.records.heap_sound.Goals as goal
 
-pub loop-u-init : goal.loop-u-init
-loop-u-init c = (search rules, before-none _, sym (all_none _))
+pub loop-entry-init : goal.loop-entry-init
+loop-entry-init c = (before-none _, sym (all_none _))
 
-pub loop-u-preserved : goal.loop-u-preserved
-loop-u-preserved c = (
-  search rules,
-  before_more _ _ c.unit-entry.ensures,
-  all-step _ _ c.loop-u.invariant.2 (heap-step _ _ c.loop-u.invariant.1 c.unit-entry.ensures c.unit_sound-ok.ensures),
-)
+pub loop-entry-preserved : goal.loop-entry-preserved
+loop-entry-preserved c =
+    let e = unit-here c.args.heap.now c.loop-entry.entry-index (omega (arith, c.loop-entry-test.true, c.told-heap)) in
+    (before_more _ _ e, all-step _ _ c.loop-entry.invariant.1 (heap-step _ _ c.loop-entry.invariant.0 e c.unit_sound-ok.ensures))

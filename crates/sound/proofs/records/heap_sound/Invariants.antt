@@ -1,17 +1,13 @@
 -- `heap_sound` meets its contract: each turn adds one unit, told from the one before it
-use Prim.Native.Nat.{◌-◌, ◌≤◌}
+use Prim.Native.Nat.{◌-◌}
 use mathlib.Core.Path.{◌≡◌}
 use Rattle.basics.specs.Find.{all_below}
 use Rattle.basics.specs.Rule.{holds, ◌is◌, ◌isnt◌, ◌under◌, ◌and◌, ◌gives◌}
 use Rattle.rules.specs.Heap.{unit, free, later_in}
-use Rattle.rules.specs.Tables.{heap_units}
 use Rattle.sound.proofs.Steps.{unit_before}
 use Rattle.sound.proofs.records.heap_sound.Given as goal
 
-abbrev pub invariant-loop-u : goal.invariant-loop-u
-invariant-loop-u l =
-    (l.u ≤ heap_units) × (l.before ≡ unit_before l.heap l.u) × (l.ok ≡ all_below l.u
+abbrev pub invariant-loop-entry : goal.invariant-loop-entry
+invariant-loop-entry l =
+    (l.before ≡ unit_before l.heap l.entry-index) × (l.ok ≡ all_below l.entry-index
     (λ k. holds ((unit l.heap k under 3) and (unit l.heap k is later_in gives (k isnt 0) and (unit l.heap (k - 1) isnt free)))))
-
-abbrev pub decreases-loop-u : goal.decreases-loop-u
-decreases-loop-u l = heap_units - l.u

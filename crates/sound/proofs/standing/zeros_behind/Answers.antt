@@ -1,19 +1,13 @@
--- `zeros_behind` meets its contract: each turn looks at one more place behind the members
-use Prim.Native.Nat.{◌-◌}
-use mathlib.Core.Path.{refl, ◌∙◌}
+-- `zeros_behind` meets its contract: the places that are looked at are those behind the members
+use mathlib.Core.Path.{◌∙◌}
 use borrow.Author.Tests.{lt-ltb}
-use Rattle.rules.specs.Lines.{line_most}
-use Rattle.sound.proofs.StandingLoops.{zeros-none, zeros-more, zeros-all}
-use Rattle.std.proofs.Common.{rules}
+use Rattle.rules.specs.Lines.{line_most, line_width}
+use Rattle.std.proofs.Common.{rules, ◌+◌, ◌*◌, eqb, get_or}
+use Rattle.sound.proofs.StandingLoops.{zeros-behind}
 use Rattle.sound.proofs.standing.zeros_behind.Goals as goal
-
-pub loop-k-init : goal.loop-k-init
-loop-k-init c =
-    (refl, c.if-j-lt-LINE_COUNT.true, zeros-none line_most _ _ (c.least-k.ensures ∙ rw c.wide.ensures.0))
-
-pub loop-k-preserved : goal.loop-k-preserved
-loop-k-preserved c = (search rules, search rules, zeros-more line_most _ _ _ c.loop-k.invariant.2 c.loop-k-test.true)
 
 pub returns-then-j-lt-LINE_COUNT : goal.returns-then-j-lt-LINE_COUNT
 returns-then-j-lt-LINE_COUNT c =
-    rw (lt-ltb _ _ c.if-j-lt-LINE_COUNT.true) (zeros-all line_most _ _ c.loop-k.k c.loop-k.invariant.2 c.loop-k-test.false)
+    rw (lt-ltb _ _ c.if-j-lt-LINE_COUNT.true)
+    (zeros-behind line_most _ _ (c.least-n.ensures ∙ rw c.wide.ensures.0)
+    (c.each_from.ensures (λ k. eqb (get_or c.args.lines.now (c.args.j * line_width + 1 + k) 0) 0) (λ k o l b p. search rules)))
