@@ -29,9 +29,6 @@ pub record OnTheWay (t₀ : Tables) (qs₀ : List Call) (room : List ℕ) (t : T
   pub answers : sets out k (words_of (answers_to t qs)) ≡ sets room 0 (words_of (answers_to t₀ qs₀))
   pub types : Each ByType t qs → Each ByType t₀ qs₀
 
-pub not-begun : (t : Tables) (qs : List Call) (room : List ℕ) → OnTheWay t qs room t qs room 0
-not-begun t qs room = record { tables = refl; answers = refl; types = λ e. e }
-
 module _ (t₀ : Tables) (qs₀ : List Call) (room : List ℕ) (t : Tables) (out : List ℕ) (k : ℕ) where
   pub one-made : (q : Call) (qs : List Call) → OnTheWay t₀ qs₀ room t (q ∷ qs) out k → ByType t q → {s : Step} {next : List ℕ} → s ≡ made t q
       → next ≡ sets out k (words_of (s.answer ∷ []))
@@ -69,9 +66,6 @@ calls-from ws i inside =
     drop-drop call_words (i * call_words) ws ∙ ap (λ (k : ℕ). drop k ws) five in
     rw (one, in-front ws i inside, rest)
 
-calls-from-first : (ws : List ℕ) → calls_from ws 0 ≡ calls_of ws
-calls-from-first ws = let all : calls_in (length ws) - 0 ≡ calls_in (length ws) = omega arith in rw all
-
 calls_from_last : (ws : List ℕ) (i : ℕ) → calls_in (length ws) ≤ i → calls_from ws i ≡ []
 unfolding first_calls
 calls_from_last ws i past = let none : calls_in (length ws) - i ≡ 0 = omega arith in rw none
@@ -82,15 +76,6 @@ pub record Making (ws : List ℕ) (t₀ : Tables) (room : List ℕ) (i : ℕ) (t
   pub space : length out ≡ length room
   pub sound : Sound t₀ → Sound t
   pub way : Sound t₀ → calls_in (length ws) * answer_words ≤ length room → OnTheWay t₀ (calls_of ws) room t (calls_from ws i) out (i * answer_words)
-
-pub none_made : (ws : List ℕ) (t : Tables) (room : List ℕ) → Making ws t room 0 t room
-none_made ws t room =
-    record {
-      inside = omega arith;
-      space = refl;
-      sound = λ s. s;
-      way = λ _ _. rw (calls-from-first ws) (not-begun t (calls_of ws) room);
-    }
 
 length-put : (out : List ℕ) (i : ℕ) (r : Answer) → length (answer_put out i r) ≡ length out
 unfolding answer_put

@@ -23,6 +23,7 @@ const NO_CALL: u32 = u32::MAX;
 const NO_CODE: u32 = u32::MAX;
 
 // Whether a list of so many words, with room for so many words of answers, is refused.
+#[tactic(auto, unfolding(runs::specs::CallList::bad_list))]
 pub fn is_bad(words: usize, room: usize) -> bool
     ensures { result ≡ bad_list words room }
 {
@@ -31,6 +32,8 @@ pub fn is_bad(words: usize, room: usize) -> bool
 }
 
 // Call i of a list; past its last one a call with no call's number.
+// Stays a call, no `Option`: the clause says `no_call` (specs/CallLists) there.
+#[tactic(auto, unfolding(crate::specs::CallLists::call_at))]
 pub fn call_at(calls: &[u32], i: usize) -> Call
     ensures { result ≡ call_at calls.now i }
 {
@@ -54,6 +57,7 @@ pub fn call_at(calls: &[u32], i: usize) -> Call
 }
 
 // The answer to call i into its three words; no change where there is no room for three.
+#[tactic(auto, unfolding(crate::specs::CallLists::answer_put, runs::specs::CallList::words_of))]
 pub fn put_answer(answers: &mut [u32], i: usize, answer: Answer)
     ensures { answers.new ≡ answer_put answers.old i answer }
 {
@@ -67,6 +71,8 @@ pub fn put_answer(answers: &mut [u32], i: usize, answer: Answer)
 }
 
 // The answer to call i as it stands in the list of answers; past the last one a code that no answer has.
+// Stays an answer, no `Option`: the clause says `no_answer` (specs/CallLists) there.
+#[tactic(auto, unfolding(crate::specs::CallLists::answer_at))]
 pub fn answer_at(answers: &[u32], i: usize) -> Answer
     ensures { result ≡ answer_at answers.now i }
 {
@@ -89,21 +95,12 @@ pub fn answer_at(answers: &[u32], i: usize) -> Answer
 pub fn front<'a>(words: &'a [u32], n: usize) -> &'a [u32]
     ensures { (result.now ≡ take n words.now) × (result.ref_ptr ≡ words.entry.ref_ptr) }
 {
-    if n < words.len() {
-        return &words[..n];
-    }
-    words
+    &words[..n.min(words.len())]
 }
 
 // Where a list ends that begins at a word and has at most `most` of so many words.
 pub fn end_of(at: usize, most: usize, words: usize) -> usize
     ensures { result ≡ min (at + most) words }
 {
-    if words <= at {
-        return words;
-    }
-    if words - at < most {
-        return words;
-    }
-    at + most
+    at.saturating_add(most).min(words)
 }

@@ -8,7 +8,6 @@ use Rattle.rules.specs.Log.{read_in}
 use Rattle.rules.specs.declared.Read.{Read}
 use Rattle.rules.specs.declared.Read.TheVariants.{Record, End, Cut, Length, Version}
 use Rattle.rules.specs.declared.Tables.{Tables}
-use Rattle.rules.specs.contracts.Read as R
 use Rattle.text.specs.Put.{Put}
 use Rattle.text.proofs.Puts.{fits, put-none, put-more}
 use Rattle.call_log.proofs.Records.{record-fits}
@@ -19,11 +18,6 @@ use Rattle.desk_reads.specs.Done.{place_at, read_result, ReadLeaves}
 use Rattle.desk.specs.Done.{come_to, replay_state, progress_of, behind, TurnLeaves}
 use Rattle.desk_parts.proofs.Steps.{part_at, part-whole, part_step}
 use Rattle.desk_parts.proofs.Bounds.{part-bounded}
-
--- ---- what a turn comes to
-pub come-is : (o : ℕ) (r : PartPlace) (held : ℕ) {offset : ℕ} → offset ≡ kept (o + r.at)
-    → record { held = held; offset = offset; count = r.count; len = r.len; ended = r.ended } ≡ come_to o r held
-come-is o r held e = rw e
 
 -- ---- what the records of a part leave
 -- part s, from offset o on, left l: tables t, and its text in front of buffer xs, which is now ys; the rest is not moved yet

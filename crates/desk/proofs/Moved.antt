@@ -1,46 +1,30 @@
--- Bytes moved to the front of a part, one after the other.
-use Rattle.std.proofs.Common.{◌≡◌, ℕ, ◌+◌, ◌-◌, ◌<◌, ◌≤◌, min, List, [], ◌∷◌, ◌++◌, length, get_or, take, drop, set, sym, refl, ap, ◌∙◌, inr, zero-add, add-one, arith, length-drop, length-take, length-take-le, get_or-drop, take_all, get_or-take, take-suc}
-use lib.Seq.{sets, length-sets}
-use Rattle.basics.proofs.Runs.{get_or-sets-out, sets-snoc}
+-- The bytes from a place on, of the first n of a part, copied to its front.
+use Rattle.std.proofs.Common.{◌≡◌, ℕ, ◌+◌, ◌-◌, ◌<◌, ◌≤◌, min, List, [], length, take, drop, sym, refl, ◌∙◌, arith, length-drop, length-take, take_all, ⊎_elim}
+use Rattle.std.proofs.lemmas.List.{drop-take}
+use Rattle.std.proofs.Math.Seq.{paste}
+use lib.Seq.{sets, sets-eq}
+use Rattle.basics.proofs.Laws.{lt-or-le, no_length}
 
--- those from `at` on, of the first n of part xs
-module _ (xs : List ℕ) (at n : ℕ) where
-  -- i of them are moved, and the part is ys
-  pub record Moved (ys : List ℕ) (from i : ℕ) : Type 0 where
-    pub from_is : from ≡ at + i
-    pub below : i ≤ length (drop at (take n xs))
-    pub bytes : ys ≡ sets xs 0 (take i (drop at (take n xs)))
+module _ (xs : List ℕ) (at n : ℕ) {end : ℕ} (end_is : end ≡ min n (length xs)) where
+  rest-length : length (drop at (take n xs)) ≡ end - at
+  rest-length = omega (arith, length-drop at (take n xs), length-take n xs)
 
-  pub moved_none : Moved xs at 0
-  moved_none = record { from_is = omega arith; below = omega arith; bytes = refl }
+  -- there are none
+  pub moved_none : end ≤ at → (xs ≡ sets xs 0 (drop at (take n xs))) × (0 ≡ length (drop at (take n xs)))
+  moved_none h =
+      let e : drop at (take n xs) ≡ [] = no_length (drop at (take n xs)) (omega (arith, rest-length)) in rw e (refl, refl)
 
-  pub moved-size : {ys : List ℕ} {from i : ℕ} → Moved ys from i → length ys ≡ length xs
-  moved-size {i = i} m = ap length m.bytes ∙ length-sets xs 0 (take i (drop at (take n xs)))
+  -- they are copied
+  first-are : take n xs ≡ take end xs
+  first-are =
+      ⊎_elim
+      (λ (h : n < length xs). let e : end ≡ n = omega arith in rw e)
+      (λ (h : length xs ≤ n). take_all n xs h ∙ sym (take_all end xs (omega arith)))
+      (lt-or-le n (length xs))
 
-  module _ {end : ℕ} (end_is : end ≡ min n (length xs)) where
-    rest-length : length (drop at (take n xs)) ≡ end - at
-    rest-length = omega (arith, length-drop at (take n xs), length-take n xs)
-
-    module _ {ys : List ℕ} {from i : ℕ} (m : Moved ys from i) where
-      pub moved_more : from < end → Moved (set ys i (get_or ys from 0)) (from + 1) (i + 1)
-      moved_more h =
-          let l : i < length (drop at (take n xs)) = omega (arith, m.from_is, rest-length) in
-          let k : length (take i (drop at (take n xs))) ≡ i = length-take-le i (drop at (take n xs)) (omega arith) in
-          let there : get_or ys from 0 ≡ get_or (drop at (take n xs)) i 0 =
-          ap (λ (l : List ℕ). get_or l from 0) m.bytes
-          ∙ get_or-sets-out (take i (drop at (take n xs))) xs 0 from (inr (omega (arith, k, m.from_is)))
-          ∙ sym (get_or-drop at (take n xs) i 0 ∙ rw (← m.from_is) (get_or-take n xs from 0 (omega arith))) in
-          let more : take (i + 1) (drop at (take n xs)) ≡ take i (drop at (take n xs)) ++ (get_or (drop at (take n xs)) i 0 ∷ []) =
-          rw add-one (take-suc (drop at (take n xs)) i 0 l) in
-          record {
-            from_is = omega (arith, m.from_is);
-            below = omega arith;
-            bytes =
-                rw (there, more, m.bytes)
-                (rw zero-add at (sets-snoc (take i (drop at (take n xs))) xs 0 i (get_or (drop at (take n xs)) i 0) k));
-          }
-
-      pub moved_all : end ≤ from → (ys ≡ sets xs 0 (drop at (take n xs))) × (i ≡ length (drop at (take n xs)))
-      moved_all h =
-          let l : length (drop at (take n xs)) ≤ i = omega (arith, m.from_is, rest-length) in
-          (m.bytes ∙ rw (take_all i (drop at (take n xs)) l), omega (arith, m.below))
+  pub moved : at < end → (paste xs 0 (drop at xs) (end - at) ≡ sets xs 0 (drop at (take n xs))) × (end - at ≡ length (drop at (take n xs)))
+  moved h =
+      let whole : at + (end - at) ≡ end = omega arith in
+      let same : drop at (take n xs) ≡ take (end - at) (drop at xs) = rw first-are (rw whole at (drop-take at (end - at) xs)) in
+      let stored = sets-eq (drop at (take n xs)) xs 0 (omega (arith, rest-length)) in
+      (rw (stored, rest-length, same) refl, sym rest-length)

@@ -1,6 +1,6 @@
 -- The step of a replay, and what one read leaves by it, by what was found.
-use Rattle.std.proofs.Common.{◌≡◌, ℕ, ◌+◌, true, false, List, [], ◌∷◌, ◌++◌, length, sym, refl, ap, ◌∙◌}
-use Rattle.rules.specs.Log.{read_in, argument_bytes, handed_out, argument, move_to}
+use Rattle.std.proofs.Common.{◌≡◌, ℕ, ◌+◌, true, false, List, ◌++◌, length, sym, refl, ap, ◌∙◌}
+use Rattle.rules.specs.Log.{read_in, argument_bytes, handed_out, move_to}
 use Rattle.rules.specs.Text.{line_text, line_feed}
 use Rattle.rules.specs.Step.{step, step_of}
 use Rattle.rules.specs.Replay.{record_call}
@@ -21,17 +21,6 @@ use Rattle.desk_reads.specs.declared.PartPlace.{PartPlace}
 use Rattle.desk_reads.specs.declared.Replayed.{Replayed}
 use Rattle.desk_reads.specs.Next.{call_in, replayed_to, ReplayStep, replay_step, step_without, next_step}
 use Rattle.desk_reads.specs.Done.{place_at, read_result, last_result, ReadLeaves}
-
--- ---- a record's call, and the end: the parts of each struct
-pub asked_is : (s : List ℕ) (start number : ℕ) {bytes : List ℕ} {a b c d : ℕ} → bytes ≡ handed_out s start
-    → a ≡ argument bytes 0 → b ≡ argument bytes 1 → c ≡ argument bytes 2 → d ≡ argument bytes 3
-    → record { number = number; a = a; b = b; c = c; d = d } ≡ call_in (handed_out s start) number
-asked_is s start number e p q r u = rw (← e, p, q, r, u)
-
-pub ended_is : (s : List ℕ) (f : Read) (o : ℕ) (p : PartPlace) {xs ys : List ℕ} {len : ℕ} {r : PartPlace}
-    → Put xs p.len (last_text f o p.count) ys len → r ≡ place_at (length s) p.count len true
-    → Put xs p.len (last_text f o p.count) ys r.len × (r ≡ place_at (length s) p.count r.len true)
-ended_is s f o p q e = rw e (q, refl)
 
 -- ---- the step, by what was found
 -- what was found is no record

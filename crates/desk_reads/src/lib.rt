@@ -10,20 +10,16 @@ ghost use Rattle.rules.specs.Log.{read_in, handed_out};
 ghost use Rattle.rules.specs.Text.{line_text, line_feed};
 ghost use Rattle.text.specs.Put.{Put};
 ghost use Rattle.desk_parts.specs.Part.{version_by, begun_state, last_text};
-ghost use Rattle.kernel.specs.Safe.{Safe};
 ghost use Rattle.desk_reads.specs.Next.{call_in, replayed_to, replay_step, next_step};
 ghost use Rattle.desk_reads.specs.Done.{place_at, read_result, ReadLeaves};
-ghost use Rattle.rules.specs.Tables.{tables};
 
-use kernel::Said;
-use rules::{
-    Answer, Call, Clocks, Events, Heap, Lines, Mailboxes, Read, Semaphores, State, Swis, Tasks,
-    Thread,
-};
+use kernel::{SafeTables, Said};
+use rules::{Answer, Call, Read, State, Thread};
 use text::Text;
 
 // No. 14: 'The first record decides for the whole log'. As long as no record was read, these bytes
 // are the log's beginning: if its version is there and is 2, the tables get 32 levels.
+#[tactic(auto, unfolding(desk_parts::specs::Part::begun_state))]
 pub fn begin(state: &mut State, log: &[u8], count: u64)
     ensures { state.new ≡ begun_state count log.now state.old }
 {
@@ -33,6 +29,7 @@ pub fn begin(state: &mut State, log: &[u8], count: u64)
 }
 
 // The version that a record of the log must have, by the levels of its tables.
+#[tactic(auto, unfolding(desk_parts::specs::Part::version_by))]
 pub fn version_by(state: &State) -> u8
     ensures { result ≡ version_by state.now }
 {
@@ -48,7 +45,7 @@ fn record_call(log: &[u8], start: usize, number: u8) -> Call
 {
     let bytes = call_log::reader::read_arguments(log, start);
     Call {
-        number: number as u32,
+        number: u32::from(number),
         a: call_log::argument(bytes, 0),
         b: call_log::argument(bytes, 1),
         c: call_log::argument(bytes, 2),
@@ -58,6 +55,7 @@ fn record_call(log: &[u8], start: usize, number: u8) -> Call
 
 // What one read of a log comes to: what was found, the place after it, the call, its answer and the thread that runs then. Where no record stands
 // nothing is called: the place stays, and the call and its answer are all 0, the thread T0.
+// Stays one struct, with no `Option` for the call: `replayed_to` and `step_without` (specs/Next) say these five parts.
 #[derive(Clone, Copy)]
 pub struct Replayed {
     pub found: Read,
@@ -101,34 +99,17 @@ fn not_called(found: Read, at: usize) -> Replayed
 }
 
 // One step of a replay: what stands at a place of a log, or of a part of a log, with the version that the tables tell; a record's call is made.
-pub fn next(
-    tasks: &mut Tasks,
-    lines: &mut Lines,
-    semaphores: &mut Semaphores,
-    events: &mut Events,
-    mailboxes: &mut Mailboxes,
-    swis: &mut Swis,
-    clocks: &mut Clocks,
-    heap: &mut Heap,
-    state: &mut State,
-    log: &[u8],
-    at: usize,
-) -> Replayed
-    requires { Safe (tables tasks.old lines.old semaphores.old events.old mailboxes.old swis.old clocks.old heap.old state.old) }
-    ensures replayed { replay_step result (tables tasks.new lines.new semaphores.new events.new mailboxes.new swis.new clocks.new heap.new state.new)
-        ≡ next_step (read_in (version_by state.old) log.now at) log.now at
-        (tables tasks.old lines.old semaphores.old events.old mailboxes.old swis.old clocks.old heap.old state.old) }
-    ensures safe { Safe (tables tasks.new lines.new semaphores.new events.new mailboxes.new swis.new clocks.new heap.new state.new) }
+pub fn next(t: &mut SafeTables, log: &[u8], at: usize) -> Replayed
+    ensures { replay_step result t.new
+        ≡ next_step (read_in (version_by t.old.state) log.now at) log.now at t.old }
 {
-    let step = call_log::reader::step_in(log, at, version_by(state));
+    let step = call_log::reader::step_in(log, at, version_by(&t.tables.state));
     let found = step.found;
     let Read::Record { number, start } = found else {
         return not_called(found, step.at);
     };
     let asked = record_call(log, start, number);
-    let said = kernel::step(
-        tasks, lines, semaphores, events, mailboxes, swis, clocks, heap, state, asked,
-    );
+    let said = t.step(asked);
     called(found, step.at, asked, said)
 }
 
@@ -142,6 +123,7 @@ fn put_replayed(out: &mut Text, at: usize, n: u64, read: Replayed) -> usize
 }
 
 // Where the replay of a part is: the place of the next read, how many records there were, how long the text is, and whether it has ended.
+// `ended` stays a flag: the rest stands where it is set too, and `ReadLeaves` (specs/Done) says both.
 #[derive(Clone, Copy)]
 pub struct PartPlace {
     pub at: usize,
@@ -172,39 +154,22 @@ fn ended_at(log: &[u8], found: Read, offset: u64, ran: PartPlace, out: &mut Text
 
 // One read of a part that starts at an offset of the log: a record's call and its line, or the last line.
 pub fn next_line(
-    tasks: &mut Tasks,
-    lines: &mut Lines,
-    semaphores: &mut Semaphores,
-    events: &mut Events,
-    mailboxes: &mut Mailboxes,
-    swis: &mut Swis,
-    clocks: &mut Clocks,
-    heap: &mut Heap,
-    state: &mut State,
+    t: &mut SafeTables,
     log: &[u8],
     offset: u64,
     ran: PartPlace,
     out: &mut Text,
 ) -> PartPlace
-    requires { Safe (tables tasks.old lines.old semaphores.old events.old mailboxes.old swis.old clocks.old heap.old state.old) }
-    ensures read_leaves { ReadLeaves
-        (read_result (read_in (version_by state.old) log.now ran.at) log.now offset ran.count
-        (tables tasks.old lines.old semaphores.old events.old mailboxes.old swis.old clocks.old heap.old state.old))
-        (tables tasks.new lines.new semaphores.new events.new mailboxes.new swis.new clocks.new heap.new state.new) out.old ran.len out.new result }
-    ensures safe { Safe (tables tasks.new lines.new semaphores.new events.new mailboxes.new swis.new clocks.new heap.new state.new) }
+    ensures { ReadLeaves
+        (read_result (read_in (version_by t.old.state) log.now ran.at) log.now offset ran.count t.old)
+        t.new out.old ran.len out.new result }
 {
-    let read = next(
-        tasks, lines, semaphores, events, mailboxes, swis, clocks, heap, state, log, ran.at,
-    );
+    let read = next(t, log, ran.at);
     let found = read.found;
-    let Read::Record {
-        number: _,
-        start: _,
-    } = found
-    else {
+    let Read::Record { .. } = found else {
         return ended_at(log, found, offset, ran, out);
     };
-    let n = std::num::wrapping_add_u64(ran.count, 1);
+    let n = ran.count.wrapping_add(1);
     let len = put_replayed(out, ran.len, n, read);
     place_at(read.at, n, len, false)
 }

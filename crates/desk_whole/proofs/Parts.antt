@@ -8,7 +8,7 @@ use native.Mathlib.Nat.{sub-zero, zero-add}
 use native.Mathlib.Omega.{arith}
 use lib.Dec.{eqb}
 use lib.ListN.{length, take, drop, length-take, length-drop, take-append-drop}
-use lib.Seq.{sets-eq, length-sets, length-take-le, take_at, drop_at, take_all, drop-drop}
+use lib.Seq.{sets-eq, length-sets, length-take-le, take_at, drop_at, take_all}
 use borrow.Author.Tests.{eq-eqb, ne_eqb}
 use Rattle.basics.specs.Lists.{bit}
 use Rattle.basics.proofs.Laws.{same?, lt-or-le, no_length}
@@ -23,24 +23,6 @@ use Rattle.desk_parts.proofs.Whole.{parts-are-whole}
 use Rattle.desk.specs.declared.Progress.{Progress}
 use Rattle.desk.specs.Done.{replay_state, progress_of, behind, TurnLeaves}
 use Rattle.desk_whole.specs.Printed.{Printed}
-
--- ---- the log from a place on
-pub rest-is : (w : List ℕ) (from : ℕ) → take (length w - from) (drop from w) ≡ drop from w
-rest-is w from = take_all (length w - from) (drop from w) (omega (arith, length-drop from w))
-
-pub nothing-follows : (w : List ℕ) (from : ℕ) → length w ≤ from → take (length w - length w) (drop (length w) w) ≡ drop from w
-nothing-follows w from h =
-    rest-is w (length w)
-    ∙ no_length (drop (length w) w) (omega (arith, length-drop (length w) w))
-    ∙ sym (no_length (drop from w) (omega (arith, length-drop from w)))
-
--- ---- bytes put behind those that wait in a part
-pub put-past : {size : ℕ} {xs : List ℕ} {at : ℕ} {t ys : List ℕ} {r : ℕ} → PutIn size xs at t ys r → at ≤ r
-put-past p = omega (arith, p.end)
-
-pub put-behind : {size : ℕ} {xs : List ℕ} {at : ℕ} {s t ys : List ℕ} {r : ℕ} → length xs ≡ size → s ≡ t → PutIn (length xs) xs at s ys r
-    → PutIn size xs at t ys (at + (r - at))
-put-behind {at = at} {r = r} e f p = let g : at + (r - at) ≡ r = omega (arith, p.end) in rw (← e, ← f, g) p
 
 -- what was put behind the first `at` bytes: they stay, and so many more stand behind them
 module _ (xs : List ℕ) (at : ℕ) (t ys : List ℕ) (more : ℕ) (p : PutIn 2560 xs at t ys (at + more)) (size : length xs ≡ 2560) (room : at ≤ 2560) where
@@ -82,18 +64,17 @@ bit-most true = omega arith
 bit-most false = omega arith
 
 module _ (w xs : List ℕ) where
-  -- the texts so far end at `at` in buffer ys; they, and what is written for what follows from place `from` on, are all
-  pub record Sofar (t : Tables) (ps ts : List ℕ) (p : Progress) (from at : ℕ) (ys : List ℕ) : Type 0 where
+  -- the texts so far end at `at` in buffer ys; they, and what is written for the rest, are all
+  pub record Sofar (t : Tables) (ps ts : List ℕ) (p : Progress) (rest : List ℕ) (at : ℕ) (ys : List ℕ) : Type 0 where
     pub text : List ℕ
     pub put : PutIn (length xs) xs 0 text ys at
     pub size : length ps ≡ 2560
     pub few : p.held < 20
-    pub inside : from ≤ length w
-    pub whole : (cs : List (List ℕ)) → flatten cs ≡ drop from w → replay_text w ≡ text ++ if p.ended [] (written cs (replay_state t ps ts p))
+    pub whole : (cs : List (List ℕ)) → flatten cs ≡ rest → replay_text w ≡ text ++ if p.ended [] (written cs (replay_state t ps ts p))
 
   -- nothing is read yet
   pub sofar-none : {t : Tables} (ps ts : List ℕ) {p : Progress} → t ≡ fresh → length ps ≡ 2560 → p ≡ progress_of start → length w < 2 ^ 64
-      → Sofar t ps ts p 0 0 xs
+      → Sofar t ps ts p w 0 xs
   sofar-none ps ts e size begun small =
       rw (e, begun)
       (record {
@@ -101,58 +82,47 @@ module _ (w xs : List ℕ) where
         put = put-none (length xs) xs 0;
         size = size;
         few = omega arith;
-        inside = omega arith;
         whole = λ cs f. let all : length (flatten cs) < 2 ^ 64 = rw f small in sym (parts-are-whole cs all ∙ rw f);
       })
 
-  module _ {t : Tables} {ps ts : List ℕ} {p : Progress} {from at : ℕ} {ys : List ℕ} (v : Sofar t ps ts p from at ys) where
+  module _ {t : Tables} {ps ts : List ℕ} {p : Progress} {rest : List ℕ} {at : ℕ} {ys : List ℕ} (v : Sofar t ps ts p rest at ys) where
     -- the buffer is as long as it was
     pub sofar-size : length ys ≡ length xs
     sofar-size = ap length v.put.bytes ∙ length-sets xs 0 (fitting (length xs) 0 v.text)
 
     -- one part more
-    module _ (on : p.ended ≡ false) (more : ℕ) {qs : List ℕ} (n : PutIn 2560 ps p.held (drop from w) qs (p.held + more)) where
+    module _ (on : p.ended ≡ false) (more : ℕ) {qs : List ℕ} (n : PutIn 2560 ps p.held rest qs (p.held + more)) where
       room : p.held ≤ 2560
       room = omega (arith, v.few)
 
       -- what the turn leaves
       abbrev next : ReplayState
-      next = turn (eqb more 0) (take more (drop from w)) (replay_state t ps ts p)
+      next = turn (eqb more 0) (take more rest) (replay_state t ps ts p)
 
       next-is : turn (eqb more 0) (behind qs p more) (replay_state t qs ts p) ≡ next
-      next-is =
-          rw (
-            stay ps p.held (drop from w) qs more n v.size room,
-            came-is ps p.held (drop from w) qs more n v.size room,
-          )
+      next-is = rw (stay ps p.held rest qs more n v.size room, came-is ps p.held rest qs more n v.size room)
 
-      bounded : Bounded (eqb more 0) (length (take p.held ps ++ take more (drop from w)) / 20) next
+      bounded : Bounded (eqb more 0) (length (take p.held ps ++ take more rest) / 20) next
       bounded =
-          let s : List ℕ = take p.held ps ++ take more (drop from w) in
+          let s : List ℕ = take p.held ps ++ take more rest in
           part-bounded (eqb more 0) s p.offset p.count (begun p.count s t)
 
-      some : more ≤ length w - from
-      some = omega (arith, more-few ps p.held (drop from w) qs more n v.size room, length-drop from w)
-
-      pub further : from + more ≤ length w
-      further = omega (arith, some, v.inside)
+      pub some : more ≤ length rest
+      some = more-few ps p.held rest qs more n v.size room
 
       -- a part where something follows
-      part-whole : (more ≡ 0 → ⊥) → (cs : List (List ℕ)) → flatten cs ≡ drop (from + more) w
+      part-whole : (more ≡ 0 → ⊥) → (cs : List (List ℕ)) → flatten cs ≡ drop more rest
           → replay_text w ≡ (v.text ++ next.text) ++ if next.ended [] (written cs next)
       unfolding written flatten
       part-whole h cs e =
           let last : eqb more 0 ≡ false = ne_eqb more 0 h in
-          let bytes : take more (drop from w) ++ flatten cs ≡ drop from w =
-          rw (e, ← drop-drop more from w) (take-append-drop more (drop from w)) in
-          v.whole (take more (drop from w) ∷ cs) bytes ∙ rw (on, last) (simp append_assoc)
+          let bytes : take more rest ++ flatten cs ≡ rest = rw e (take-append-drop more rest) in
+          v.whole (take more rest ∷ cs) bytes ∙ rw (on, last) (simp append_assoc)
 
       -- the part that nothing follows
-      nothing : more ≡ 0 → drop from w ≡ []
+      nothing : more ≡ 0 → rest ≡ []
       nothing e =
-          no_length
-          (drop from w)
-          (omega (arith, more-is ps p.held (drop from w) qs more n v.size room, length-take (2560 - p.held) (drop from w), v.few))
+          no_length rest (omega (arith, more-is ps p.held rest qs more n v.size room, length-take (2560 - p.held) rest, v.few))
 
       last-whole : more ≡ 0 → (cs : List (List ℕ))
           → replay_text w ≡ (v.text ++ next.text) ++ if next.ended [] (written cs next)
@@ -174,14 +144,14 @@ module _ (w xs : List ℕ) where
         text-is = ap (λ (l : ReplayState). l.text) turned.left
 
         -- less is left
-        pub sofar-less : length w - (from + more) + bit (not q.ended) < length w - from + bit (not p.ended)
-        sofar-less =
+        pub sofar-less : {left : List ℕ} → left ≡ drop more rest → length left + bit (not q.ended) < length rest + bit (not p.ended)
+        sofar-less l =
             ⊎_elim
             (λ (e : more ≡ 0).
             let ends : q.ended ≡ true =
             ap (λ (r : Progress). r.ended) turned.progress ∙ bounded.ends (eq-eqb more 0 e) in
-            rw (on, ends) (omega arith))
-            (λ (h : more ≡ 0 → ⊥). rw on (omega (arith, further, bit-most (not q.ended))))
+            rw (l, on, ends) (omega (arith, length-drop more rest)))
+            (λ (h : more ≡ 0 → ⊥). rw (l, on) (omega (arith, some, length-drop more rest, bit-most (not q.ended))))
             (same? more 0)
 
         module _ {zs : List ℕ} {at' : ℕ} (m : PutIn (length ys) ys at (take q.len ts') zs at') where
@@ -189,17 +159,17 @@ module _ (w xs : List ℕ) where
           put_next =
               put-more v.put (rw (sofar-size, text-is) at m)
 
-          pub sofar-next : Sofar u qs' ts' q (from + more) at' zs
-          sofar-next =
+          pub sofar-next : {left : List ℕ} → left ≡ drop more rest → Sofar u qs' ts' q left at' zs
+          sofar-next l =
               record {
                 text = v.text ++ next.text;
                 put = put_next;
                 size =
                     ap length turned.part ∙ length-sets qs 0 next.rest ∙ ap length n.bytes
-                    ∙ length-sets ps p.held (fitting 2560 p.held (drop from w)) ∙ v.size;
+                    ∙ length-sets ps p.held (fitting 2560 p.held rest) ∙ v.size;
                 few = few-wait;
-                inside = further;
-                whole = λ cs e.
+                whole = λ cs f.
+                    let e : flatten cs ≡ drop more rest = f ∙ l in
                     rw (turned.left, ap (λ (r : Progress). r.ended) turned.progress)
                     (⊎_elim (λ (z : more ≡ 0). last-whole z cs) (λ h. part-whole h cs e) (same? more 0));
               }
@@ -208,7 +178,7 @@ module _ (w xs : List ℕ) where
     pub sofar-all : p.ended ≡ true → Printed w xs ys at
     unfolding fitting flatten
     sofar-all over =
-        let all : replay_text w ≡ v.text = v.whole (drop from w ∷ []) (append-nil (drop from w)) ∙ rw over (append-nil v.text) in
+        let all : replay_text w ≡ v.text = v.whole (rest ∷ []) (append-nil rest) ∙ rw over (append-nil v.text) in
         let z : length xs - 0 ≡ length xs = sub-zero (length xs) in
         record {
           bytes = v.put.bytes ∙ rw (z, all);

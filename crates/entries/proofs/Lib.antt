@@ -1,4 +1,3 @@
 pub mod Starts
-pub mod Threads
 pub mod Lists
 pub mod Tested

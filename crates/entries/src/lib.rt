@@ -5,6 +5,7 @@
 ghost use Rattle.std.specs.Prelude.{◌≡◌, ◌*◌, ◌≤◌, length};
 ghost use Rattle.rules.specs.Answer.{answer};
 ghost use Rattle.rules.specs.Fresh.{made_fresh};
+ghost use Rattle.rules.specs.Refusals.{code};
 ghost use Rattle.rules.specs.Sound.{Sound};
 ghost use Rattle.rules.specs.Step.{step_of};
 ghost use Rattle.rules.specs.declared.Thread.TheVariants.{Task};
@@ -13,14 +14,10 @@ ghost use Rattle.demands.specs.One.{thread_of};
 ghost use Rattle.demands.specs.Promised.{Promised};
 ghost use Rattle.kernel.specs.Safe.{Safe};
 ghost use Rattle.call_lists.specs.Made.{ListMade};
-ghost use Rattle.rules.specs.Tables.{tables};
 ghost use Rattle.entries.specs.InPlace.{PromisedInPlace, ListPromisedInPlace};
 
 use kernel::Said;
-use rules::{
-    Call, Clocks, Events, Heap, Lines, Mailboxes, Semaphores, State, Step, Swis, Tables, Tasks,
-    Thread,
-};
+use rules::{Answer, Call, Refusal, Step, Tables, Thread};
 
 // Fresh tables with 16 levels or 32: they are sound. No. 14: 'fresh tables asked for with other levels are 4 and come with 16'.
 pub fn fresh(levels: u32) -> Step
@@ -36,17 +33,17 @@ pub fn fresh(levels: u32) -> Step
     }
     Step {
         tables: tables::fresh(rules::numbers::FEW_LEVELS),
-        answer: answers::refused(4),
+        answer: Answer::from(Refusal::BadArgument),
         thread: Thread::Task(0),
     }
 }
 
-// What is said by a code alone, of a thread that runs.
-fn with_code(code: u32, thread: Thread) -> Said
-    ensures { (result.answer ≡ answer code 0 0) × (result.thread ≡ thread) }
+// What is said of a refusal, with the thread that runs.
+fn refused(refusal: Refusal, thread: Thread) -> Said
+    ensures { (result.answer ≡ answer (code refusal) 0 0) × (result.thread ≡ thread) }
 {
     Said {
-        answer: answers::refused(code),
+        answer: Answer::from(refusal),
         thread,
     }
 }
@@ -55,120 +52,50 @@ fn with_code(code: u32, thread: Thread) -> Said
 fn unsound() -> Said
     ensures { (result.answer ≡ answer 10 0 0) × (result.thread ≡ Task 0) }
 {
-    with_code(10, Thread::Task(0))
+    refused(Refusal::Unsound, Thread::Task(0))
 }
 
 // One call on lent tables: they are tested first, and nothing changes where they are not sound.
-pub fn call_in_place(
-    tasks: &mut Tasks,
-    lines: &mut Lines,
-    semaphores: &mut Semaphores,
-    events: &mut Events,
-    mailboxes: &mut Mailboxes,
-    swis: &mut Swis,
-    clocks: &mut Clocks,
-    heap: &mut Heap,
-    state: &mut State,
-    q: Call,
-) -> Said
-    ensures { PromisedInPlace (tables tasks.old lines.old semaphores.old events.old mailboxes.old swis.old clocks.old heap.old state.old) q
-        (tables tasks.new lines.new semaphores.new events.new mailboxes.new swis.new clocks.new heap.new state.new) result }
+pub fn call_in_place(t: &mut Tables, q: Call) -> Said
+    ensures { PromisedInPlace t.old q t.new result }
 {
-    if !sound::is_sound(
-        tasks, lines, semaphores, events, mailboxes, swis, clocks, heap, state,
-    ) {
+    if !sound::is_sound(t) {
         return unsound();
     }
-    kernel::step(
-        tasks, lines, semaphores, events, mailboxes, swis, clocks, heap, state, q,
-    )
+    kernel::step(t, q)
 }
 
 // The calls of a list one after the other, refused ones included, each with its answer.
-fn make_calls(
-    tasks: &mut Tasks,
-    lines: &mut Lines,
-    semaphores: &mut Semaphores,
-    events: &mut Events,
-    mailboxes: &mut Mailboxes,
-    swis: &mut Swis,
-    clocks: &mut Clocks,
-    heap: &mut Heap,
-    state: &mut State,
-    calls: &[u32],
-    answers: &mut [u32],
-)
-    ensures { Sound (tables tasks.old lines.old semaphores.old events.old mailboxes.old swis.old clocks.old heap.old state.old)
+fn make_calls(t: &mut Tables, calls: &[u32], answers: &mut [u32])
+    ensures { Sound t.old
         → calls_in (length calls.now) * answer_words ≤ length answers.old
-        → ListMade (tables tasks.old lines.old semaphores.old events.old mailboxes.old swis.old clocks.old heap.old state.old) (calls_of calls.now) answers.old
-        (tables tasks.new lines.new semaphores.new events.new mailboxes.new swis.new clocks.new heap.new state.new) answers.new }
+        → ListMade t.old (calls_of calls.now) answers.old t.new answers.new }
 {
-    let n = calls.len() / call_lists::CALL_WORDS;
-    let mut i = 0;
-    while i < n {
-        let said = kernel::step(
-            tasks,
-            lines,
-            semaphores,
-            events,
-            mailboxes,
-            swis,
-            clocks,
-            heap,
-            state,
-            call_lists::call_at(calls, i),
-        );
+    for i in 0..calls.len() / call_lists::CALL_WORDS {
+        let said = kernel::step(t, call_lists::call_at(calls, i));
         call_lists::put_answer(answers, i, said.answer);
-        i += 1;
     }
 }
 
 // Many calls at once on lent tables, which are tested once: up to 256 calls, five words to a call, and three words for the answer to each (request No. 4).
 // Code 10 where they are not sound, then code 4 where the list is bad; nothing is done then.
-pub fn call_list(
-    tasks: &mut Tasks,
-    lines: &mut Lines,
-    semaphores: &mut Semaphores,
-    events: &mut Events,
-    mailboxes: &mut Mailboxes,
-    swis: &mut Swis,
-    clocks: &mut Clocks,
-    heap: &mut Heap,
-    state: &mut State,
-    calls: &[u32],
-    answers: &mut [u32],
-) -> Said
-    ensures { ListPromisedInPlace (tables tasks.old lines.old semaphores.old events.old mailboxes.old swis.old clocks.old heap.old state.old) calls.now answers.old
-        (tables tasks.new lines.new semaphores.new events.new mailboxes.new swis.new clocks.new heap.new state.new) answers.new result }
+pub fn call_list(t: &mut Tables, calls: &[u32], answers: &mut [u32]) -> Said
+    ensures { ListPromisedInPlace t.old calls.now answers.old t.new answers.new result }
 {
-    let sound = sound::is_sound(
-        tasks, lines, semaphores, events, mailboxes, swis, clocks, heap, state,
-    );
+    let sound = sound::is_sound(t);
     let bad = call_lists::is_bad(calls.len(), answers.len());
-    let running = dispatch::running(lines, state);
+    let running = dispatch::running(&t.lines, &t.state);
     if !sound {
         return unsound();
     }
     if bad {
-        return with_code(4, running);
+        return refused(Refusal::BadArgument, running);
     }
-    make_calls(
-        tasks, lines, semaphores, events, mailboxes, swis, clocks, heap, state, calls, answers,
-    );
-    let last = dispatch::running(lines, state);
-    with_code(0, last)
-}
-
-// The tables, and what was said.
-fn stepped(tables: Tables, said: Said) -> Step
-    ensures { result ≡ step_of tables said.answer said.thread }
-{
-    let answer = said.answer;
-    let thread = said.thread;
-    Step {
-        tables,
-        answer,
-        thread,
+    make_calls(t, calls, answers);
+    let last = dispatch::running(&t.lines, &t.state);
+    Said {
+        answer: answers::accepted(rules::numbers::DONE, 0),
+        thread: last,
     }
 }
 
@@ -176,59 +103,21 @@ fn stepped(tables: Tables, said: Said) -> Step
 pub fn call(t: Tables, q: Call) -> Step
     ensures { Promised t q result }
 {
-    let mut tasks = t.tasks;
-    let mut lines = t.lines;
-    let mut semaphores = t.semaphores;
-    let mut events = t.events;
-    let mut mailboxes = t.mailboxes;
-    let mut swis = t.swis;
-    let mut clocks = t.clocks;
-    let mut heap = t.heap;
-    let mut state = t.state;
-    let said = call_in_place(
-        &mut tasks,
-        &mut lines,
-        &mut semaphores,
-        &mut events,
-        &mut mailboxes,
-        &mut swis,
-        &mut clocks,
-        &mut heap,
-        &mut state,
-        q,
-    );
-    let tables = Tables {
-        tasks,
-        lines,
-        semaphores,
-        events,
-        mailboxes,
-        swis,
-        clocks,
-        heap,
-        state,
-    };
-    stepped(tables, said)
+    let mut tables = t;
+    let said = call_in_place(&mut tables, q);
+    Step {
+        tables,
+        answer: said.answer,
+        thread: said.thread,
+    }
 }
 
 // The running thread of lent tables: T0 where they are not sound.
-pub fn thread(
-    tasks: &Tasks,
-    lines: &Lines,
-    semaphores: &Semaphores,
-    events: &Events,
-    mailboxes: &Mailboxes,
-    swis: &Swis,
-    clocks: &Clocks,
-    heap: &Heap,
-    state: &State,
-) -> Thread
-    ensures { result ≡ thread_of (tables tasks.now lines.now semaphores.now events.now mailboxes.now swis.now clocks.now heap.now state.now) }
+pub fn thread(t: &Tables) -> Thread
+    ensures { result ≡ thread_of t.now }
 {
-    if sound::is_sound(
-        tasks, lines, semaphores, events, mailboxes, swis, clocks, heap, state,
-    ) {
-        return dispatch::running(lines, state);
+    if sound::is_sound(t) {
+        return dispatch::running(&t.lines, &t.state);
     }
     Thread::Task(0)
 }
@@ -237,24 +126,5 @@ pub fn thread(
 pub fn thread_of(t: Tables) -> Thread
     ensures { result ≡ thread_of t }
 {
-    let tasks = t.tasks;
-    let lines = t.lines;
-    let semaphores = t.semaphores;
-    let events = t.events;
-    let mailboxes = t.mailboxes;
-    let swis = t.swis;
-    let clocks = t.clocks;
-    let heap = t.heap;
-    let state = t.state;
-    thread(
-        &tasks,
-        &lines,
-        &semaphores,
-        &events,
-        &mailboxes,
-        &swis,
-        &clocks,
-        &heap,
-        &state,
-    )
+    thread(&t)
 }

@@ -1,7 +1,6 @@
 -- Each call keeps sound tables sound, by demand 2.
 use Prim.Native.Nat.{ℕ}
 use mathlib.Core.Path.{◌≡◌, sym, subst, ◌∙◌}
-use mathlib.Core.Bool.{true}
 use Rattle.rules.specs.Tables.{Typed}
 use Rattle.rules.specs.Sound.{Sound, sound}
 use Rattle.rules.specs.Step.{step, call}

@@ -5,16 +5,16 @@
 pub mod ranges;
 
 ghost use Rattle.std.specs.Prelude.{◌≡◌};
+ghost use Rattle.rules.specs.Refusals.{answer_said};
 ghost use Rattle.rules.specs.Sound.{Sound};
-ghost use Rattle.rules.specs.Step.{step_of};
+ghost use Rattle.rules.specs.Step.{step, step_of};
 ghost use Rattle.kernel.specs.Quick.{quick_step};
-ghost use Rattle.kernel.specs.Safe.{Stepped};
-ghost use Rattle.rules.specs.Answer.{Words};
-ghost use Rattle.rules.specs.Tables.{tables};
+ghost use Rattle.kernel.specs.Safe.{Safe, Stepped};
+ghost use Rattle.rules.specs.Answer.{Words, ◌by◌};
+ghost use Rattle.rules.specs.declared.Tables.{Tables};
 
-use rules::{
-    Answer, Call, Clocks, Events, Heap, Lines, Mailboxes, Semaphores, State, Swis, Tasks, Thread,
-};
+use rules::{Answer, Call, Refusal, Tables, Thread};
+use std::marker::Model;
 
 // What a call on lent tables answers: the tables are in place.
 #[derive(Clone, Copy)]
@@ -23,48 +23,61 @@ pub struct Said {
     pub thread: Thread,
 }
 
+// Tables that are safe: their arrays have their types' lengths, and they are sound. Who holds them makes calls with no test.
+#[derive(Drop)]
+pub struct SafeTables {
+    pub tables: Tables,
+}
+
+impl Model for SafeTables {
+    ghost Value = { Tables };
+
+    ghost view = { λ s. s.tables };
+
+    ghost invariant = { λ s. Safe s.tables };
+}
+
+impl SafeTables {
+    // One call in place: it is 01's step, and leaves safe tables.
+    pub fn step(&mut self, asked: Call) -> Said
+        ensures { step_of self.new result.answer result.thread ≡ step self.old asked.number by asked }
+    {
+        step(&mut self.tables, asked)
+    }
+}
+
 // A call's arguments are 32-bit words, by their types.
 fn words(asked: Call)
     ensures { Words asked }
 {}
 
+// The answer to a call, whether it was accepted or refused.
+fn answer_to(called: Result<Answer, Refusal>) -> Answer
+    ensures { result ≡ answer_said called }
+{
+    match called {
+        Ok(answer) => answer,
+        Err(refusal) => Answer::from(refusal),
+    }
+}
+
 // One call in place, with no test of the tables. On sound ones it is 01's step, and keeps them sound.
-pub fn step(
-    tasks: &mut Tasks,
-    lines: &mut Lines,
-    semaphores: &mut Semaphores,
-    events: &mut Events,
-    mailboxes: &mut Mailboxes,
-    swis: &mut Swis,
-    clocks: &mut Clocks,
-    heap: &mut Heap,
-    state: &mut State,
-    asked: Call,
-) -> Said
-    ensures quick { step_of (tables tasks.new lines.new semaphores.new events.new mailboxes.new swis.new clocks.new heap.new state.new) result.answer result.thread
-        ≡ quick_step (tables tasks.old lines.old semaphores.old events.old mailboxes.old swis.old clocks.old heap.old state.old) asked }
-    ensures stepped { Sound (tables tasks.old lines.old semaphores.old events.old mailboxes.old swis.old clocks.old heap.old state.old)
-        → Stepped (tables tasks.old lines.old semaphores.old events.old mailboxes.old swis.old clocks.old heap.old state.old) asked
-        (step_of (tables tasks.new lines.new semaphores.new events.new mailboxes.new swis.new clocks.new heap.new state.new) result.answer result.thread) }
+pub fn step(t: &mut Tables, asked: Call) -> Said
+    ensures quick { step_of t.new result.answer result.thread ≡ quick_step t.old asked }
+    ensures stepped { Sound t.old → Stepped t.old asked (step_of t.new result.answer result.thread) }
 {
     words(asked);
-    tables::typed(
-        *tasks,
-        *lines,
-        *semaphores,
-        *events,
-        *mailboxes,
-        *swis,
-        *clocks,
-        *heap,
-        *state,
-    );
-    let answer = ranges::any_call(
-        tasks, lines, semaphores, events, mailboxes, swis, clocks, heap, state, asked,
-    );
+    tables::typed(*t);
+    let answer = answer_to(ranges::any_call(t, asked));
     let said = answers::named(asked.number, answer);
-    dispatch_after::settle(asked.number, answer, swis, lines, state);
-    let thread = dispatch::running(lines, state);
+    dispatch_after::settle(
+        asked.number,
+        answer,
+        &mut t.swis,
+        &mut t.lines,
+        &mut t.state,
+    );
+    let thread = dispatch::running(&t.lines, &t.state);
     Said {
         answer: said,
         thread,

@@ -1,31 +1,21 @@
 -- What is handed from turn to turn: what the reads so far leave, whether or not the replay was stopped.
-use Prim.Native.Nat.{ℕ, ◌-◌, ◌≤◌, ◌<◌, zero-le}
+use Prim.Native.Nat.{ℕ, ◌-◌, ◌≤◌, zero-le}
 use mathlib.Core.Path.{◌≡◌, refl, sym, ap, ◌∙◌}
 use mathlib.Core.Logic.{◌⊎◌, inl, inr, ⊎_elim}
-use mathlib.Core.Bool.{Bool, true, false, not, ◌&&◌, true≢false, false≢true}
+use mathlib.Core.Bool.{Bool, true, false, false≢true}
 use mathlib.Core.List.{List, [], ◌∷◌, ◌++◌}
 use native.Mathlib.Omega.{arith}
-use lib.Dec.{ltb, eqb}
+use lib.Dec.{eqb}
 use Rattle.std.specs.Prelude.{Option, Some, None}
 use lib.ListN.{length, take, drop, length-take, length-drop}
 use lib.Seq.{length-take-le}
-use borrow.Author.Tests.{ltb-true, not-true}
 use Rattle.rules.specs.Sound.{Sound}
 use Rattle.rules.specs.declared.Tables.{Tables}
 use Rattle.desk_parts.specs.Part.{ReplayState, turn, begins, start, after_reads}
 use Rattle.desk_parts.proofs.ByReads.{left-more}
 use Rattle.desk.specs.declared.Progress.{Progress}
-use Rattle.desk.specs.Done.{replay_state, progress_of, behind, TurnLeaves}
-use Rattle.replay.specs.declared.Came.{Came}
-use Rattle.replay.specs.Turns.{came_by, Behind, stopped, stop, HandedIf, Handed, Replayed}
-
--- a turn that is made was left, and the replay had not ended
-both : (a b : Bool) → (a && b) ≡ true → (a ≡ true) × (b ≡ true)
-both true b h = (refl, h)
-both false b h = absurd (true≢false (sym h))
-
-pub goes_on : (n : ℕ) (b : Bool) → (ltb 0 n && not b) ≡ true → (0 < n) × (b ≡ false)
-goes_on n b h = let k = both (ltb 0 n) (not b) h in (ltb-true 0 n k.0, not-true b k.1)
+use Rattle.desk.specs.Done.{replay_state, progress_of, behind}
+use Rattle.replay.specs.Turns.{Came, more, failed, came_by, Behind, stop, HandedIf, Handed, Replayed}
 
 -- ---- what a read brought
 -- there is room for the bytes behind the first
@@ -33,22 +23,9 @@ pub room : (held : ℕ) (qs : List ℕ) → length (take (length qs - held) (dro
 room held qs = omega (arith, length-take (length qs - held) (drop held qs), length-drop held qs)
 
 -- no more came than there is room for
-pub has_room : (a : Option ℕ) (n : ℕ) → (came_by a n).more ≤ n
+pub has_room : (a : Option ℕ) (n : ℕ) → more (came_by a n) ≤ n
 has_room (Some k) n = omega arith
 has_room None n = zero-le
-
--- ---- a turn
--- the read failed
-pub handed-none : (r : Came) (t : Tables) (ps xs c : List ℕ) (p : Progress) {q : Progress} → r.failed ≡ true → q ≡ stopped p
-    → Handed r c (replay_state t ps xs p) (replay_state t ps xs q)
-handed-none r t ps xs c p h e = rw (h, e)
-
--- it did not: the text is written, or the replay is stopped
-pub handed-on : (r : Came) (l : ReplayState) (c : List ℕ) {t : Tables} {ps qs xs ys : List ℕ} {p q : Progress} → r.failed ≡ false
-    → TurnLeaves (turn (eqb r.more 0) c l) t ps qs xs ys p → (q ≡ p) ⊎ (q ≡ stopped p)
-    → Handed r c l (replay_state t qs ys q)
-handed-on r l c h g e =
-    rw h (⊎_elim (λ (f : _ ≡ _). inl (rw f g.left)) (λ (f : _ ≡ _). inr (rw f (ap stop g.left))) e)
 
 -- ---- the replay of tables t₀
 module _ (t₀ : Tables) where
@@ -86,7 +63,7 @@ module _ (t₀ : Tables) where
     -- one turn more, by what a read brought
     module _ (on : p.ended ≡ false) (r : Came) {qs : List ℕ} (b : Behind p.held ps qs r) where
       abbrev bytes : List ℕ
-      bytes = behind qs p r.more
+      bytes = behind qs p (more r)
 
       -- what waited is still there
       before-is : replay_state t qs xs p ≡ after_reads v.came (begins t₀)
@@ -95,25 +72,25 @@ module _ (t₀ : Tables) where
       not-over : (after_reads v.came (begins t₀)).ended ≡ false
       not-over = sym (ap (λ (l : ReplayState). l.ended) (going on)) ∙ on
 
-      next-is : turn (eqb r.more 0) bytes (replay_state t qs xs p) ≡ after_reads (v.came ++ (bytes ∷ [])) (begins t₀)
+      next-is : turn (eqb (more r) 0) bytes (replay_state t qs xs p) ≡ after_reads (v.came ++ (bytes ∷ [])) (begins t₀)
       next-is =
-          let all : length bytes ≡ r.more =
-          length-take-le r.more (drop p.held qs)
-          (omega (arith, ap (λ (k : Came). k.more) b.came, has_room b.answer (length qs - p.held), length-drop p.held qs)) in
-          ap (turn (eqb r.more 0) bytes) before-is ∙ sym (rw all at (left-more v.came bytes (begins t₀) not-over))
+          let all : length bytes ≡ more r =
+          length-take-le (more r) (drop p.held qs)
+          (omega (arith, ap more b.came, has_room b.answer (length qs - p.held), length-drop p.held qs)) in
+          ap (turn (eqb (more r) 0) bytes) before-is ∙ sym (rw all at (left-more v.came bytes (begins t₀) not-over))
 
       pub sofar-next : {u : Tables} {qs' ys : List ℕ} {q : Progress} → Handed r bytes (replay_state t qs xs p) (replay_state u qs' ys q) → Sofar u qs' ys q
-      sofar-next {u} {qs'} {ys} {q} = by_read r.failed
+      sofar-next {u} {qs'} {ys} {q} = by_read (failed r)
         where
           by_read : (f : Bool)
-              → HandedIf f (replay_state t qs xs p) (turn (eqb r.more 0) bytes (replay_state t qs xs p)) (replay_state u qs' ys q) → Sofar u qs' ys q
+              → HandedIf f (replay_state t qs xs p) (turn (eqb (more r) 0) bytes (replay_state t qs xs p)) (replay_state u qs' ys q) → Sofar u qs' ys q
           by_read true h = record { came = v.came; left = inr (h ∙ ap stop before-is) }
           by_read false h =
               record {
                 came = v.came ++ (bytes ∷ []);
                 left =
                     ⊎_elim
-                    (λ (k : replay_state u qs' ys q ≡ turn (eqb r.more 0) bytes (replay_state t qs xs p)). inl (k ∙ next-is))
-                    (λ (k : replay_state u qs' ys q ≡ stop (turn (eqb r.more 0) bytes (replay_state t qs xs p))). inr (k ∙ ap stop next-is))
+                    (λ (k : replay_state u qs' ys q ≡ turn (eqb (more r) 0) bytes (replay_state t qs xs p)). inl (k ∙ next-is))
+                    (λ (k : replay_state u qs' ys q ≡ stop (turn (eqb (more r) 0) bytes (replay_state t qs xs p))). inr (k ∙ ap stop next-is))
                     h;
               }

@@ -4,12 +4,23 @@ use Rattle.rules.specs.Sound.{Sound}
 use Rattle.rules.specs.declared.Tables.{Tables}
 use Rattle.desk_parts.specs.Part.{ReplayState, turn, begins, after_reads}
 use Rattle.desk.specs.declared.Progress.{Progress}
-use Rattle.replay.specs.declared.Came.{Came}
+
+-- what a read brought: so many bytes, or nothing where it failed
+abbrev pub Came : Type 0
+Came = Option ℕ
+
+abbrev pub more : Came → ℕ
+more (Some k) = k
+more None = 0
+
+abbrev pub failed : Came → Bool
+failed (Some k) = false
+failed None = true
 
 -- what a read brought that answered a and had room for n bytes: where it answered a number of bytes these, or as many as have room; no number is a read that failed, and brought none
 abbrev pub came_by : Option ℕ → ℕ → Came
-came_by (Some k) n = record { more = min k n; failed = false }
-came_by None n = record { more = 0; failed = true }
+came_by (Some k) n = Some (min k n)
+came_by None n = None
 
 -- a read behind the first bytes of part ps, which is now qs: those stay, and what came is what a read's answer says, with the room behind them
 pub record Behind (held : ℕ) (ps qs : List ℕ) (r : Came) : Type 0 where
@@ -31,7 +42,7 @@ HandedIf true l next m = m ≡ stop l
 HandedIf false l next m = (m ≡ next) ⊎ (m ≡ stop next)
 
 abbrev pub Handed : Came → List ℕ → ReplayState → ReplayState → Type 0
-Handed r c l m = HandedIf r.failed l (turn (eqb r.more 0) c l) m
+Handed r c l m = HandedIf (failed r) l (turn (eqb (more r) 0) c l) m
 
 -- tables u are sound, and those that a replay that begins with tables t comes to by reads that brought some bytes, one after the other
 pub record Replayed (t u : Tables) : Type 0 where

@@ -5,34 +5,22 @@
 ghost use Rattle.std.specs.Prelude.{◌≡◌, ◌⊎◌, length};
 ghost use Rattle.std.specs.Result.{result_ok};
 ghost use Rattle.rules.specs.Fresh.{fresh};
-ghost use Rattle.rules.specs.Tables.{tables};
-ghost use Rattle.kernel.specs.Safe.{Safe};
 ghost use Rattle.desk.specs.Done.{replay_state, behind};
-ghost use Rattle.replay.specs.Turns.{came_by, Behind, stopped, Handed, Replayed};
+ghost use Rattle.replay.specs.Turns.{more, came_by, Behind, stopped, Handed, Replayed};
 
 use desk::{Part, Progress};
-use rules::{Clocks, Events, Heap, Lines, Mailboxes, Semaphores, State, Swis, Tables, Tasks};
+use kernel::SafeTables;
+use rules::Tables;
 use std::io;
 use std::io::Read;
 use streams::fail;
 use text::Text;
 
-// What a read brought: how many bytes, and whether it failed.
-#[derive(Clone, Copy)]
-struct Came {
-    more: usize,
-    failed: bool,
-}
-
-// What a read brought that answered `got` and was lent this room.
-fn brought(got: io::Result<usize>, room: &[u8]) -> Came
+// What a read brought that answered `got` and was lent this room: how many bytes, or nothing where it failed.
+fn brought(got: io::Result<usize>, room: &[u8]) -> Option<usize>
     ensures { result ≡ came_by (result_ok got) (length room.now) }
 {
-    let more = got.unwrap_or(0).min(room.len());
-    Came {
-        more,
-        failed: got.is_err(),
-    }
+    Some(got.ok()?.min(room.len()))
 }
 
 // Says of `name` why a read failed, where it did.
@@ -49,14 +37,11 @@ fn read_behind<R: Read>(
     name: &[u8],
     part: &mut [u8],
     held: usize,
-) -> Came
+) -> Option<usize>
     ensures { Behind held part.old part.new result }
 {
     if part.len() <= held {
-        return Came {
-            more: 0,
-            failed: true,
-        };
+        return None;
     }
     let got = from.read(&mut part[held..]);
     let came = brought(got, &part[held..]);
@@ -71,7 +56,7 @@ fn read_part<R: Read>(
     name: &[u8],
     part: &mut Part,
     held: usize,
-) -> Came
+) -> Option<usize>
     ensures { Behind held part.old part.new result }
 {
     read_behind(rt, from, name, part, held)
@@ -91,9 +76,7 @@ fn write_text(rt: &HostRuntime, out: &[u8], len: usize) -> bool {
 fn stopped(p: Progress) -> Progress
     ensures { result ≡ stopped p }
 {
-    let mut over = p;
-    over.ended = true;
-    over
+    Progress { ended: true, ..p }
 }
 
 // Writes the text of a turn; the replay has ended where it cannot be written.
@@ -109,86 +92,41 @@ fn written(rt: &HostRuntime, out: &[u8], p: Progress) -> Progress
 // One turn: what came is replayed, and its text is written.
 fn turn(
     rt: &HostRuntime,
-    tasks: &mut Tasks,
-    lines: &mut Lines,
-    semaphores: &mut Semaphores,
-    events: &mut Events,
-    mailboxes: &mut Mailboxes,
-    swis: &mut Swis,
-    clocks: &mut Clocks,
-    heap: &mut Heap,
-    state: &mut State,
+    t: &mut SafeTables,
     part: &mut Part,
-    read: Came,
+    read: Option<usize>,
     p: Progress,
     out: &mut Text,
 ) -> Progress
-    requires { Safe (tables tasks.old lines.old semaphores.old events.old mailboxes.old swis.old clocks.old heap.old state.old) }
-    ensures handed { Handed read (behind part.old p read.more)
-        (replay_state (tables tasks.old lines.old semaphores.old events.old mailboxes.old swis.old clocks.old heap.old state.old) part.old out.old p)
-        (replay_state (tables tasks.new lines.new semaphores.new events.new mailboxes.new swis.new clocks.new heap.new state.new) part.new out.new result) }
-    ensures safe { Safe (tables tasks.new lines.new semaphores.new events.new mailboxes.new swis.new clocks.new heap.new state.new) }
+    ensures { Handed read (behind part.old p (more read)) (replay_state t.old part.old out.old p)
+        (replay_state t.new part.new out.new result) }
 {
-    if read.failed {
+    let Some(more) = read else {
         return stopped(p);
-    }
-    let next = desk::replay_part(
-        tasks, lines, semaphores, events, mailboxes, swis, clocks, heap, state, part, read.more, p,
-        out,
-    );
+    };
+    let next = desk::replay_part(t, part, more, p, out);
     written(rt, out, next)
 }
 
 // Replays what can be read, and answers the tables that it came to; `name` is told where a read fails.
-// A loop has to end, and nothing says that a log does: the turns are counted down from a number that no run comes to.
+// A loop has to end, and nothing says that a log does: the turns are counted up to a number that no run comes to.
 fn replay_all<R: Read>(rt: &HostRuntime, from: &mut R, name: &[u8]) -> Tables
     ensures { Replayed fresh result }
 {
-    let fresh = entries::fresh(rules::numbers::FEW_LEVELS).tables;
-    let mut tasks = fresh.tasks;
-    let mut lines = fresh.lines;
-    let mut semaphores = fresh.semaphores;
-    let mut events = fresh.events;
-    let mut mailboxes = fresh.mailboxes;
-    let mut swis = fresh.swis;
-    let mut clocks = fresh.clocks;
-    let mut heap = fresh.heap;
-    let mut state = fresh.state;
+    let mut t = SafeTables {
+        tables: entries::fresh(rules::numbers::FEW_LEVELS).tables,
+    };
     let mut part = [0u8; 2560];
     let mut out = [0u8; 16384];
     let mut p = desk::begun();
-    let mut turns = u64::MAX;
-    while (0 < turns) & !p.ended {
+    for _ in 0..u64::MAX {
+        if p.ended {
+            break;
+        }
         let read = read_part(rt, from, name, &mut part, p.held);
-        p = turn(
-            rt,
-            &mut tasks,
-            &mut lines,
-            &mut semaphores,
-            &mut events,
-            &mut mailboxes,
-            &mut swis,
-            &mut clocks,
-            &mut heap,
-            &mut state,
-            &mut part,
-            read,
-            p,
-            &mut out,
-        );
-        turns -= 1;
+        p = turn(rt, &mut t, &mut part, read, p, &mut out);
     }
-    Tables {
-        tasks,
-        lines,
-        semaphores,
-        events,
-        mailboxes,
-        swis,
-        clocks,
-        heap,
-        state,
-    }
+    t.tables
 }
 
 // Replays the log in the file of this name.

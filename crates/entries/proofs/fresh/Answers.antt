@@ -11,4 +11,4 @@ returns-then-levels c =
 pub returns : goal.returns
 unfolding made_fresh
 returns c =
-    let e = fresh-safe c.args.levels (rw (c.if-levels.false, c.fresh-2.ensures, c.refused.ensures)) in record { value = e.0; safe = e.1 }
+    let e = fresh-safe c.args.levels (rw (c.if-levels.false, c.fresh-2.ensures, c.from.ensures)) in record { value = e.0; safe = e.1 }

@@ -1,18 +1,13 @@
 -- Each turn of the loop makes the call in front of those that are left (`call_lists/proofs/Making`); when none is left all are made.
-use Prim.Native.Nat.{◌-◌}
 use native.Mathlib.Omega.{arith}
 use Rattle.call_lists.proofs.Making.{one_more, list-made}
 use Rattle.entries.proofs.make_calls.Goals as goal
 
 pub loop-i-preserved : goal.loop-i-preserved
 loop-i-preserved c =
-    let (n-is, making) = c.loop-i.invariant in (
-      n-is,
-      one_more _ _ _ _ _ _ making (omega (arith, c.loop-i-test.true, n-is)) _
-          c.call_at.ensures c.step-said.ensures.stepped c.put_answer.ensures,
-    )
+    one_more _ _ _ _ _ _ c.loop-i.invariant (omega (arith, c.loop-i-test.true)) _
+    c.call_at.ensures c.step-said.ensures.stepped c.put_answer.ensures
 
 pub returns : goal.returns
 returns c =
-    let (n-is, making) = c.loop-i.invariant in
-    list-made _ _ _ _ _ _ making (omega (arith, c.loop-i-test.false, n-is))
+    list-made _ _ _ _ _ _ c.loop-i.invariant (omega (arith, c.loop-i-test.false))

@@ -1,6 +1,6 @@
 -- `kernel::ranges::any_call` meets its contract: in the range of a kind the call is what the kind's own call promises, and in none it is unknown.
 use Rattle.kernel.proofs.OfKind.{task-range, swi-range, semaphore-range, event-range, mailbox-range, clock-range, heap-range, switch-range, no-range}
-use Rattle.std.proofs.Common.{arith}
+use Rattle.std.proofs.Common.{arith, refl}
 use Rattle.kernel.proofs.ranges.any_call.Goals as goal
 
 pub returns-in-0-to-15 : goal.returns-in-0-to-15
@@ -28,4 +28,4 @@ pub returns-in-112-to-127 : goal.returns-in-112-to-127
 returns-in-112-to-127 c = (switch-range _ c.context-x.ensures c.args.q.number _ _ _ _ (omega arith) (omega arith)).answers c.switch_call.ensures
 
 pub returns-in_default : goal.returns-in_default
-returns-in_default c = no-range _ c.context-x.ensures c.args.q.number _ _ _ _ (omega arith) c.refused.ensures
+returns-in_default c = no-range _ c.context-x.ensures c.args.q.number _ _ _ _ (omega arith) refl
