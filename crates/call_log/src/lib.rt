@@ -17,28 +17,20 @@ pub const SECOND_EDITION: u8 = 2;
 // Which byte of a record its version is.
 const VERSION_AT: usize = 2;
 
-fn wide(b: u8) -> u32
-    ensures { (result ≡ b) × (result < 256) }
-{
-    b as u32
-}
-
 // The byte at a place; 0 past the end.
 fn byte_at(s: &[u8], at: usize) -> u8
     ensures { result ≡ slice_index s.now at }
 {
-    if at < s.len() {
-        return s[at];
-    }
-    0
+    s.get(at).copied().unwrap_or(0)
 }
 
 // Two bytes, big-endian.
+// Stays by hand, as `word_at` does: past the end a byte reads 0, where `from_be_bytes` would have none to take.
 fn half_at(s: &[u8], at: usize) -> u32
     ensures { (result ≡ half_at s.now at) × (result < 65536) }
 {
     if at < s.len() {
-        return wide(s[at]) * 256 + wide(byte_at(s, at + 1));
+        return s[at] as u32 * 256 + byte_at(s, at + 1) as u32;
     }
     0
 }
@@ -137,14 +129,13 @@ pub fn argument(bytes: &[u8], n: usize) -> u32
 }
 
 // The position after what was found: only a good record moves it. What no log can hold goes round at the end of the positions.
+#[tactic(auto, unfolding(rules::specs::Log::move_to))]
 pub fn move_to(found: Read, at: usize) -> usize
     ensures { result ≡ move_to found at % 2 ^ 64 }
 {
     match found {
-        Read::Record { number: _, start } => std::num::wrapping_add_usize(start, 16),
+        Read::Record { start, .. } => start.wrapping_add(16),
         Read::End => at,
-        Read::Cut(_) => at,
-        Read::Length(_) => at,
-        Read::Version(_) => at,
+        Read::Cut(_) | Read::Length(_) | Read::Version(_) => at,
     }
 }

@@ -18,10 +18,7 @@ pub fn step_in(log: &[u8], at: usize, version: u8) -> Step
 {
     let found = super::read_in(log, at, version);
     let next = super::move_to(found, at);
-    Step {
-        found: found,
-        at: next,
-    }
+    Step { found, at: next }
 }
 
 // In a log that is whole.
@@ -46,7 +43,7 @@ impl<'a> Reader<'a> {
     }
 
     // What stands at the position. Only a good record moves it.
-    pub fn next<'s>(&'s mut self) -> Read
+    pub fn next(&mut self) -> Read
         ensures { (result ≡ read_at self.old.log.now self.old.at)
             × ((self.new.log ≡ self.old.log) × (self.new.at ≡ move_to result self.old.at)) }
     {

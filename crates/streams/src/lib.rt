@@ -27,6 +27,9 @@ const NAME_TOO_LONG: i32 = 36;
 // How many bytes of a word of the command line there is room for: any path fits.
 pub const WORD_BYTES: usize = 4096;
 
+// How many bytes of an error in the system's words there is room for.
+const REASON_BYTES: usize = 256;
+
 // How many words the command line has, the program's own name too.
 pub fn words(rt: &HostRuntime) -> usize {
     let mut room = [0u8; 1];
@@ -62,6 +65,7 @@ pub fn read_full<R: Read>(from: &mut R, room: &mut [u8]) -> usize
     ensures { IsPrefixLen result room.new }
 {
     let mut done = 0;
+    // Stays a `while`: no index is counted, a step is as long as what a read brought.
     while done < room.len() {
         let n = from.read(&mut room[done..]).unwrap_or(0);
         if n == 0 {
@@ -84,7 +88,7 @@ pub fn is_gone(error: io::Error) -> bool
 
 // An error of the system in its words, without the number behind them.
 fn put_reason(out: &mut Text, at: usize, error: io::Error) -> usize {
-    let said = InlineText::<256>::of(error);
+    let said = InlineText::<REASON_BYTES>::of(error);
     let all = said.as_str();
     let words = match all.find(" (os error ") {
         Some(n) => &all.as_bytes()[..n],
@@ -95,7 +99,7 @@ fn put_reason(out: &mut Text, at: usize, error: io::Error) -> usize {
 
 // Says of `name` why a call failed, in one line on standard error.
 pub fn fail(rt: &HostRuntime, name: &[u8], error: io::Error) {
-    let mut out = [0u8; 16384];
+    let mut out = [0u8; text::TEXT_BYTES];
     let p = text::put_text(&mut out, 0, name);
     let q = text::put_text(&mut out, p, b": ");
     let r = put_reason(&mut out, q, error);

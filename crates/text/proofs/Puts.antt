@@ -1,17 +1,17 @@
 -- The laws of `PutIn`: nothing, one byte, one text after another; and a text that fits.
-use Prim.Native.Nat.{ℕ, zero, suc, ◌+◌, ◌-◌, ◌/◌, ◌%◌, ◌≤◌, ◌<◌}
+use Prim.Native.Nat.{ℕ, zero, suc, ◌+◌, ◌-◌, ◌/◌, ◌%◌, ◌≤◌, ◌<◌, min}
 use mathlib.Core.Path.{◌≡◌, refl, sym, ap, ◌∙◌}
-use mathlib.Core.Logic.{◌⊎◌, inl, inr, ⊎_elim}
-use mathlib.Core.Bool.{true, false, ◌&&◌, cond as if, true≢false}
+use mathlib.Core.Bool.{cond as if}
 use mathlib.Core.List.{List, [], ◌∷◌, ◌++◌, append_assoc}
-use native.Mathlib.Numerals.{add-one, sub-one}
+use native.Mathlib.Numerals.{sub-one}
 use native.Mathlib.Nat.{sub-zero, add-zero}
 use native.Mathlib.Omega.{arith}
 use lib.Dec.{ltb}
-use lib.ListN.{length, take, drop, set, get_or, length-append, length-take, take-append-drop}
-use lib.Seq.{take_all, take-nil, take-suc}
-use borrow.Author.Tests.{lt-ltb, le-ltb, ltb-true, ltb-false}
-use Rattle.basics.proofs.Laws.{lt-or-le}
+use lib.ListN.{length, take, set, length-append, length-take}
+use lib.Seq.{take_all, take-nil, drop-drop, sets-eq}
+use borrow.Rule.Slice.PartMut.{put_mid}
+use Rattle.std.proofs.lemmas.List.{take_min}
+use borrow.Author.Tests.{lt-ltb, le-ltb}
 use Rattle.basics.proofs.Runs.{sets-append}
 use Rattle.rules.specs.Text.{digits, decimal, space, line_feed, thread_text, line_text, word_text}
 use Rattle.rules.specs.declared.Answer.{Answer}
@@ -89,30 +89,20 @@ module _ {xs ys : List ℕ} {at r : ℕ} (k n : ℕ) (h : k ≡ 0 → ⊥) where
       → Put xs at (digits k n) ys r
   put-digits-more l p s = rw (digits_step k n h, le-ltb n 10 l) (put-more p s)
 
--- ---- a text by its bytes
-module _ {size : ℕ} {xs ys : List ℕ} {at r : ℕ} (t : List ℕ) (i : ℕ) where
-  pub put_next : {zs : List ℕ} {q : ℕ} → i < length t → PutIn size xs at (take i t) ys r → PutIn size ys r (get_or t i 0 ∷ []) zs q
-      → PutIn size xs at (take (i + 1) t) zs q
-  put_next h p s = rw (add-one, take-suc t i 0 h) (put-more p s)
-
-  pub put_whole : length t ≤ i → PutIn size xs at (take i t) ys r → PutIn size xs at t ys r
-  put_whole h p = rw (take_all i t h) at p
-
-  -- the buffer is full
-  pub put_full : size ≤ r → PutIn size xs at (take i t) ys r → PutIn size xs at t ys r
-  put_full h p = rw (take-append-drop i t) at (put-more p (put-out size ys r (drop i t) h))
-
--- ---- a byte is left, and there is room for it; or not
-pub left-and-room : (a n b m : ℕ) → (ltb a n && ltb b m) ≡ true → (a < n) × (b < m)
-left-and-room a n b m h =
-    ⊎_elim
-    (λ (p : a < n). (p, ltb-true b m (rw (lt-ltb a n p) at h)))
-    (λ (p : n ≤ a). absurd (true≢false (sym h ∙ rw (le-ltb a n p))))
-    (lt-or-le a n)
-
-pub none-or-full : (a n b m : ℕ) → (ltb a n && ltb b m) ≡ false → (n ≤ a) ⊎ (m ≤ b)
-none-or-full a n b m h =
-    ⊎_elim (λ (p : a < n). inr (ltb-false b m (rw (lt-ltb a n p) at h))) (λ (p : n ≤ a). inl p) (lt-or-le a n)
+-- ---- a text copied, as much of it as has room
+pub put_copied : (xs t ys : List ℕ) (at n k : ℕ) → at < length xs → n ≡ min (length t) (length xs - at) → k ≡ n → ys ≡ take n t
+    → PutIn (length xs) xs at t (put_mid at k xs ys) (at + n)
+unfolding fitting
+put_copied xs t ys at n k room many count copied =
+    let m : n ≡ min (length xs - at) (length t) = omega arith in
+    let same : take n t ≡ take (length xs - at) t = rw m (take_min (length xs - at) t) in
+    let long : length (take (length xs - at) t) ≡ n = omega (arith, length-take (length xs - at) t) in
+    record {
+      bytes =
+          rw (copied, same, count, drop-drop n at xs)
+          (rw (sets-eq (take (length xs - at) t) xs at (omega arith), long) (sym (append_assoc (take at xs) _ _)));
+      end = rw long;
+    }
 
 -- ---- a line, by its columns
 pub line-is : (n : ℕ) (r : Answer) (x : Thread)

@@ -8,13 +8,16 @@ ghost use Rattle.text.specs.Put.{PutIn, Put};
 
 use rules::{Answer, Thread};
 
-// A buffer of text.
-pub type Text = [u8; 16384];
+// How many bytes a text has room for.
+pub const TEXT_BYTES: usize = 16384;
+
+// A buffer of text, and beside it where the text ends. Stays so: `Put` tells of a text at any place of any buffer, and of every other byte; no heap.
+pub type Text = [u8; TEXT_BYTES];
 
 pub fn put_byte(out: &mut Text, at: usize, b: u8) -> usize
     ensures { Put out.old at (b ∷ []) out.new result }
 {
-    if at < 16384 {
+    if at < TEXT_BYTES {
         out[at] = b;
         return at + 1;
     }
@@ -29,13 +32,14 @@ fn put_digits(out: &mut Text, at: usize, k: usize, n: u64) -> usize
         return at;
     }
     if n < 10 {
-        return put_byte(out, at, 48 + n as u8);
+        return put_byte(out, at, b'0' + n as u8);
     }
     let p = put_digits(out, at, k - 1, n / 10);
-    put_byte(out, p, 48 + (n % 10) as u8)
+    put_byte(out, p, b'0' + (n % 10) as u8)
 }
 
 // n in plain decimal.
+#[tactic(auto, unfolding(rules::specs::Text::decimal))]
 pub fn put_decimal(out: &mut Text, at: usize, n: u64) -> usize
     ensures { Put out.old at (decimal n) out.new result }
 {
@@ -59,6 +63,7 @@ fn put_lettered(out: &mut Text, at: usize, letter: u8, n: u32) -> usize
 }
 
 // The thread: T or S with its number, or I.
+#[tactic(auto, unfolding(rules::specs::Text::thread_text))]
 pub fn put_thread(out: &mut Text, at: usize, thread: Thread) -> usize
     ensures { Put out.old at (thread_text thread) out.new result }
 {
@@ -81,31 +86,23 @@ pub fn put_line(out: &mut Text, at: usize, n: u64, answer: Answer, thread: Threa
     put_byte(out, end, b'\n')
 }
 
-// A text as it is.
-pub fn put_text(out: &mut Text, at: usize, text: &[u8]) -> usize
-    ensures { Put out.old at text.now out.new result }
-{
-    let mut p = at;
-    let mut i = 0;
-    while i < text.len() {
-        p = put_byte(out, p, text[i]);
-        i += 1;
-    }
-    p
-}
-
 // A text in a buffer of any length.
 pub fn put_in(out: &mut [u8], at: usize, text: &[u8]) -> usize
     ensures { PutIn (length out.old) out.old at text.now out.new result }
 {
-    let mut p = at;
-    let mut i = 0;
-    while (i < text.len()) & (p < out.len()) {
-        out[p] = text[i];
-        p += 1;
-        i += 1;
+    if at >= out.len() {
+        return at;
     }
-    p
+    let n = text.len().min(out.len() - at);
+    out[at..at + n].copy_from_slice(&text[..n]);
+    at + n
+}
+
+// A text as it is.
+pub fn put_text(out: &mut Text, at: usize, text: &[u8]) -> usize
+    ensures { Put out.old at text.now out.new result }
+{
+    put_in(out, at, text)
 }
 
 // The last line: a word and a number.

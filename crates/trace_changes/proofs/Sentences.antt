@@ -5,7 +5,7 @@ use mathlib.Core.List.{List, [], ◌∷◌, ◌++◌}
 use Rattle.basics.specs.Lists.{zeros}
 use Rattle.rules.specs.Answer.{answer, asked}
 use Rattle.rules.specs.Tables.{forever}
-use Rattle.rules.specs.Lines.{semaphore_line, mailbox_line, posted_line, active_line}
+use Rattle.rules.specs.Lines.{mailbox_line, posted_line, active_line}
 use Rattle.rules.specs.Fresh.{fresh}
 use Rattle.rules.specs.Step.{step}
 use Rattle.rules.specs.declared.Tables.{Tables}

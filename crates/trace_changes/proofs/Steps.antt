@@ -1,27 +1,29 @@
--- Small steps of the code's proofs, over plain values: two words compared, a row's place, how many, and what is told where a test says so.
-use Prim.Native.Nat.{ℕ, zero, suc, ◌+◌, ◌*◌, ◌≤◌, ◌<◌}
-use mathlib.Core.Path.{◌≡◌, refl, sym, ◌∙◌}
-use mathlib.Core.Bool.{Bool, true, false, not, ◌&&◌}
-use mathlib.Core.List.{List}
-use native.Mathlib.Numerals.{add-one}
-use native.Mathlib.Nat.{le_antisymm, mul-le-mul}
+-- Small steps of the code's proofs, over plain values: how many, what is told where a test says so, and a test of each number below a bound.
+use Prim.Native.Nat.{ℕ, zero, suc, ◌+◌, ◌≤◌}
+use mathlib.Core.Path.{◌≡◌, refl, sym, ap, ◌∙◌}
+use mathlib.Core.Bool.{Bool, true, false, not, ◌&&◌, ◌||◌, and-true, and_assoc}
+use mathlib.Core.List.{List, [], ◌∷◌}
 use native.Mathlib.Omega.{arith}
-use lib.Dec.{eqb}
 use Rattle.basics.specs.Lists.{bit}
+use Rattle.basics.specs.Find.{all_below}
+use Rattle.std.specs.List.{range_with_len, list_all, list_any, FoldsTo}
+use Rattle.std.specs.Option.{MatchOption}
+use Rattle.std.specs.Prelude.{Option}
+use Rattle.std.specs.Fn.{Called}
+use Rattle.std.specs.Int.{from_bool}
+use Rattle.std.specs.Iterator.{YieldsThen}
+use Rattle.std.specs.declared.ops.Range.{Range}
+use denote.Param.Members.{Mut}
+use Rattle.std.proofs.iter.Yields.{nat_range_steps}
+use Rattle.std.proofs.lemmas.Iterator.{YieldsList-from_range}
+use Rattle.std.proofs.lemmas.Iterator.Search.{all_from_yields_List, any_from_yields_List}
+use native.Mathlib.Nat.{sub-zero, zero-add, add-zero}
 use Rattle.text.specs.Put.{Put}
 use Rattle.trace_changes.specs.Numbers.{columns, count_below, told}
 use Rattle.trace_changes.proofs.Telling.{tells_none}
 
--- a comparison of two words that were read
-pub same-words : {x y a b : ℕ} → x ≡ a → y ≡ b → eqb x y ≡ eqb a b
-same-words p q = rw (p, q)
-
 pub both : {a b s t : Bool} → a ≡ s → b ≡ t → (a && b) ≡ (s && t)
 both p q = rw (p, q)
-
--- the place of a row, where its number and its width are bytes
-pub in_row : {i w : ℕ} → i < 256 → w < 256 → i * w ≤ 65025
-in_row p q = mul-le-mul {n₂ = 255} {m₂ = 255} (omega arith) (omega arith)
 
 -- ---- how many
 pub bit-most : (b : Bool) → bit b ≤ 1
@@ -33,23 +35,8 @@ unfolding count_below
 count_most f zero = omega arith
 count_most f (suc n) = omega (arith, count_most f n, bit-most (f n))
 
-pub count_none : (f : ℕ → Bool) → count_below 0 f ≡ 0
-unfolding count_below
-count_none f = refl
-
-module _ (f : ℕ → Bool) (i : ℕ) {n : ℕ} (counted : n ≡ count_below i f) where
-  pub count_next : {b : Bool} {x : ℕ} → x ≡ bit b → b ≡ f i → n + x ≡ count_below (i + 1) f
-  unfolding count_below
-  count_next e g = rw (counted, e, g, add-one)
-
-  pub count-end : (m : ℕ) → i ≤ m → m ≤ i → n ≡ count_below m f
-  count-end m l k = rw (le_antisymm l k) at counted
-
 -- ---- what is told where a test says so
 module _ {test b : Bool} (e : b ≡ test) (ns : List ℕ) {xs : List ℕ} {at : ℕ} where
-  pub told-yes : b ≡ true → {ys : List ℕ} {r : ℕ} → Put xs at (columns ns) ys r → Put xs at (columns (told test ns)) ys r
-  told-yes h p = rw (sym e ∙ h) p
-
   pub told-no : b ≡ false → Put xs at (columns (told test ns)) xs at
   told-no h = rw (sym e ∙ h) (tells_none xs at)
 
@@ -59,3 +46,54 @@ module _ {test b : Bool} (e : b ≡ test) (ns : List ℕ) {xs : List ℕ} {at : 
 
   pub told_same : b ≡ true → Put xs at (columns (told (not test) ns)) xs at
   told_same h = rw (sym e ∙ h) (tells_none xs at)
+
+-- ---- a test of each number below n, by `all` over the range
+list_all-more : (f : ℕ → Bool) (a n : ℕ) → list_all f (range_with_len a (suc n)) ≡ (list_all f (range_with_len a n) && f (a + n))
+list_all-more f a zero = and-true (f a) ∙ ap f (sym (add-zero a))
+list_all-more f a (suc n) =
+    let e : a + 1 + n ≡ a + suc n = omega arith in
+    ap (λ (b : Bool). f a && b) (list_all-more f (a + 1) n) ∙ rw e (sym (and_assoc (f a) _ _))
+
+list_all_below : (f : ℕ → Bool) (n : ℕ) → list_all f (range_with_len 0 n) ≡ all_below n f
+unfolding all_below
+list_all_below f zero = refl
+list_all_below f (suc n) = list_all-more f 0 n ∙ rw (zero-add n, list_all_below f n)
+
+pub all_over : {F : Type 0} {g : Mut F (ℕ × Unit {0}) Bool} (n : ℕ) (test : ℕ → Bool) (u : Range ℕ) (f : F) (r : Bool)
+    → (xs : List ℕ)
+    × (o : Option ℕ)
+    × (j : F)
+    × YieldsThen nat_range_steps (record { start = 0; end = n }) xs o u
+    × FoldsTo (λ p x q. Called g p (x, tt) true q) f xs j
+    × MatchOption o (r ≡ true) (λ x. (r ≡ false) × ((h : F) × Called g j (x, tt) false h))
+    → ((x : ℕ) (b : Bool) (q : F) → Called g f (x, tt) b q → (q ≡ f) × (b ≡ test x))
+    → r ≡ all_below n test
+all_over n test u f r ran each = all_from_yields_List test u f r ran (YieldsList-from_range 0 n n refl (sub-zero n)) each ∙ list_all_below test n
+
+-- the same of `any`, over a test that some number passes
+list_any-not : (f : ℕ → Bool) (xs : List ℕ) → list_any f xs ≡ not (list_all (λ x. not (f x)) xs)
+list_any-not f [] = refl
+list_any-not f (x ∷ xs) = go (f x) (list_any-not f xs)
+  where
+    go : (b : Bool) → list_any f xs ≡ not (list_all (λ y. not (f y)) xs) → (b || list_any f xs) ≡ not (not b && list_all (λ y. not (f y)) xs)
+    go true e = refl
+    go false e = e
+
+pub any_over : {F : Type 0} {g : Mut F (ℕ × Unit {0}) Bool} (n : ℕ) (test : ℕ → Bool) (u : Range ℕ) (f : F) (r : Bool)
+    → (xs : List ℕ)
+    × (o : Option ℕ)
+    × (j : F)
+    × YieldsThen nat_range_steps (record { start = 0; end = n }) xs o u
+    × FoldsTo (λ p x q. Called g p (x, tt) false q) f xs j
+    × MatchOption o (r ≡ false) (λ x. (r ≡ true) × ((h : F) × Called g j (x, tt) true h))
+    → ((x : ℕ) (b : Bool) (q : F) → Called g f (x, tt) b q → (q ≡ f) × (b ≡ test x))
+    → r ≡ not (all_below n (λ x. not (test x)))
+any_over n test u f r ran each =
+    any_from_yields_List test u f r ran (YieldsList-from_range 0 n n refl (sub-zero n)) each
+    ∙ list_any-not test (range_with_len 0 n)
+    ∙ ap not (list_all_below (λ x. not (test x)) n)
+
+-- a flag as a number
+pub bit-is : (b : Bool) → from_bool b ≡ bit b
+bit-is true = refl
+bit-is false = refl

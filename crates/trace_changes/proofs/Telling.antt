@@ -1,6 +1,6 @@
 -- The laws of telling numbers: nothing, one, some after others; a loop that tells of each number below a bound; parts behind their bars.
 use Prim.Native.Nat.{ℕ, zero, suc, ◌+◌, ◌≤◌, ◌<◌}
-use mathlib.Core.Path.{◌≡◌, refl, sym, ap, ◌∙◌}
+use mathlib.Core.Path.{◌≡◌, refl, sym, ◌∙◌}
 use mathlib.Core.List.{List, [], ◌∷◌, ◌++◌, append_assoc, append-nil}
 use native.Mathlib.Numerals.{add-one}
 use native.Mathlib.Nat.{le_antisymm}
@@ -71,3 +71,12 @@ module _ {xs ys zs : List ℕ} {at r q : ℕ} where
 
   pub parts_more : (ps qs : List (List ℕ)) → Put xs at (barred ps) ys r → Put ys r (barred qs) zs q → Put xs at (barred (ps ++ qs)) zs q
   parts_more ps qs p s = rw (barred-append ps qs) (put-more p s)
+
+-- ---- numbers by a list of them
+module _ (l : List ℕ) (i : ℕ) {xs ys : List ℕ} {at r : ℕ} where
+  pub list_next : i < length l → Put xs at (columns (take i l)) ys r → {zs : List ℕ} {q : ℕ} → Put ys r (columns (get_or l i 0 ∷ [])) zs q
+      → Put xs at (columns (take (i + 1) l)) zs q
+  list_next h p s = rw (add-one, take-suc l i 0 h) (tells_more (take i l) (get_or l i 0 ∷ []) p s)
+
+  pub list_end : length l ≤ i → Put xs at (columns (take i l)) ys r → Put xs at (columns l) ys r
+  list_end h p = rw (take_all i l h) at p

@@ -1,5 +1,7 @@
 -- How numbers are told: each followed by a space, those of many objects one after the other.
 use Rattle.std.specs.Prelude.{ℕ, zero, suc, ◌+◌, Bool, ◌&&◌, cond as if, List, [], ◌∷◌, ◌++◌, eqb, length, get_or}
+use Rattle.std.specs.Prelude.{◌<◌}
+use Rattle.std.specs.Borrow.{MutBor}
 use Rattle.basics.specs.Lists.{bit}
 use Rattle.basics.specs.Find.{all_below}
 use Rattle.rules.specs.Text.{decimal, space}
@@ -31,3 +33,7 @@ told b xs = if b xs []
 -- these numbers are told at a place of text xs, which is now ys, and end at r
 abbrev pub PutNumbers : List ℕ → ℕ → List ℕ → List ℕ → ℕ → Type 0
 PutNumbers xs at numbers ys r = Put xs at (columns numbers) ys r
+
+-- what a step does to a text, at a place and a number: for each number i below n it tells f i there, and says where that ends
+abbrev pub TellsBelow : ℕ → (MutBor (List ℕ) → ℕ → ℕ → ℕ → MutBor (List ℕ) → Type 0) → (ℕ → List ℕ) → Type 0
+TellsBelow n does f = (i at r : ℕ) (m q : MutBor (List ℕ)) → i < n → does m at i r q → PutNumbers m.now at (f i) q.now r

@@ -13,12 +13,15 @@ use rules::numbers::{
     ACTIVE_LINE, EVENT_LINES_U8, EVENT_ROWS_U8, EVENT_WIDTH_U8, SEMAPHORE_LINES_U8,
     SEMAPHORE_ROWS_U8, SEMAPHORE_WIDTH_U8, SWI_ROWS_U8, SWI_WIDTH_U8, TICK,
 };
-use rules::{Answer, Call, Events, Lines, Mailboxes, Semaphores, State, Tables, Thread};
+use rules::{Lines, State, Tables, Thread};
 use text::Text;
 use trace_changes::Made;
 use trace_objects::{put_clocks, put_heap, put_lined, put_mailboxes, put_rows};
-use trace_put::{put, put_line, put_long};
+use trace_put::{Table, put, put_line, put_words};
 use trace_threads::{put_posted, put_posts, put_started, put_state, put_tasks};
+
+// No line has more bytes, whatever the tables are.
+pub const LINE_MOST: usize = 13292;
 
 // What stands between two parts.
 fn put_bar(out: &mut Text, at: usize) -> usize
@@ -35,88 +38,49 @@ fn put_thread(out: &mut Text, at: usize, thread: Thread) -> usize
     text::put_byte(out, p, b' ')
 }
 
-// The call as it was asked.
-fn put_asked(out: &mut Text, at: usize, asked: Call) -> usize
-    ensures { PutNumbers out.old at (asked.number ∷ asked.a ∷ asked.b ∷ asked.c ∷ asked.d ∷ []) out.new result }
-{
-    let a = put(out, at, asked.number);
-    let b = put(out, a, asked.a);
-    let c = put(out, b, asked.b);
-    let d = put(out, c, asked.c);
-    put(out, d, asked.d)
-}
-
-// Its answer.
-fn put_answer(out: &mut Text, at: usize, answer: Answer) -> usize
-    ensures { PutNumbers out.old at (answer.code ∷ answer.outcome ∷ answer.value ∷ []) out.new result }
-{
-    let outcome = put(out, at, answer.code);
-    let value = put(out, outcome, answer.outcome);
-    put(out, value, answer.value)
-}
-
 // The call, by the tables before it.
-fn put_call<'a>(out: &mut Text, at: usize, made: Made, lines: &'a Lines, state: &'a State) -> usize
+fn put_call(out: &mut Text, at: usize, made: Made, lines: &Lines, state: &State) -> usize
     ensures { Put out.old at (call_text made lines.now state.now) out.new result }
 {
-    let tick = put_long(out, at, made.n);
-    let caller = put(out, tick, state[TICK]);
+    let tick = put(out, at, made.n);
+    let caller = put(out, tick, state[TICK] as u64);
     let asked = put_thread(out, caller, dispatch::running(lines, state));
-    let call = made.asked;
-    let answered = put_asked(out, asked, call);
-    let answer = made.answer;
-    let now = put_answer(out, answered, answer);
-    let thread = made.thread;
-    put_thread(out, now, thread)
+    let q = made.asked;
+    let r = made.answer;
+    let words = [q.number, q.a, q.b, q.c, q.d, r.code, r.outcome, r.value];
+    let now = put_words(out, asked, &words);
+    put_thread(out, now, made.thread)
 }
 
 // The objects at which tasks wait.
-fn put_waited<'a, 'b>(
-    out: &mut Text,
-    at: usize,
-    lines_before: &'a Lines,
-    semaphores_before: &'a Semaphores,
-    events_before: &'a Events,
-    mailboxes_before: &'a Mailboxes,
-    lines: &'b Lines,
-    semaphores: &'b Semaphores,
-    events: &'b Events,
-    mailboxes: &'b Mailboxes,
-) -> usize
+fn put_waited(out: &mut Text, at: usize, before: &Tables, after: &Tables) -> usize
     ensures { Put out.old at
         (barred
-        (changed_semaphores semaphores_before.now lines_before.now semaphores.now lines.now
-        ∷ changed_events events_before.now lines_before.now events.now lines.now
-        ∷ changed_mailboxes mailboxes_before.now lines_before.now mailboxes.now lines.now
+        (changed_semaphores before.now.semaphores before.now.lines after.now.semaphores after.now.lines
+        ∷ changed_events before.now.events before.now.lines after.now.events after.now.lines
+        ∷ changed_mailboxes before.now.mailboxes before.now.lines after.now.mailboxes after.now.lines
         ∷ []))
         out.new result }
 {
+    let semaphores = Table {
+        before: &before.semaphores,
+        after: &after.semaphores,
+        width: SEMAPHORE_WIDTH_U8,
+        rows: SEMAPHORE_ROWS_U8,
+    };
+    let events = Table {
+        before: &before.events,
+        after: &after.events,
+        width: EVENT_WIDTH_U8,
+        rows: EVENT_ROWS_U8,
+    };
+    let (was, lines) = (&before.lines, &after.lines);
     let s = put_bar(out, at);
-    let after_s = put_lined(
-        out,
-        s,
-        semaphores_before,
-        semaphores,
-        SEMAPHORE_WIDTH_U8,
-        SEMAPHORE_ROWS_U8,
-        lines_before,
-        lines,
-        SEMAPHORE_LINES_U8,
-    );
+    let after_s = put_lined(out, s, semaphores, was, lines, SEMAPHORE_LINES_U8);
     let e = put_bar(out, after_s);
-    let after_e = put_lined(
-        out,
-        e,
-        events_before,
-        events,
-        EVENT_WIDTH_U8,
-        EVENT_ROWS_U8,
-        lines_before,
-        lines,
-        EVENT_LINES_U8,
-    );
+    let after_e = put_lined(out, e, events, was, lines, EVENT_LINES_U8);
     let m = put_bar(out, after_e);
-    put_mailboxes(out, m, mailboxes_before, lines_before, mailboxes, lines)
+    put_mailboxes(out, m, &before.mailboxes, was, &after.mailboxes, lines)
 }
 
 // ---- how long a line can be
@@ -140,8 +104,8 @@ fn are_bytes(t: &[u8])
 }
 
 // The tables from which a line is told.
-fn are_typical(t: Tables)
-    ensures { Typical t.tasks t.lines t.semaphores t.events t.mailboxes t.swis t.clocks }
+fn are_typical(t: &Tables)
+    ensures { Typical t.now.tasks t.now.lines t.now.semaphores t.now.events t.now.mailboxes t.now.swis t.now.clocks }
 {
     are_words(&t.tasks);
     are_bytes(&t.lines);
@@ -153,8 +117,8 @@ fn are_typical(t: Tables)
 }
 
 // The line of a record, by the tables before its call and after it.
-pub fn put_trace(out: &mut Text, at: usize, made: Made, before: Tables, after: Tables) -> usize
-    ensures { Lined out.old at (trace_line made before after) out.new result }
+pub fn put_trace(out: &mut Text, at: usize, made: Made, before: &Tables, after: &Tables) -> usize
+    ensures { Lined out.old at (trace_line made before.now after.now) out.new result }
 {
     are_typical(after);
     let told = put_call(out, at, made, &before.lines, &before.state);
@@ -171,21 +135,16 @@ pub fn put_trace(out: &mut Text, at: usize, made: Made, before: Tables, after: T
     let after_w = put_posted(out, w, &after.lines);
     let a = put_bar(out, after_w);
     let threads = put_line(out, a, &after.lines, ACTIVE_LINE);
-    let waited = put_waited(
-        out,
-        threads,
-        &before.lines,
-        &before.semaphores,
-        &before.events,
-        &before.mailboxes,
-        &after.lines,
-        &after.semaphores,
-        &after.events,
-        &after.mailboxes,
-    );
+    let waited = put_waited(out, threads, before, after);
     // Swis, clocks and the heap
+    let swis = Table {
+        before: &before.swis,
+        after: &after.swis,
+        width: SWI_WIDTH_U8,
+        rows: SWI_ROWS_U8,
+    };
     let r = put_bar(out, waited);
-    let after_r = put_rows(out, r, &before.swis, &after.swis, SWI_WIDTH_U8, SWI_ROWS_U8);
+    let after_r = put_rows(out, r, swis);
     let c = put_bar(out, after_r);
     let after_c = put_clocks(out, c, made, &before.clocks, &after.clocks);
     let h = put_bar(out, after_c);

@@ -9,103 +9,88 @@ ghost use Rattle.trace_changes.specs.Changes.{row, same_row, waiting, changed_ro
 ghost use Rattle.trace_changes.specs.Changes.{changed_clocks, same_heap, units_with, changed_heap};
 
 use rules::numbers::{
-    CAPACITY, CLOCK_ROWS_U8, CLOCK_WIDTH_U8, FIRST_OF, HEAP_UNITS, LATER_IN, MAILBOX_LINES,
-    MAILBOX_ROWS_U8, MAILBOX_WIDTH_U8, OLDEST,
+    CAPACITY, CLOCK_ROWS, CLOCK_ROWS_U8, CLOCK_WIDTH_U8, FIRST_OF, LATER_IN, MAILBOX_LINES,
+    MAILBOX_ROWS, MAILBOX_ROWS_U8, MAILBOX_WIDTH_U8, OLDEST,
 };
 use rules::{Clocks, Heap, Lines, Mailboxes};
 use text::Text;
 use trace_changes::Made;
-use trace_put::{bit, put, put_long, put_row, put_small, put_waiting, same_line, same_row};
+use trace_put::{Table, put, put_each, put_row, put_waiting, runs_out, same_line, same_row};
 
 // ---- rows
 
 // A row's number and its words.
-fn put_object(out: &mut Text, at: usize, t: &[u32], w: u8, n: u8, i: u8) -> usize
-    ensures { PutNumbers out.old at (i ∷ row w n t.now i) out.new result }
+fn put_object(out: &mut Text, at: usize, t: Table, i: usize) -> usize
+    ensures { PutNumbers out.old at (i ∷ row t.entry.width t.entry.rows t.entry.after.now i) out.new result }
 {
-    let p = put_small(out, at, i);
-    put_row(out, p, t, w, n, i)
+    let p = put(out, at, i as u64);
+    put_row(out, p, t, i)
 }
 
 // The same, if the row changed.
-fn put_if_changed(
-    out: &mut Text,
-    at: usize,
-    before: &[u32],
-    t: &[u32],
-    w: u8,
-    n: u8,
-    i: u8,
-) -> usize
-    ensures { PutNumbers out.old at (told (not (same_row w n before.now t.now i)) (i ∷ row w n t.now i)) out.new result }
+fn put_if_changed(out: &mut Text, at: usize, t: Table, i: usize) -> usize
+    ensures { PutNumbers out.old at
+        (told (not (same_row t.entry.width t.entry.rows t.entry.before.now t.entry.after.now i)) (i ∷ row t.entry.width t.entry.rows t.entry.after.now i))
+        out.new result }
 {
-    if same_row(before, t, w, n, i) {
+    if same_row(t, i) {
         return at;
     }
-    put_object(out, at, t, w, n, i)
+    put_object(out, at, t, i)
 }
 
-// Of n rows of w words, those that changed.
-pub fn put_rows(out: &mut Text, at: usize, before: &[u32], t: &[u32], w: u8, n: u8) -> usize
-    ensures { PutNumbers out.old at (changed_rows w n before.now t.now) out.new result }
+// Of a table's rows, those that changed.
+#[tactic(auto, unfolding(trace_changes::specs::Changes::changed_rows))]
+pub fn put_rows(out: &mut Text, at: usize, t: Table) -> usize
+    ensures { PutNumbers out.old at (changed_rows t.entry.width t.entry.rows t.entry.before.now t.entry.after.now) out.new result }
 {
-    let mut p = at;
-    let mut i: u8 = 0;
-    while i < n {
-        p = put_if_changed(out, p, before, t, w, n, i);
-        i += 1;
-    }
-    p
+    put_each(
+        out,
+        at,
+        t.rows as usize,
+        |out, p, i| put_if_changed(out, p, t, i),
+    )
 }
 
 // ---- rows with a line
 
-// Row i with its line, if one of them changed.
+// Row i with line j, if one of them changed.
 fn put_lined_if_changed(
     out: &mut Text,
     at: usize,
-    before: &[u32],
-    t: &[u32],
-    w: u8,
-    n: u8,
-    lines_before: &Lines,
+    t: Table,
+    before: &Lines,
     lines: &Lines,
-    from: u8,
-    i: u8,
+    i: usize,
+    j: usize,
 ) -> usize
     ensures { PutNumbers out.old at
-        (told (not (same_row w n before.now t.now i && same_list (line lines_before.now (from + i)) (line lines.now (from + i))))
-        (i ∷ (row w n t.now i ++ waiting lines.now (from + i)))) out.new result }
+        (told (not (same_row t.entry.width t.entry.rows t.entry.before.now t.entry.after.now i && same_list (line before.now j) (line lines.now j)))
+        (i ∷ (row t.entry.width t.entry.rows t.entry.after.now i ++ waiting lines.now j))) out.new result }
 {
-    let j = basics::wide(from) + basics::wide(i);
-    if same_row(before, t, w, n, i) & same_line(lines_before, lines, j) {
+    if same_row(t, i) & same_line(before, lines, j) {
         return at;
     }
-    let p = put_object(out, at, t, w, n, i);
+    let p = put_object(out, at, t, i);
     put_waiting(out, p, lines, j)
 }
 
-// Of n rows of w words, with lines from `from` on, those of which the row or the line changed.
+// Of a table's rows, with lines from `from` on, those of which the row or the line changed.
+#[tactic(auto, unfolding(trace_changes::specs::Changes::changed_lined))]
 pub fn put_lined(
     out: &mut Text,
     at: usize,
-    before: &[u32],
-    t: &[u32],
-    w: u8,
-    n: u8,
-    lines_before: &Lines,
+    t: Table,
+    before: &Lines,
     lines: &Lines,
     from: u8,
 ) -> usize
-    ensures { PutNumbers out.old at (changed_lined w n from before.now lines_before.now t.now lines.now) out.new result }
+    ensures { PutNumbers out.old at
+        (changed_lined t.entry.width t.entry.rows from t.entry.before.now before.now t.entry.after.now lines.now) out.new result }
 {
-    let mut p = at;
-    let mut i: u8 = 0;
-    while i < n {
-        p = put_lined_if_changed(out, p, before, t, w, n, lines_before, lines, from, i);
-        i += 1;
-    }
-    p
+    put_each(out, at, t.rows as usize, |out, p, i| {
+        put_lined_if_changed(out, p, t, before, lines, i, from as usize + i)
+    })
 }
 
 // ---- mailboxes
@@ -115,26 +100,23 @@ fn put_messages(out: &mut Text, at: usize, mailboxes: &Mailboxes, i: usize) -> u
     ensures { PutNumbers out.old at (messages mailboxes.now i) out.new result }
 {
     let n = mailboxes::messages::count(mailboxes, i);
-    let mut p = at;
-    let mut k = 0;
-    while k < n {
-        p = put(out, p, rows::mailbox(mailboxes, i, OLDEST + k));
-        k += 1;
-    }
-    p
+    put_each(out, at, n, |out, p, k| {
+        put(out, p, rows::mailbox(mailboxes, i, OLDEST + k) as u64)
+    })
 }
 
 fn put_mailbox(out: &mut Text, at: usize, mailboxes: &Mailboxes, lines: &Lines, i: u8) -> usize
     ensures { PutNumbers out.old at (mailbox_numbers mailboxes.now lines.now i) out.new result }
 {
-    let n = basics::wide(i);
-    let capacity = put_small(out, at, i);
-    let count = put(out, capacity, rows::mailbox(mailboxes, n, CAPACITY));
-    let first = put_long(out, count, mailboxes::messages::count(mailboxes, n) as u64);
+    let n = i as usize;
+    let capacity = put(out, at, i as u64);
+    let count = put(out, capacity, rows::mailbox(mailboxes, n, CAPACITY) as u64);
+    let first = put(out, count, mailboxes::messages::count(mailboxes, n) as u64);
     let waiters = put_messages(out, first, mailboxes, n);
     put_waiting(out, waiters, lines, MAILBOX_LINES + n)
 }
 
+#[tactic(auto, unfolding(trace_changes::specs::Changes::same_mailbox))]
 fn same_mailbox(
     before: &Mailboxes,
     lines_before: &Lines,
@@ -144,8 +126,13 @@ fn same_mailbox(
 ) -> bool
     ensures { result ≡ same_mailbox before.now lines_before.now mailboxes.now lines.now i }
 {
-    same_row(before, mailboxes, MAILBOX_WIDTH_U8, MAILBOX_ROWS_U8, i)
-        & same_line(lines_before, lines, MAILBOX_LINES + basics::wide(i))
+    let table = Table {
+        before,
+        after: mailboxes,
+        width: MAILBOX_WIDTH_U8,
+        rows: MAILBOX_ROWS_U8,
+    };
+    same_row(table, i as usize) & same_line(lines_before, lines, MAILBOX_LINES + i as usize)
 }
 
 // Mailbox i, if it changed.
@@ -167,6 +154,7 @@ fn put_mailbox_if_changed(
     put_mailbox(out, at, mailboxes, lines, i)
 }
 
+#[tactic(auto, unfolding(trace_changes::specs::Changes::changed_mailboxes))]
 pub fn put_mailboxes(
     out: &mut Text,
     at: usize,
@@ -177,49 +165,45 @@ pub fn put_mailboxes(
 ) -> usize
     ensures { PutNumbers out.old at (changed_mailboxes before.now lines_before.now mailboxes.now lines.now) out.new result }
 {
-    let mut p = at;
-    let mut i: u8 = 0;
-    while i < MAILBOX_ROWS_U8 {
-        p = put_mailbox_if_changed(out, p, before, lines_before, mailboxes, lines, i);
-        i += 1;
-    }
-    p
+    put_each(out, at, MAILBOX_ROWS, |out, p, i| {
+        put_mailbox_if_changed(out, p, before, lines_before, mailboxes, lines, i as u8)
+    })
 }
 
 // ---- clocks
 
 // Clock i as it is now, if it ran out.
-fn put_if_ran_out(out: &mut Text, at: usize, before: &Clocks, clocks: &Clocks, i: u8) -> usize
-    ensures { PutNumbers out.old at (told (runs_out before.now i) (i ∷ row 5 16 clocks.now i)) out.new result }
+fn put_if_ran_out(out: &mut Text, at: usize, before: &Clocks, t: Table, i: usize) -> usize
+    ensures { PutNumbers out.old at (told (runs_out before.now i) (i ∷ row t.entry.width t.entry.rows t.entry.after.now i)) out.new result }
 {
-    if trace_put::runs_out(rows::clock(before, basics::wide(i))) {
-        return put_object(out, at, clocks, CLOCK_WIDTH_U8, CLOCK_ROWS_U8, i);
+    if runs_out(rows::clock(before, i)) {
+        return put_object(out, at, t, i);
     }
     at
 }
 
-// The clocks that ran out.
-fn put_ran_out(out: &mut Text, at: usize, before: &Clocks, clocks: &Clocks) -> usize
-    ensures { PutNumbers out.old at (ran_out before.now clocks.now) out.new result }
-{
-    let mut p = at;
-    let mut i: u8 = 0;
-    while i < CLOCK_ROWS_U8 {
-        p = put_if_ran_out(out, p, before, clocks, i);
-        i += 1;
-    }
-    p
-}
-
+// At a tick the clocks that ran out, else those whose row changed.
+#[tactic(auto, unfolding(trace_changes::specs::Changes::changed_clocks, trace_changes::specs::Changes::ran_out))]
 pub fn put_clocks(out: &mut Text, at: usize, made: Made, before: &Clocks, clocks: &Clocks) -> usize
     ensures { PutNumbers out.old at (changed_clocks made before.now clocks.now) out.new result }
 {
+    let table = Table {
+        before,
+        after: clocks,
+        width: CLOCK_WIDTH_U8,
+        rows: CLOCK_ROWS_U8,
+    };
     let answer = made.answer;
     let asked = made.asked;
     if (answer.code == 0) & (asked.number == 0x76) {
-        return put_ran_out(out, at, before, clocks);
+        return put_each(
+            out,
+            at,
+            CLOCK_ROWS,
+            |out, p, i| put_if_ran_out(out, p, before, table, i),
+        );
     }
-    put_rows(out, at, before, clocks, CLOCK_WIDTH_U8, CLOCK_ROWS_U8)
+    put_rows(out, at, table)
 }
 
 // ---- the heap
@@ -227,26 +211,14 @@ pub fn put_clocks(out: &mut Text, at: usize, made: Made, before: &Clocks, clocks
 fn same_heap(before: &Heap, heap: &Heap) -> bool
     ensures { result ≡ same_heap before.now heap.now }
 {
-    let mut same = true;
-    let mut u = 0;
-    while u < HEAP_UNITS {
-        same = same & (rows::readings::unit(before, u) == rows::readings::unit(heap, u));
-        u += 1;
-    }
-    same
+    before == heap
 }
 
 // How many units have this entry.
 fn count_units(heap: &Heap, e: u8) -> usize
     ensures { (result ≡ units_with e heap.now) × (result ≤ 256) }
 {
-    let mut n = 0;
-    let mut u = 0;
-    while u < HEAP_UNITS {
-        n += basics::index(bit(rows::readings::unit(heap, u) == e));
-        u += 1;
-    }
-    n
+    heap.iter().filter(|x| **x == e).count()
 }
 
 pub fn put_heap(out: &mut Text, at: usize, before: &Heap, heap: &Heap) -> usize
@@ -257,6 +229,6 @@ pub fn put_heap(out: &mut Text, at: usize, before: &Heap, heap: &Heap) -> usize
     }
     let blocks = count_units(heap, FIRST_OF);
     let taken = blocks + count_units(heap, LATER_IN);
-    let p = put_long(out, at, blocks as u64);
-    put_long(out, p, taken as u64)
+    let p = put(out, at, blocks as u64);
+    put(out, p, taken as u64)
 }

@@ -7,7 +7,6 @@ use Rattle.trace_line.proofs.put_call.Goals as goal
 pub returns : goal.returns
 unfolding call_text
 returns c =
-    let n = tells_more _ _ c.put_long-tick.ensures c.put-caller.ensures in
+    let n = tells_more _ _ c.put-tick.ensures c.put-caller.ensures in
     let caller = rw c.running.ensures at c.put_thread-asked.ensures in
-    put-more n (put-more caller (put-more (tells_more _ _ c.put_asked-answered.ensures c.put_answer-now.ensures)
-    c.put_thread.ensures))
+    put-more n (put-more caller (put-more c.put_words-now.ensures c.put_thread.ensures))

@@ -12,5 +12,5 @@ pub returns : goal.returns
 unfolding changed_heap
 returns c =
     told-changed c.same_heap.ensures _ c.if-same_heap.false
-    (tells_more _ _ (rw c.count_units-blocks.ensures.0 at c.put_long-p.ensures)
-    (rw (c.count_units-blocks.ensures.0, c.count_units.ensures.0) at c.put_long.ensures))
+    (tells_more _ _ (rw c.count_units-blocks.ensures.0 at c.put-p.ensures)
+    (rw (c.count_units-blocks.ensures.0, c.count_units.ensures.0) at c.put.ensures))

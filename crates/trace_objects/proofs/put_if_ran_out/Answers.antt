@@ -4,4 +4,4 @@ use Rattle.trace_objects.proofs.put_if_ran_out.Goals as goal
 
 pub returns : goal.returns
 returns c =
-    told-no (rw (c.clock.ensures, c.wide.ensures.0) at c.runs_out.ensures) _ c.if-runs_out.false
+    told-no (rw c.clock.ensures at c.runs_out.ensures) _ c.if-runs_out.false

@@ -5,11 +5,9 @@ use Rattle.trace_objects.proofs.put_lined_if_changed.Goals as goal
 
 pub returns-then-same_row-same_line : goal.returns-then-same_row-same_line
 returns-then-same_row-same_line c =
-    told_same (both c.same_row.ensures
-    (rw (c.wide.ensures.0, c.wide-2.ensures.0) at c.same_line.ensures)) _ c.if-same_row-same_line.true
+    told_same (both c.same_row.ensures c.same_line.ensures) _ c.if-same_row-same_line.true
 
 pub returns : goal.returns
 returns c =
-    told-changed (both c.same_row.ensures
-    (rw (c.wide.ensures.0, c.wide-2.ensures.0) at c.same_line.ensures)) _ c.if-same_row-same_line.false
-    (tells_more _ _ c.put_object-p.ensures (rw (c.wide.ensures.0, c.wide-2.ensures.0) at c.put_waiting.ensures))
+    told-changed (both c.same_row.ensures c.same_line.ensures) _ c.if-same_row-same_line.false
+    (tells_more _ _ c.put_object-p.ensures c.put_waiting.ensures)

@@ -6,7 +6,7 @@ use Rattle.trace_objects.proofs.put_mailbox.Goals as goal
 pub returns : goal.returns
 unfolding mailbox_numbers
 returns c =
-    tells_more _ _ c.put_small-capacity.ensures
-    (tells_more _ _ (rw (c.mailbox.ensures, c.wide-n.ensures.0) at c.put-count.ensures)
-    (tells_more _ _ (rw (c.count.ensures, c.wide-n.ensures.0) at c.put_long-first.ensures)
-    (tells_more _ _ (rw c.wide-n.ensures.0 at c.put_messages-waiters.ensures) (rw c.wide-n.ensures.0 at c.put_waiting.ensures))))
+    tells_more _ _ c.put-capacity.ensures
+    (tells_more _ _ (rw c.mailbox.ensures at c.put-count.ensures)
+    (tells_more _ _ (rw c.count.ensures at c.put-first.ensures)
+    (tells_more _ _ c.put_messages-waiters.ensures c.put_waiting.ensures)))

@@ -3,4 +3,4 @@ use Rattle.trace_changes.proofs.Telling.{tells_more}
 use Rattle.trace_objects.proofs.put_object.Goals as goal
 
 pub returns : goal.returns
-returns c = tells_more _ _ c.put_small-p.ensures c.put_row.ensures
+returns c = tells_more _ _ c.put-p.ensures c.put_row.ensures

@@ -6,4 +6,4 @@ use Rattle.trace_put.proofs.put_waiting.Goals as goal
 pub returns : goal.returns
 unfolding waiting
 returns c =
-    tells_more _ _ (rw c.len.ensures at c.put_long-p.ensures) c.put_line.ensures
+    tells_more _ _ (rw c.len.ensures at c.put-p.ensures) c.put_line.ensures

@@ -1,14 +1,8 @@
--- `same_front` meets its contract: the invariant is what the test says of those looked at so far.
-use Prim.Native.Nat.{◌-◌}
-use mathlib.Core.Path.{sym}
-use Rattle.basics.proofs.Finds.{all_none, all-step}
-use Rattle.trace_changes.proofs.Steps.{same-words}
+-- `same_front` meets its contract: the test of each is that of the definition.
 use Rattle.std.proofs.Common.{rules}
+use borrow.Author.Tests.{tests}
+use Rattle.trace_changes.proofs.Steps.{all_over}
 use Rattle.trace_put.proofs.same_front.Goals as goal
 
-pub loop-k-init : goal.loop-k-init
-loop-k-init c = (search rules, sym (all_none _))
-
-pub loop-k-preserved : goal.loop-k-preserved
-loop-k-preserved c =
-    (search rules, all-step _ c.loop-k.k c.loop-k.invariant.1 (same-words c.member.ensures c.member-in-loop-k.ensures))
+pub returns : goal.returns
+returns c = all_over c.args.n _ _ _ _ c.all.ensures.ran (λ k b q h. search (rules, tests))
