@@ -15,10 +15,28 @@ use rules::numbers::{
     FEW_QUEUES, LEVELS, LINE_BYTES, LINE_WIDTH, POSTED_LINES, READY_LINES, STATE_WIDTH,
 };
 use rules::{Lines, State};
-use text::Text;
 
 // How many queues of each kind there are.
 const QUEUES: usize = FEW_QUEUES;
+
+// What is searched for: posted Swis, ready tasks with 16 levels or with 32; or one look at one queue.
+#[derive(Clone, Copy)]
+enum Search {
+    Posted,
+    Ready,
+    Wide,
+    Look,
+}
+
+// By the first letter of the program's first argument.
+fn search_for(letter: u8) -> Search {
+    match letter {
+        b'p' => Search::Posted,
+        b'r' => Search::Ready,
+        b'w' => Search::Wide,
+        _ => Search::Look,
+    }
+}
 
 // The queue that is filled first, and how far on the next one is each time.
 #[derive(Clone, Copy)]
@@ -31,18 +49,7 @@ struct Filled {
 fn letter(rt: &HostRuntime, k: usize) -> u8 {
     let mut name = [0u8; streams::WORD_BYTES];
     let length = streams::word(rt, k, &mut name).unwrap_or(0);
-    let word = &name[..length];
-    if word.len() == 0 {
-        return 0;
-    }
-    word[0]
-}
-
-// How often, by the program's second argument.
-fn rounds(rt: &HostRuntime) -> u32 {
-    let mut name = [0u8; streams::WORD_BYTES];
-    let length = streams::word(rt, 2, &mut name).unwrap_or(0);
-    pace_sums::rounds_for(&name[..length])
+    name[..length].first().copied().unwrap_or(0)
 }
 
 // Which queues are filled, by the first letter of the program's third argument.
@@ -58,37 +65,34 @@ fn queues_for(letter: u8) -> Filled {
 }
 
 // How many levels the chosen search looks through.
-fn levels_for(search: u8) -> u32 {
-    if search == b'w' {
-        return rules::numbers::MOST_LEVELS;
+fn levels_for(search: Search) -> u32 {
+    match search {
+        Search::Wide => rules::numbers::MOST_LEVELS,
+        _ => rules::numbers::FEW_LEVELS,
     }
-    rules::numbers::FEW_LEVELS
 }
 
 // 1 where somebody stands in the ready queue of priority p, else 0.
 fn look(lines: &Lines, p: usize) -> usize
     ensures { result ≤ 1 }
 {
-    if lines::anyone(lines, READY_LINES + p % QUEUES) {
-        return 1;
-    }
-    0
+    usize::from(lines::anyone(lines, READY_LINES + p % QUEUES))
 }
 
-// What the chosen search found.
-fn found_at(lines: &Lines, state: &State, search: u8, p: usize) -> usize
+// What the chosen search found. Stays a match at each search, not a closure that is chosen once: with closures `main` says the call of `searches` once
+// for each of them.
+fn found_at(lines: &Lines, state: &State, search: Search, p: usize) -> usize
     ensures { result ≤ 32 }
 {
     match search {
-        b'p' => dispatch::due::highest_posted(lines),
-        b'r' => dispatch::due::highest_ready(lines, state),
-        b'w' => dispatch::due::highest_ready(lines, state),
-        _ => look(lines, p),
+        Search::Posted => dispatch::due::highest_posted(lines),
+        Search::Ready | Search::Wide => dispatch::due::highest_ready(lines, state),
+        Search::Look => look(lines, p),
     }
 }
 
 // The same as a number to be added.
-fn found(lines: &Lines, state: &State, search: u8, p: usize) -> u32 {
+fn found(lines: &Lines, state: &State, search: Search, p: usize) -> u32 {
     found_at(lines, state, search, p) as u32
 }
 
@@ -99,37 +103,25 @@ fn set(lines: &mut Lines, p: usize, n: u8) {
 }
 
 // n searches. Before each somebody joins the queues of one priority, and after it they are empty again.
-fn searches(lines: &mut Lines, state: &State, search: u8, filled: Filled, n: u32) -> u32 {
-    let mut sum = 0;
+fn searches(lines: &mut Lines, state: &State, search: Search, filled: Filled, n: u32) -> u32 {
+    let mut sum = 0u32;
     let mut p = filled.first;
-    let mut left = n;
-    while 0 < left {
+    for _ in 0..n {
         set(lines, p, 1);
-        sum = std::num::wrapping_add_u32(sum, found(lines, state, search, filled.first));
+        sum = sum.wrapping_add(found(lines, state, search, filled.first));
         set(lines, p, 0);
-        p = std::num::wrapping_add_usize(p, filled.step);
-        left -= 1;
+        p = p.wrapping_add(filled.step);
     }
     sum
 }
 
-// Puts the line of the sum into a buffer, and writes it from there.
-fn write_sum(rt: &HostRuntime, out: &mut Text, sum: u32) {
-    let len = pace_sums::put_sum(out, sum);
-    let _ = rt.write_all(text::front(out, len));
-}
-
-fn print_sum(rt: &HostRuntime, sum: u32) {
-    let mut out = [0u8; 16384];
-    write_sum(rt, &mut out, sum);
-}
-
 fn main(rt: HostRuntime) {
     let mut lines = [0u8; LINE_BYTES];
-    let search = letter(&rt, 1);
+    let search = search_for(letter(&rt, 1));
     let mut state = [0u32; STATE_WIDTH];
     state[LEVELS] = levels_for(search);
     let filled = queues_for(letter(&rt, 3));
-    let sum = searches(&mut lines, &state, search, filled, rounds(&rt));
-    print_sum(&rt, sum);
+    let rounds = pace_sums::rounds(&rt, 2);
+    let sum = searches(&mut lines, &state, search, filled, rounds);
+    pace_sums::print_sum(&rt, sum);
 }

@@ -1,9 +1,9 @@
--- The words of a record behind those of the records before it; the rounds that a byte asks for.
-use Rattle.std.proofs.Common.{◌≡◌, ℕ, zero, suc, ◌+◌, ◌-◌, ◌*◌, ◌^◌, ◌≤◌, min, Bool, true, false, cond as if, ◌&&◌, ltb, leb, ◌⊎◌, List, [], ◌∷◌, length, get_or, set, sym, refl, ◌∙◌, ⊎_elim, add-one, arith, length-append, ltb-true, leb-true}
+-- The words of a record behind those of the records before it.
+use Rattle.std.proofs.Common.{◌≡◌, ℕ, zero, suc, ◌+◌, ◌*◌, List, [], ◌∷◌, length, get_or, set, sym, refl, ◌∙◌, add-one, arith, length-append}
 use lib.Seq.{sets}
 use Rattle.basics.proofs.Runs.{sets-append}
 use Rattle.rules.specs.Log.{handed_out, argument}
-use Rattle.pace_sums.specs.Pace.{record_words, call_words, rounds_by, rounds_for}
+use Rattle.pace_sums.specs.Pace.{record_words, call_words}
 
 five-each : (n : ℕ) (s : List ℕ) → length (call_words n s) ≡ n * 5
 unfolding call_words
@@ -33,26 +33,3 @@ module _ (s cs₀ cs : List ℕ) (k : ℕ) (i : cs ≡ sets cs₀ 0 (call_words 
   next-words n q e f g h =
       let p : k * 5 ≡ 0 + length (call_words k s) = omega (arith, five-each k s) in
       stores cs (k * 5) _ _ _ _ _ ∙ rw (e, f, g, h, q, n, i, add-one k, p) (sym (sets-append (call_words k s) (record_words s k) cs₀ 0))
-
-  pub all_words : {n : ℕ} → k ≤ n → (n ≤ k) ⊎ (3276 ≤ k) → k ≤ 3276 → cs ≡ sets cs₀ 0 (call_words (min n 3276) s)
-  all_words {n} h e m = let p : min n 3276 ≡ k = ⊎_elim (λ (x : n ≤ k). omega arith) (λ (x : 3276 ≤ k). omega arith) e in rw p i
-
--- ---- rounds
-pub rounds-none : (name : List ℕ) → length name ≡ 0 → 1 ≡ rounds_for name
-unfolding rounds_for
-rounds-none [] h = refl
-rounds-none (b ∷ name) h = absurd (omega arith)
-
-pub rounds-by : (name : List ℕ) {b n : ℕ} → get_or name 0 0 ≡ b → n ≡ rounds_by b → n ≡ rounds_for name
-unfolding rounds_for
-rounds-by name e r = rw e r
-
-once : (b : ℕ) (x y : Bool) → leb 48 b ≡ x → ltb b 53 ≡ y
-    → (b ≡ 49 → ⊥) → (b ≡ 50 → ⊥) → (b ≡ 51 → ⊥) → (b ≡ 52 → ⊥)
-    → 1 ≡ if (x && y) (10 ^ (b - 48)) 1
-once b true true p q h₁ h₂ h₃ h₄ = let e : b ≡ 48 = omega (arith, leb-true 48 b p, ltb-true b 53 q) in rw e
-once b true false p q h₁ h₂ h₃ h₄ = refl
-once b false y p q h₁ h₂ h₃ h₄ = refl
-
-pub rounds-other : (b : ℕ) → (b ≡ 49 → ⊥) → (b ≡ 50 → ⊥) → (b ≡ 51 → ⊥) → (b ≡ 52 → ⊥) → 1 ≡ rounds_by b
-rounds-other b h₁ h₂ h₃ h₄ = once b (leb 48 b) (ltb b 53) refl refl h₁ h₂ h₃ h₄

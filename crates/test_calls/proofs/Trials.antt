@@ -1,6 +1,6 @@
 -- What the comparison of both entries tells, put together from the comparison of each part.
-use mathlib.Core.Path.{◌≡◌, refl, sym, ap, subst, ◌∙◌}
-use mathlib.Core.Bool.{Bool, ◌&&◌}
+use mathlib.Core.Path.{◌≡◌, sym, ap, ◌∙◌}
+use mathlib.Core.Bool.{Bool}
 use Rattle.rules.specs.Step.{step_of}
 use Rattle.rules.specs.declared.Tables.{Tables}
 use Rattle.rules.specs.declared.Step.{Step}
@@ -11,17 +11,9 @@ use Rattle.demands.specs.One.{thread_of}
 use Rattle.demands.specs.Promised.{Promised}
 use Rattle.demands.proofs.Promised.{thread-is}
 use Rattle.test_same.specs.Tells.{Tells}
-use Rattle.test_same.proofs.Compared.{said-as, both}
+use Rattle.test_same.proofs.Compared.{said-as}
 use Rattle.test_calls.specs.Trial.{Left, Alike, BothWays}
 use Rattle.test_calls.specs.declared.in_place.InPlace.{InPlace}
-use Rattle.test_calls.specs.declared.trial.Tried.{Tried}
-
--- the answers, the threads and the tables
-pub all_alike : (s m : Step) {running own : Thread} {p q u v w : Bool}
-    → Tells p (s.answer ≡ m.answer) → Tells q (s.thread ≡ m.thread) → Tells u (s.thread ≡ running)
-    → own ≡ thread_of s.tables → Tells v (s.thread ≡ own) → Tells w (s.tables ≡ m.tables)
-    → Tells (p && q && u && v && w) (Alike s m running)
-all_alike s m p q u e v w = both (both (both (both p q) u) (rw e at v)) w
 
 -- two steps are alike exactly where they are equal: the thread of each runs in what it left
 same_step : (s m : Step) {running : Thread} → Alike s m running → s ≡ m

@@ -1,4 +1,4 @@
-// Calls in place: tables by value are put into variables, which are lent to the entry and put together again.
+// Calls in place: tables by value are put into a variable, which is lent to the entry.
 ghost use Rattle.runs.specs.CallList.{handed};
 ghost use Rattle.demands.specs.Lists.{PromisedList};
 ghost use Rattle.test_calls.specs.Trial.{Left};
@@ -16,101 +16,27 @@ pub(crate) struct InPlace {
 pub(crate) fn call(t: Tables, q: Call) -> InPlace
     ensures { Left t q result }
 {
-    let mut tasks = t.tasks;
-    let mut lines = t.lines;
-    let mut semaphores = t.semaphores;
-    let mut events = t.events;
-    let mut mailboxes = t.mailboxes;
-    let mut swis = t.swis;
-    let mut clocks = t.clocks;
-    let mut heap = t.heap;
-    let mut state = t.state;
-    let said = entries::call_in_place(
-        &mut tasks,
-        &mut lines,
-        &mut semaphores,
-        &mut events,
-        &mut mailboxes,
-        &mut swis,
-        &mut clocks,
-        &mut heap,
-        &mut state,
-        q,
-    );
-    let running = entries::thread(
-        &tasks,
-        &lines,
-        &semaphores,
-        &events,
-        &mailboxes,
-        &swis,
-        &clocks,
-        &heap,
-        &state,
-    );
-    let tables = Tables {
-        tasks,
-        lines,
-        semaphores,
-        events,
-        mailboxes,
-        swis,
-        clocks,
-        heap,
-        state,
-    };
-    let answer = said.answer;
-    let thread = said.thread;
-    let step = Step {
-        tables,
-        answer,
-        thread,
-    };
-    InPlace { step, running }
+    let mut tables = t;
+    let said = entries::call_in_place(&mut tables, q);
+    InPlace {
+        step: Step {
+            tables,
+            answer: said.answer,
+            thread: said.thread,
+        },
+        running: entries::thread(&tables),
+    }
 }
 
 // Many calls at once, with room for their answers.
 pub fn call_list(t: Tables, calls: &[u32], answers: &mut [u32]) -> Step
     ensures { PromisedList t calls.now answers.old (handed result.tables answers.new result.answer result.thread) }
 {
-    let mut tasks = t.tasks;
-    let mut lines = t.lines;
-    let mut semaphores = t.semaphores;
-    let mut events = t.events;
-    let mut mailboxes = t.mailboxes;
-    let mut swis = t.swis;
-    let mut clocks = t.clocks;
-    let mut heap = t.heap;
-    let mut state = t.state;
-    let said = entries::call_list(
-        &mut tasks,
-        &mut lines,
-        &mut semaphores,
-        &mut events,
-        &mut mailboxes,
-        &mut swis,
-        &mut clocks,
-        &mut heap,
-        &mut state,
-        calls,
-        answers,
-    );
-    let tables = Tables {
-        tasks,
-        lines,
-        semaphores,
-        events,
-        mailboxes,
-        swis,
-        clocks,
-        heap,
-        state,
-    };
-    let answer = said.answer;
-    let thread = said.thread;
+    let mut tables = t;
+    let said = entries::call_list(&mut tables, calls, answers);
     Step {
         tables,
-        answer,
-        thread,
+        answer: said.answer,
+        thread: said.thread,
     }
 }

@@ -23,8 +23,6 @@ pub fn put_call(out: &mut Text, n: u64, tried: Tried, note: &[u8]) -> usize
         return put_rest(out, 0, b"differs");
     }
     let step = tried.step;
-    let answer = step.answer;
-    let thread = step.thread;
-    let end = text::put_line(out, 0, n, answer, thread) - 1;
+    let end = text::put_line(out, 0, n, step.answer, step.thread) - 1;
     put_rest(out, end, note)
 }

@@ -8,6 +8,7 @@ use rules::{Call, Step, Tables};
 use test_same::{same_answer, same_tables, same_thread};
 
 // What the call by value left, what the call in place left, and whether the two say the same in everything.
+// Stays a flag beside the steps: `BothWays` and `call_text` name it, and the steps are handed on either way.
 #[derive(Clone, Copy)]
 pub struct Tried {
     pub step: Step,
@@ -19,14 +20,11 @@ pub struct Tried {
 fn agrees(step: Step, left: InPlace) -> bool
     ensures { Tells result (Alike step left.step left.running) }
 {
-    let thread = step.thread;
     let other = left.step;
-    let given = other.thread;
-    let running = left.running;
     same_answer(step.answer, other.answer)
-        & same_thread(thread, given)
-        & same_thread(thread, running)
-        & same_thread(thread, entries::thread_of(step.tables))
+        & same_thread(step.thread, other.thread)
+        & same_thread(step.thread, left.running)
+        & same_thread(step.thread, entries::thread_of(step.tables))
         & same_tables(step.tables, other.tables)
 }
 
@@ -37,10 +35,9 @@ pub fn try_call(t: Tables, u: Tables, q: Call) -> Tried
     let step = entries::call(t, q);
     let left = in_place::call(u, q);
     let agrees = agrees(step, left);
-    let in_place = left.step;
     Tried {
         step,
-        in_place,
+        in_place: left.step,
         agrees,
     }
 }

@@ -3,18 +3,22 @@
 #![tactic(auto)]
 
 mod logs;
-mod print;
 
-use logs::try_log;
+// The logs of the kinds, by their files' names.
+const LOGS: [&str; 9] = [
+    "tasks.log",
+    "swis.log",
+    "semaphores.log",
+    "events.log",
+    "mailboxes.log",
+    "clocks.log",
+    "heap.log",
+    "switches.log",
+    "levels.log",
+];
 
 fn main(rt: HostRuntime) {
-    try_log(&rt, b"tasks.log");
-    try_log(&rt, b"swis.log");
-    try_log(&rt, b"semaphores.log");
-    try_log(&rt, b"events.log");
-    try_log(&rt, b"mailboxes.log");
-    try_log(&rt, b"clocks.log");
-    try_log(&rt, b"heap.log");
-    try_log(&rt, b"switches.log");
-    try_log(&rt, b"levels.log");
+    for name in LOGS {
+        logs::try_log(&rt, name.as_bytes());
+    }
 }

@@ -2,12 +2,11 @@
 // the answer room are filled, and a sum over these.
 #![tactic(auto)]
 
-ghost use Rattle.std.specs.Prelude.{◌≤◌};
-
 use call_lists::front;
 use rules::numbers::{FEW_LEVELS, FOREVER, LEVELS};
 use rules::{Step, Tables};
 use test_calls::in_place::call_list;
+use test_calls::print::print;
 use text::Text;
 
 // A call's number and its four arguments: said again, and not taken from the core.
@@ -40,44 +39,35 @@ const UNTOUCHED: u32 = u32::MAX;
 // No call's number, although its lowest byte is one.
 const NO_NUMBER: u32 = 256;
 
-const ROWS: u64 = 16;
-
 // The row whose first call has no call's number, and the first one on tables that are not sound.
 const WRONG_NUMBER: u64 = 13;
 
 const UNSOUND: u64 = 14;
 
-// How many words of the list and of the room a row lends.
-#[derive(Clone, Copy)]
-struct Row(usize, usize);
-
-fn row_of(n: u64) -> Row {
-    match n {
-        1 => Row(0, 0),
-        2 => Row(25, 15),
-        3 => Row(25, 14),
-        4 => Row(24, MOST_ROOM),
-        5 => Row(1, MOST_ROOM),
-        6 => Row(26, MOST_ROOM),
-        7 => Row(25, MOST_ROOM),
-        8 => Row(1280, 767),
-        9 => Row(1280, 768),
-        10 => Row(1281, MOST_ROOM),
-        11 => Row(MOST_WORDS, MOST_ROOM),
-        12 => Row(0, MOST_ROOM),
-        13 => Row(25, 15),
-        14 => Row(0, 0),
-        15 => Row(24, MOST_ROOM),
-        _ => Row(25, 15),
-    }
-}
+// How many words of the list and of the room each row lends; the rows are counted from 1.
+const ROWS: [(usize, usize); 16] = [
+    (0, 0),
+    (25, 15),
+    (25, 14),
+    (24, MOST_ROOM),
+    (1, MOST_ROOM),
+    (26, MOST_ROOM),
+    (25, MOST_ROOM),
+    (1280, 767),
+    (1280, 768),
+    (1281, MOST_ROOM),
+    (MOST_WORDS, MOST_ROOM),
+    (0, MOST_ROOM),
+    (25, 15),
+    (0, 0),
+    (24, MOST_ROOM),
+    (25, 15),
+];
 
 // The sample's words again and again.
 fn fill(list: &mut List) {
-    let mut j = 0;
-    while j < MOST_WORDS {
-        list[j] = SAMPLE[j / CALL_WORDS % SAMPLE_CALLS][j % CALL_WORDS];
-        j += 1;
+    for (j, word) in list.iter_mut().enumerate() {
+        *word = SAMPLE[j / CALL_WORDS % SAMPLE_CALLS][j % CALL_WORDS];
     }
 }
 
@@ -91,60 +81,27 @@ fn words_of(n: u64) -> List {
     list
 }
 
-// So many words, or all of the room.
-fn lent_room(n: usize) -> usize
-    ensures { result ≤ 776 }
-{
-    if MOST_ROOM < n {
-        return MOST_ROOM;
-    }
-    n
-}
-
 // How many words are no longer as they were.
 fn filled(room: &Room) -> usize {
-    let mut n = 0;
-    let mut j = 0;
-    while j < MOST_ROOM {
-        if room[j] != UNTOUCHED {
-            n += 1;
-        }
-        j += 1;
-    }
-    n
+    room.iter().filter(|word| **word != UNTOUCHED).count()
 }
 
 // A sum over these words, in which their places count.
 fn sum_of(room: &Room) -> u32 {
-    let mut sum = 0;
-    let mut j = 0;
-    while j < MOST_ROOM {
-        if room[j] != UNTOUCHED {
-            sum = std::num::wrapping_add_u32(sum ^ room[j], j as u32);
+    let mut sum = 0u32;
+    for (j, word) in room.iter().enumerate() {
+        if *word != UNTOUCHED {
+            sum = (sum ^ *word).wrapping_add(j as u32);
         }
-        j += 1;
     }
     sum
 }
 
 // The lines of a row.
 fn put_row(out: &mut Text, n: u64, step: Step, room: &Room) -> usize {
-    let answer = step.answer;
-    let thread = step.thread;
-    let p = text::put_line(out, 0, n, answer, thread);
+    let p = text::put_line(out, 0, n, step.answer, step.thread);
     let q = text::put_word(out, p, b"filled", filled(room) as u64);
-    text::put_word(out, q, b"sum", sum_of(room) as u64)
-}
-
-// Writes the first `len` bytes of a buffer.
-fn write_text(rt: &HostRuntime, out: &Text, len: usize) {
-    let _ = rt.write_all(text::front(out, len));
-}
-
-fn print_row(rt: &HostRuntime, n: u64, step: Step, room: &Room) {
-    let mut out = [0u8; 16384];
-    let len = put_row(&mut out, n, step, room);
-    write_text(rt, &out, len);
+    text::put_word(out, q, b"sum", u64::from(sum_of(room)))
 }
 
 // From a row on the tables are not sound: they have 17 levels.
@@ -157,21 +114,19 @@ fn prepare(t: Tables, n: u64) -> Tables {
 }
 
 // Hands the list of row n over, and prints what came of it. Answers the next tables.
-fn hand_over(rt: &HostRuntime, t: Tables, n: u64) -> Tables {
-    let lent = row_of(n);
+fn hand_over(rt: &HostRuntime, t: Tables, n: u64, lent: (usize, usize)) -> Tables {
     let words = words_of(n);
     let mut room = [UNTOUCHED; MOST_ROOM];
-    let end = lent_room(lent.1);
+    let end = lent.1.min(MOST_ROOM);
     let step = call_list(t, front(&words, lent.0), &mut room[..end]);
-    print_row(rt, n, step, &room);
+    print(rt, |out| put_row(out, n, step, &room));
     step.tables
 }
 
 fn main(rt: HostRuntime) {
     let mut t = entries::fresh(FEW_LEVELS).tables;
-    let mut n = 1;
-    while n <= ROWS {
-        t = hand_over(&rt, prepare(t, n), n);
-        n += 1;
+    for (i, lent) in ROWS.iter().enumerate() {
+        let n = i as u64 + 1;
+        t = hand_over(&rt, prepare(t, n), n, *lent);
     }
 }

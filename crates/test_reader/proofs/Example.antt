@@ -9,7 +9,7 @@ use Rattle.basics.specs.Lists.{zeros}
 use Rattle.rules.specs.Log.{read_in, argument_bytes, handed_out, move_to}
 use Rattle.rules.specs.declared.Read.TheVariants.{Record, Version}
 use Rattle.test_reader.specs.declared.Walked.{Walked}
-use Rattle.test_reader.specs.Walk.{start_of, walked, is_record, is_version, are_in}
+use Rattle.test_reader.specs.Walk.{walked, is_record, is_version, are_in}
 
 abbrev pub example : List ℕ
 example =

@@ -1,21 +1,15 @@
--- The arguments in a part that was handed out, field by field; and what three reads find one after the other, each by the reader that the one before it left.
+-- What three reads find one after the other, each by the reader that the one before it left.
 use Prim.Native.Nat.{ℕ}
 use mathlib.Core.Path.{◌≡◌}
 use mathlib.Core.List.{List}
-use lib.ListN.{length}
 use denote.Ref.{Bor}
-use Rattle.rules.specs.Log.{handed_out, argument}
+use Rattle.rules.specs.Log.{handed_out}
 use Rattle.rules.specs.declared.Read.{Read}
 use Rattle.call_log.specs.declared.reader.Reader.{Reader}
 use Rattle.call_log.proofs.OneAnswer.{Begun, Found}
 use Rattle.test_reader.specs.declared.Arguments.{Arguments}
 use Rattle.test_reader.specs.declared.Walked.{Walked}
 use Rattle.test_reader.specs.Walk.{start_of, arguments_in, walked}
-
-pub in_is : (bytes : List ℕ) {n a b c d : ℕ} → n ≡ length bytes
-    → a ≡ argument bytes 0 → b ≡ argument bytes 1 → c ≡ argument bytes 2 → d ≡ argument bytes 3
-    → record { len = n; a = a; b = b; c = c; d = d } ≡ arguments_in bytes
-in_is bytes n p q r u = rw (n, p, q, r, u)
 
 -- the arguments of what was found, as the reader z hands them out: from a start n on, in these bytes
 pub record Asked (z : Reader) (r : Read) (n : ℕ) (bytes : List ℕ) (a : Arguments) : Type 0 where

@@ -12,16 +12,13 @@ fn start_of(found: Read) -> usize
     ensures { result ≡ start_of found }
 {
     match found {
-        Read::Record { number: _, start } => start,
-        Read::End => 0,
-        Read::Cut(_) => 0,
-        Read::Length(_) => 0,
-        Read::Version(_) => 0,
+        Read::Record { start, .. } => start,
+        _ => 0,
     }
 }
 
 // How many bytes were handed out, and the four arguments in them.
-#[derive(Clone, Copy)]
+#[derive(Clone, Copy, PartialEq)]
 struct Arguments {
     len: usize,
     a: u32,
@@ -76,39 +73,28 @@ fn walk(log: &[u8]) -> Walked
 fn is_record(found: Read, number: u8, start: usize) -> bool
     ensures { result ≡ is_record found number start }
 {
-    match found {
-        Read::Record {
-            number: its_number,
-            start: its_start,
-        } => (its_number == number) & (its_start == start),
-        Read::End => false,
-        Read::Cut(_) => false,
-        Read::Length(_) => false,
-        Read::Version(_) => false,
-    }
+    found == Read::Record { number, start }
 }
 
 // Whether a wrong version was found, there.
 fn is_version(found: Read, at: usize) -> bool
     ensures { result ≡ is_version found at }
 {
-    match found {
-        Read::Record {
-            number: _,
-            start: _,
-        } => false,
-        Read::End => false,
-        Read::Cut(_) => false,
-        Read::Length(_) => false,
-        Read::Version(its_at) => its_at == at,
-    }
+    found == Read::Version(at)
 }
 
 // Whether sixteen bytes were handed out, and these are the first two arguments in them, before two that are 0.
 fn are(handed: Arguments, a: u32, b: u32) -> bool
     ensures { result ≡ are_in handed a b }
 {
-    (handed.len == 16) & (handed.a == a) & (handed.b == b) & (handed.c == 0) & (handed.d == 0)
+    handed
+        == Arguments {
+            len: 16,
+            a,
+            b,
+            c: 0,
+            d: 0,
+        }
 }
 
 // 01's records 'create at 5' and 'pend on 0 without end', and its 'post 0' with version 2.
@@ -118,17 +104,14 @@ fn main() {
         \x00\x12\x01\x22\x00\x00\x00\x00\xff\xff\xff\xff\x00\x00\x00\x00\x00\x00\x00\x00\
         \x00\x12\x02\x23\x00\x00\x00\x00\x00\x00\x00\x00\x00\x00\x00\x00\x00\x00\x00\x00";
     let walked = walk(log);
-    let first = walked.first;
     let one = walked.one;
-    let second = walked.second;
     let two = walked.two;
-    let third = walked.third;
     check::expect(
-        is_record(first, 0x00, 4)
+        is_record(walked.first, 0x00, 4)
             & are(one, 5, 0)
-            & is_record(second, 0x22, 24)
+            & is_record(walked.second, 0x22, 24)
             & are(two, 0, 4294967295)
-            & is_version(third, 40)
+            & is_version(walked.third, 40)
             & (walked.at == 40),
     );
 }

@@ -1,5 +1,5 @@
 // Changes to numbers far out of range.
-use super::calls::{begin, try_row, try_tasks};
+use super::calls::begin;
 use super::changes::Row;
 use rules::Tables;
 use rules::numbers::{
@@ -21,74 +21,32 @@ pub(crate) fn break_all(rt: &HostRuntime, t: Tables) {
 
 // "All numbers are in this page's ranges": the last number that a word holds, or a unit of the heap.
 fn words(rt: &HostRuntime, t: Tables) {
-    let mut n = begin(rt, b"words far out of range");
+    let mut trials = begin(rt, b"words far out of range", t);
     let of_state = [DEPTH, SWIS, TASKS, CURRENT, LEVELS];
-    try_row(rt, t, &mut n, Row::State, &of_state, &[LAST]);
-    try_row(rt, t, &mut n, Row::Task(1), &[MODE, TASK_PRIORITY], &[LAST]);
-    try_tasks(rt, t, &mut n, &[3, 4, 5, 6], OBJECT, LAST);
-    try_tasks(rt, t, &mut n, &[7], OUTCOME, LAST);
-    try_row(rt, t, &mut n, Row::Semaphore(1), &[USED, KIND], &[LAST]);
-    try_row(rt, t, &mut n, Row::Semaphore(2), &[COUNT], &[LAST]);
-    try_row(rt, t, &mut n, Row::Event(1), &[USED], &[LAST]);
-    try_row(
-        rt,
-        t,
-        &mut n,
-        Row::Mailbox(2),
-        &[CAPACITY, MESSAGES],
-        &[LAST],
-    );
-    try_row(rt, t, &mut n, Row::Swi(3), &[USED, POSTED], &[LAST]);
-    try_row(rt, t, &mut n, Row::Swi(1), &[PRIORITY], &[LAST]);
-    try_row(rt, t, &mut n, Row::Swi(2), &[PRIORITY], &[LAST]);
-    try_row(rt, t, &mut n, Row::Clock(1), &[USED, CLOCK_SWI], &[LAST]);
-    try_row(rt, t, &mut n, Row::Clock(0), &[CLOCK_SWI], &[LAST]);
-    try_row(rt, t, &mut n, Row::Units, &[3], &[LAST_BYTE]);
+    trials.row(Row::State, &of_state, &[LAST]);
+    trials.row(Row::Task(1), &[MODE, TASK_PRIORITY], &[LAST]);
+    trials.tasks(&[3, 4, 5, 6], OBJECT, LAST);
+    trials.tasks(&[7], OUTCOME, LAST);
+    trials.row(Row::Semaphore(1), &[USED, KIND], &[LAST]);
+    trials.row(Row::Semaphore(2), &[COUNT], &[LAST]);
+    trials.row(Row::Event(1), &[USED], &[LAST]);
+    trials.row(Row::Mailbox(2), &[CAPACITY, MESSAGES], &[LAST]);
+    trials.row(Row::Swi(3), &[USED, POSTED], &[LAST]);
+    trials.row(Row::Swi(1), &[PRIORITY], &[LAST]);
+    trials.row(Row::Swi(2), &[PRIORITY], &[LAST]);
+    trials.row(Row::Clock(1), &[USED, CLOCK_SWI], &[LAST]);
+    trials.row(Row::Clock(0), &[CLOCK_SWI], &[LAST]);
+    trials.row(Row::Units, &[3], &[LAST_BYTE]);
 }
 
 // The last number that a byte holds: as a line's length, and as one who stands there, of each kind of line.
 fn lines(rt: &HostRuntime, t: Tables) {
-    let mut n = begin(rt, b"lines far out of range");
-    try_row(
-        rt,
-        t,
-        &mut n,
-        Row::Line(SEMAPHORE_LINES),
-        &[0, 1],
-        &[LAST_BYTE],
-    );
-    try_row(
-        rt,
-        t,
-        &mut n,
-        Row::Line(MAILBOX_LINES),
-        &[0, 1],
-        &[LAST_BYTE],
-    );
-    try_row(rt, t, &mut n, Row::Line(EVENT_LINES), &[0, 1], &[LAST_BYTE]);
-    try_row(
-        rt,
-        t,
-        &mut n,
-        Row::Line(POSTED_LINES + 6),
-        &[0, 1],
-        &[LAST_BYTE],
-    );
-    try_row(
-        rt,
-        t,
-        &mut n,
-        Row::Line(ACTIVE_LINE),
-        &[0, 1, 2],
-        &[LAST_BYTE],
-    );
-    try_row(
-        rt,
-        t,
-        &mut n,
-        Row::Line(READY_LINES + 5),
-        &[0, 1],
-        &[LAST_BYTE],
-    );
-    try_row(rt, t, &mut n, Row::Line(READY_LINES), &[1], &[LAST_BYTE]);
+    let mut trials = begin(rt, b"lines far out of range", t);
+    trials.row(Row::Line(SEMAPHORE_LINES), &[0, 1], &[LAST_BYTE]);
+    trials.row(Row::Line(MAILBOX_LINES), &[0, 1], &[LAST_BYTE]);
+    trials.row(Row::Line(EVENT_LINES), &[0, 1], &[LAST_BYTE]);
+    trials.row(Row::Line(POSTED_LINES + 6), &[0, 1], &[LAST_BYTE]);
+    trials.row(Row::Line(ACTIVE_LINE), &[0, 1, 2], &[LAST_BYTE]);
+    trials.row(Row::Line(READY_LINES + 5), &[0, 1], &[LAST_BYTE]);
+    trials.row(Row::Line(READY_LINES), &[1], &[LAST_BYTE]);
 }

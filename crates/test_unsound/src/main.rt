@@ -7,7 +7,6 @@ mod far;
 mod of_lines;
 mod of_objects;
 mod of_tasks;
-mod print;
 mod sets;
 
 use calls::try_sound;

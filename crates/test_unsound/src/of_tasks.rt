@@ -1,5 +1,5 @@
 // Changes that break the rules of the state and of tasks.
-use super::calls::{begin, try_emptied, try_joined, try_row, try_tasks};
+use super::calls::begin;
 use super::changes::Row;
 use super::sets::wide;
 use rules::Tables;
@@ -27,81 +27,74 @@ pub(crate) fn break_all(rt: &HostRuntime, t: Tables) {
 
 // "Interrupt depth 0 to 8; a switch for Swis and one for tasks"; "The current task is ready"; No. 14: "The number of levels, 16 or 32"
 fn states(rt: &HostRuntime, t: Tables) {
-    let mut n = begin(rt, b"unsound state");
-    try_row(rt, t, &mut n, Row::State, &[DEPTH], &[DEPTH_END]);
-    try_row(rt, t, &mut n, Row::State, &[SWIS, TASKS], &[2]);
+    let mut trials = begin(rt, b"unsound state", t);
+    trials.row(Row::State, &[DEPTH], &[DEPTH_END]);
+    trials.row(Row::State, &[SWIS, TASKS], &[2]);
     // no task's number; asleep, and terminated
-    try_row(rt, t, &mut n, Row::State, &[CURRENT], &[TASK_COUNT, 2, 7]);
-    try_row(rt, t, &mut n, Row::State, &[LEVELS], &[0, 15, 17, 31, 33]);
+    trials.row(Row::State, &[CURRENT], &[TASK_COUNT, 2, 7]);
+    trials.row(Row::State, &[LEVELS], &[0, 15, 17, 31, 33]);
 }
 
 // "task 0 is as said": "the idle task, priority 0, always ready"; it never waited
 fn idle(rt: &HostRuntime, t: Tables) {
-    let mut n = begin(rt, b"unsound task 0");
-    try_row(rt, t, &mut n, Row::Task(0), &[MODE], &[SLEEPING]);
-    try_row(rt, t, &mut n, Row::Task(0), &BEHIND_MODE, &[1]);
+    let mut trials = begin(rt, b"unsound task 0", t);
+    trials.row(Row::Task(0), &[MODE], &[SLEEPING]);
+    trials.row(Row::Task(0), &BEHIND_MODE, &[1]);
 }
 
 // "All numbers are in this page's ranges": modes, priorities, last results
 fn ranges(rt: &HostRuntime, t: Tables) {
-    let mut n = begin(rt, b"unsound tasks");
-    try_row(rt, t, &mut n, Row::Task(1), &[MODE], &[INACTIVE + 1]);
+    let mut trials = begin(rt, b"unsound tasks", t);
+    trials.row(Row::Task(1), &[MODE], &[INACTIVE + 1]);
     // "Task priorities -1 and 1 to 15", and "inactive (exactly at -1)": ready, asleep and terminated tasks
-    try_row(
-        rt,
-        t,
-        &mut n,
-        Row::Task(1),
-        &[TASK_PRIORITY],
-        &[0, FEW_LEVELS],
-    );
-    try_tasks(rt, t, &mut n, &[2], TASK_PRIORITY, 0);
-    try_tasks(rt, t, &mut n, &[7], TASK_PRIORITY, MINUS_ONE);
-    try_tasks(rt, t, &mut n, &[8], TASK_PRIORITY, 5);
+    trials.row(Row::Task(1), &[TASK_PRIORITY], &[0, FEW_LEVELS]);
+    trials.tasks(&[2], TASK_PRIORITY, 0);
+    trials.tasks(&[7], TASK_PRIORITY, MINUS_ONE);
+    trials.tasks(&[8], TASK_PRIORITY, 5);
     // an ended wait was done or not met, and "an expired one outcome 1, value 0"
-    try_row(rt, t, &mut n, Row::Task(7), &[OUTCOME], &[NOW_WAITING]);
-    try_row(rt, t, &mut n, Row::Task(7), &[VALUE], &[1]);
+    trials.row(Row::Task(7), &[OUTCOME], &[NOW_WAITING]);
+    trials.row(Row::Task(7), &[VALUE], &[1]);
 }
 
 // No. 14: "With 32, priorities run to 31"; in tables with 32 levels
 fn levels(rt: &HostRuntime, t: Tables) {
-    let mut n = begin(rt, b"unsound levels");
+    let mut trials = begin(rt, b"unsound levels", t);
     // ready, asleep and terminated tasks
-    try_tasks(rt, t, &mut n, &[1, 2, 7], TASK_PRIORITY, MOST_LEVELS);
-    try_tasks(rt, t, &mut n, &[2], TASK_PRIORITY, 0);
+    trials.tasks(&[1, 2, 7], TASK_PRIORITY, MOST_LEVELS);
+    trials.tasks(&[2], TASK_PRIORITY, 0);
     // priorities 31 and 16 with 16 levels; and another number of levels
-    try_row(rt, t, &mut n, Row::State, &[LEVELS], &[FEW_LEVELS, 17]);
+    trials.row(Row::State, &[LEVELS], &[FEW_LEVELS, 17]);
     // a queue above 15: task 9, which is ready at 3; nobody any more; one who is not ready
-    try_joined(rt, t, &mut n, READY_LINES + 16, &[9]);
-    try_emptied(rt, t, &mut n, &[READY_LINES + 31]);
-    try_joined(rt, t, &mut n, READY_LINES + 31, &[2]);
+    trials.joined(READY_LINES + 16, &[9]);
+    trials.emptied(&[READY_LINES + 31]);
+    trials.joined(READY_LINES + 31, &[2]);
 }
 
 // "Records not in use are all 0, and so are fields without meaning at the time (.., an ended wait's data, ..)"
 fn without_meaning(rt: &HostRuntime, t: Tables) {
-    let mut n = begin(rt, b"unsound fields without meaning");
+    let mut trials = begin(rt, b"unsound fields without meaning", t);
     // not in use: every word behind the mode
-    try_row(rt, t, &mut n, Row::Task(10), &BEHIND_MODE, &[1]);
+    trials.row(Row::Task(10), &BEHIND_MODE, &[1]);
     // ready, terminated, inactive: at no object, no ticks, no data
-    try_row(rt, t, &mut n, Row::Task(1), &OF_A_WAIT, &[1]);
-    try_row(rt, t, &mut n, Row::Task(7), &OF_A_WAIT, &[1]);
-    try_row(rt, t, &mut n, Row::Task(8), &OF_A_WAIT, &[1]);
+    trials.row(Row::Task(1), &OF_A_WAIT, &[1]);
+    trials.row(Row::Task(7), &OF_A_WAIT, &[1]);
+    trials.row(Row::Task(8), &OF_A_WAIT, &[1]);
     // asleep: at no object, with no data
-    try_row(rt, t, &mut n, Row::Task(2), &[OBJECT, HELD, MASK], &[1]);
+    trials.row(Row::Task(2), &[OBJECT, HELD, MASK], &[1]);
     // at a semaphore, and a reader: no masks and no word; a writer: no second word
-    try_row(rt, t, &mut n, Row::Task(3), &[HELD, MASK], &[1]);
-    try_row(rt, t, &mut n, Row::Task(5), &[HELD, MASK], &[1]);
-    try_row(rt, t, &mut n, Row::Task(6), &[MASK], &[1]);
+    trials.row(Row::Task(3), &[HELD, MASK], &[1]);
+    trials.row(Row::Task(5), &[HELD, MASK], &[1]);
+    trials.row(Row::Task(6), &[MASK], &[1]);
 }
 
 // Waits: at an object that there is; "sleeps (always limited) and limited waits have 1 or more ticks left", without end none are kept
 fn waits(rt: &HostRuntime, t: Tables) {
-    let mut n = begin(rt, b"unsound waits");
-    try_tasks(rt, t, &mut n, &[2], TASK_LEFT, 0);
-    try_tasks(rt, t, &mut n, &[2, 3, 4, 5, 6], TASK_LEFT, FOREVER);
-    try_tasks(rt, t, &mut n, &[3], OBJECT, SEMAPHORE_COUNT);
+    let mut trials = begin(rt, b"unsound waits", t);
+    trials.tasks(&[2], TASK_LEFT, 0);
+    trials.tasks(&[2, 3, 4, 5, 6], TASK_LEFT, FOREVER);
+    trials.tasks(&[3], OBJECT, SEMAPHORE_COUNT);
     // there are as many mailboxes as events
-    try_tasks(rt, t, &mut n, &[4, 5, 6], OBJECT, EVENT_COUNT);
+    trials.tasks(&[4, 5, 6], OBJECT, EVENT_COUNT);
     // at an event: "both masks 0 is 4"
-    try_tasks(rt, t, &mut n, &[4], HELD, 0);
+    trials.tasks(&[4], HELD, 0);
 }

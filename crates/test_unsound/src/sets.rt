@@ -64,8 +64,8 @@ fn with_mailboxes_and_units(t: Tables) -> Tables {
     let t = with_row(t, Row::Mailbox(0), &[2, 0]);
     let t = with_row(t, Row::Mailbox(1), &[1, 1, 7]);
     let t = with_row(t, Row::Mailbox(2), &[3, 1, 4]);
-    let first = FIRST_OF as u32;
-    let later = LATER_IN as u32;
+    let first = u32::from(FIRST_OF);
+    let later = u32::from(LATER_IN);
     with_row(t, Row::Units, &[first, later, later, 0, first])
 }
 

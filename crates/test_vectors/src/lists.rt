@@ -1,9 +1,10 @@
 // The calls of a log by lists on lent tables, and the same calls one by one on tables by value: all that the two leave is compared.
 ghost use Rattle.std.specs.Prelude.{◌≤◌, ◌<◌};
 
-use call_lists::{end_of, front};
+use call_log::reader::Reader;
 use rules::{Answer, Call, Read, Step, Tables, Thread};
 use test_calls::in_place::call_list;
+use test_calls::print::print;
 use test_same::{same_answer, same_tables, same_thread};
 use text::Text;
 
@@ -33,6 +34,7 @@ type Room = [u32; MOST_ROOM];
 const UNTOUCHED: u32 = u32::MAX;
 
 // What single calls left, and whether the list gave the same answers.
+// Stays a flag beside the values, here and in `Compared`: they are compared and printed either way.
 #[derive(Clone, Copy)]
 struct Singly {
     tables: Tables,
@@ -50,116 +52,101 @@ struct Compared {
     same: bool,
 }
 
-// The calls of a log up to its end or its fault, and how many words they are.
-fn read_calls(log: &[u8], calls: &mut Calls) -> usize {
-    let mut at = 0;
-    let mut k = 0;
-    while k < LOG_CALLS {
-        let found = call_log::read_at(log, at);
-        let Read::Record { number, start } = found else {
-            break;
+// The calls of a log up to its end or its fault, in the words of the room.
+fn read_calls<'a>(log: &[u8], calls: &'a mut Calls) -> &'a [u32] {
+    let mut reader = Reader::new(log);
+    for k in 0..LOG_CALLS {
+        let Read::Record { number, start } = reader.next() else {
+            return &calls[..k * CALL_WORDS];
         };
-        let bytes = call_log::arguments(log, start);
-        calls[k * CALL_WORDS] = number as u32;
+        let bytes = reader.arguments(start);
+        calls[k * CALL_WORDS] = u32::from(number);
         calls[k * CALL_WORDS + 1] = call_log::argument(bytes, 0);
         calls[k * CALL_WORDS + 2] = call_log::argument(bytes, 1);
         calls[k * CALL_WORDS + 3] = call_log::argument(bytes, 2);
         calls[k * CALL_WORDS + 4] = call_log::argument(bytes, 3);
-        at = call_log::move_to(found, at);
-        k += 1;
     }
-    k * CALL_WORDS
+    calls
 }
 
-// Call i of a list; past its last one a call with no call's number.
-fn call_at(calls: &[u32], i: usize) -> Call {
-    if calls.len() / CALL_WORDS <= i {
-        return Call {
+// A call by its five words.
+fn call_of(words: &[u32]) -> Call {
+    match words {
+        [number, a, b, c, d] => Call {
+            number: *number,
+            a: *a,
+            b: *b,
+            c: *c,
+            d: *d,
+        },
+        _ => Call {
             number: u32::MAX,
             a: 0,
             b: 0,
             c: 0,
             d: 0,
-        };
-    }
-    Call {
-        number: calls[i * CALL_WORDS],
-        a: calls[i * CALL_WORDS + 1],
-        b: calls[i * CALL_WORDS + 2],
-        c: calls[i * CALL_WORDS + 3],
-        d: calls[i * CALL_WORDS + 4],
+        },
     }
 }
 
-// The answer to call i as it stands in the room; no answer past the room.
-fn answer_at(room: &Room, i: usize) -> Answer {
-    if LIST_CALLS <= i {
-        return Answer {
+// An answer by its three words, as they stand in the room.
+fn answer_of(words: &[u32]) -> Answer {
+    match words {
+        [code, outcome, value] => Answer {
+            code: *code,
+            outcome: *outcome,
+            value: *value,
+        },
+        _ => Answer {
             code: UNTOUCHED,
             outcome: UNTOUCHED,
             value: UNTOUCHED,
-        };
-    }
-    Answer {
-        code: room[i * ANSWER_WORDS],
-        outcome: room[i * ANSWER_WORDS + 1],
-        value: room[i * ANSWER_WORDS + 2],
+        },
     }
 }
 
 // The sum goes on by the first n answers, each with the thread that the list gave.
 fn add_answers(from: u32, room: &Room, n: usize, thread: Thread) -> u32 {
     let mut sum = from;
-    let mut i = 0;
-    while i < n {
-        sum = pace_sums::add(sum, answer_at(room, i), thread);
-        i += 1;
+    for words in room.chunks_exact(ANSWER_WORDS).take(n) {
+        sum = pace_sums::add(sum, answer_of(words), thread);
     }
     sum
 }
 
 // Whether every word past the first n answers is as it was.
 fn is_rest_untouched(room: &Room, n: usize) -> bool {
-    let mut i = 0;
-    while i < MOST_ROOM {
-        if (n <= i / ANSWER_WORDS) & (room[i] != UNTOUCHED) {
-            return false;
-        }
-        i += 1;
-    }
-    true
+    room.iter()
+        .enumerate()
+        .all(|(i, word)| i / ANSWER_WORDS < n || *word == UNTOUCHED)
 }
 
 // How many words of the room are lent with a list of so many words.
 fn room_for(words: usize) -> usize
     ensures { result ≤ 776 }
 {
-    let n = words / CALL_WORDS;
-    if LIST_CALLS <= n {
-        return MOST_ROOM;
-    }
-    n * ANSWER_WORDS + MORE_ROOM
+    (words / CALL_WORDS).min(LIST_CALLS) * ANSWER_WORDS + MORE_ROOM
 }
 
 // The calls one by one, each of whose answers is compared with the list's.
 fn make_singly(t: Tables, calls: &[u32], room: &Room) -> Singly {
-    let n = calls.len() / CALL_WORDS;
-    let mut tables = t;
-    let mut thread = entries::thread_of(t);
-    let mut same = true;
-    let mut i = 0;
-    while i < n {
-        let step = entries::call(tables, call_at(calls, i));
-        same = same & same_answer(step.answer, answer_at(room, i));
-        tables = step.tables;
-        thread = step.thread;
-        i += 1;
+    let mut singly = Singly {
+        tables: t,
+        thread: entries::thread_of(t),
+        same: true,
+    };
+    for (call, answer) in calls
+        .chunks_exact(CALL_WORDS)
+        .zip(room.chunks_exact(ANSWER_WORDS))
+    {
+        let step = entries::call(singly.tables, call_of(call));
+        singly = Singly {
+            tables: step.tables,
+            thread: step.thread,
+            same: singly.same & same_answer(step.answer, answer_of(answer)),
+        };
     }
-    Singly {
-        tables,
-        thread,
-        same,
-    }
+    singly
 }
 
 // Whether a list was accepted, and left what the single calls did: the tables and the thread.
@@ -169,10 +156,8 @@ fn is_same(listed: Step, singly: Singly) -> bool {
         outcome: 0,
         value: 0,
     };
-    let in_place = listed.thread;
-    let thread = singly.thread;
     same_answer(listed.answer, accepted)
-        & same_thread(in_place, thread)
+        & same_thread(listed.thread, singly.thread)
         & same_tables(singly.tables, listed.tables)
 }
 
@@ -180,16 +165,11 @@ fn is_same(listed: Step, singly: Singly) -> bool {
 fn compare(so_far: Compared, calls: &[u32], room: &Room, listed: Step) -> Compared {
     let n = calls.len() / CALL_WORDS;
     let singly = make_singly(so_far.tables, calls, room);
-    let same = so_far.same & singly.same & is_same(listed, singly) & is_rest_untouched(room, n);
-    let thread = listed.thread;
-    let sum = add_answers(so_far.sum, room, n, thread);
-    let tables = singly.tables;
-    let in_place = listed.tables;
     Compared {
-        tables,
-        in_place,
-        sum,
-        same,
+        tables: singly.tables,
+        in_place: listed.tables,
+        sum: add_answers(so_far.sum, room, n, listed.thread),
+        same: so_far.same & singly.same & is_same(listed, singly) & is_rest_untouched(room, n),
     }
 }
 
@@ -212,28 +192,22 @@ fn make_lists(levels: u32, calls: &[u32], most: usize) -> Compared
         sum: 0,
         same: true,
     };
-    let mut at = 0;
-    while at < calls.len() {
-        let end = end_of(at, most, calls.len());
-        so_far = make_list(so_far, &calls[at..end]);
-        at = end;
+    for list in calls.chunks(most) {
+        so_far = make_list(so_far, list);
     }
     so_far
 }
 
 // The line of the lists of n calls.
-fn put_sum(out: &mut Text, n: usize, sum: u32, same: bool) -> usize {
+fn put_sum(out: &mut Text, n: usize, compared: Compared) -> usize {
     let p = text::put_text(out, 0, b"lists of ");
     let end = text::put_decimal(out, p, n as u64);
-    if same {
-        return text::put_word(out, end, b", sum", sum as u64);
-    }
-    text::put_word(out, end, b" differ, sum", sum as u64)
-}
-
-// Writes the first `len` bytes of a buffer.
-fn write_text(rt: &HostRuntime, out: &Text, len: usize) {
-    let _ = rt.write_all(text::front(out, len));
+    let word = if compared.same {
+        b", sum".as_slice()
+    } else {
+        b" differ, sum"
+    };
+    text::put_word(out, end, word, u64::from(compared.sum))
 }
 
 // Makes the calls by lists of n calls, and prints the line.
@@ -241,27 +215,15 @@ fn print_sum(rt: &HostRuntime, levels: u32, calls: &[u32], n: usize)
     requires { (0 < n) × (n ≤ 256) }
 {
     let compared = make_lists(levels, calls, n * CALL_WORDS);
-    let mut out = [0u8; 16384];
-    let len = put_sum(&mut out, n, compared.sum, compared.same);
-    write_text(rt, &out, len);
+    print(rt, |out| put_sum(out, n, compared));
 }
 
-// The calls by lists of 1, 7 and 256.
-fn print_calls(rt: &HostRuntime, levels: u32, calls: &[u32]) {
+// The lines of a log: its calls by lists of 1, 7 and 256.
+pub(crate) fn print_sums(rt: &HostRuntime, log: &[u8]) {
+    let levels = call_log::levels_for(call_log::version_of(log));
+    let mut room = [0u32; LOG_CALLS * CALL_WORDS];
+    let calls = read_calls(log, &mut room);
     print_sum(rt, levels, calls, 1);
     print_sum(rt, levels, calls, 7);
     print_sum(rt, levels, calls, LIST_CALLS);
-}
-
-// The calls of the first words.
-fn print_front(rt: &HostRuntime, levels: u32, calls: &Calls, words: usize) {
-    print_calls(rt, levels, front(calls, words));
-}
-
-// The lines of a log.
-pub(crate) fn print_sums(rt: &HostRuntime, log: &[u8]) {
-    let levels = call_log::levels_for(call_log::version_of(log));
-    let mut calls = [0u32; LOG_CALLS * CALL_WORDS];
-    let words = read_calls(log, &mut calls);
-    print_front(rt, levels, &calls, words);
 }

@@ -78,10 +78,7 @@ fn replay_named(rt: &HostRuntime, i: usize) {
 }
 
 fn main(rt: HostRuntime) {
-    let words = streams::words(&rt);
-    let mut i = 1;
-    while i < words {
+    for i in 1..streams::words(&rt) {
         replay_named(&rt, i);
-        i += 1;
     }
 }

@@ -1,11 +1,8 @@
 -- `pace_sums::as_calls` meets its contract: after k turns the words of the first k records stand one behind the other.
-use Rattle.std.proofs.Common.{◌≡◌, ◌-◌, ◌≤◌}
+use Rattle.std.proofs.Common.{◌≡◌}
 use lib.Seq.{sets}
 use Rattle.pace_sums.specs.Pace.{call_words}
 use Rattle.pace_sums.proofs.as_calls.Given as goal
 
 abbrev pub invariant-loop-k : goal.invariant-loop-k
-invariant-loop-k l = (l.k ≤ 3276) × (l.k ≤ l.n) × (l.calls ≡ sets l.initial.calls 0 (call_words l.k l.log))
-
-abbrev pub decreases-loop-k : goal.decreases-loop-k
-decreases-loop-k l = 3276 - l.k
+invariant-loop-k l = l.calls ≡ sets l.initial.calls 0 (call_words l.k l.log)

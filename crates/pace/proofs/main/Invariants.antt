@@ -1,9 +1,0 @@
--- `main` is safe and ends: the rounds that are left get fewer, and each asks nothing.
-use Prim.Native.Nat.{◌≤◌}
-use Rattle.pace.proofs.main.Given as goal
-
-abbrev pub invariant-loop-left : goal.invariant-loop-left
-invariant-loop-left l = 0 ≤ l.left
-
-abbrev pub decreases-loop-left : goal.decreases-loop-left
-decreases-loop-left l = l.left

@@ -1,9 +1,0 @@
--- `make_calls` is safe and ends: a step asks nothing of its tables, and each turn is one of the n.
-use Prim.Native.Nat.{◌-◌, ◌≤◌}
-use Rattle.pace.proofs.make_calls.Given as goal
-
-abbrev pub invariant-loop-k : goal.invariant-loop-k
-invariant-loop-k l = l.k ≤ l.n
-
-abbrev pub decreases-loop-k : goal.decreases-loop-k
-decreases-loop-k l = l.n - l.k

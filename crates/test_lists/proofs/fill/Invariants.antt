@@ -1,9 +1,0 @@
--- `fill` is safe and ends: the words that are left get fewer.
-use Rattle.std.proofs.Common.{◌-◌, ◌≤◌}
-use Rattle.test_lists.proofs.fill.Given as goal
-
-abbrev pub invariant-loop-j : goal.invariant-loop-j
-invariant-loop-j l = l.j ≤ 1285
-
-abbrev pub decreases-loop-j : goal.decreases-loop-j
-decreases-loop-j l = 1285 - l.j

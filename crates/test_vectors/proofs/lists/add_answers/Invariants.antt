@@ -1,9 +1,0 @@
--- `add_answers` ends: the answers that are left get fewer.
-use Prim.Native.Nat.{◌-◌, ◌≤◌}
-use Rattle.test_vectors.proofs.lists.add_answers.Given as goal
-
-abbrev pub invariant-loop-i : goal.invariant-loop-i
-invariant-loop-i l = l.i ≤ l.n
-
-abbrev pub decreases-loop-i : goal.decreases-loop-i
-decreases-loop-i l = l.n - l.i

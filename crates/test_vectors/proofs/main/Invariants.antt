@@ -1,9 +1,0 @@
--- `main` ends: the arguments that are left get fewer.
-use Prim.Native.Nat.{◌-◌}
-use Rattle.test_vectors.proofs.main.Given as goal
-
-abbrev pub invariant-loop-i : goal.invariant-loop-i
-invariant-loop-i l = Unit {0}
-
-abbrev pub decreases-loop-i : goal.decreases-loop-i
-decreases-loop-i l = l.words - l.i
