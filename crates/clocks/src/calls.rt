@@ -51,7 +51,8 @@ pub fn create_effect(clocks: &mut Clocks, a: u32, b: u32, c: u32) -> Answer
 }
 
 pub fn create(clocks: &mut Clocks, swis: &Swis, x: u32, q: Call) -> Result<Answer, Refusal>
-    ensures { with_answer (answer_said result) clocks.new ≡ answered clocks.old (create_call clocks.old swis.now x by q) }
+    ensures leaves { with_answer (answer_said result) clocks.new ≡ answered clocks.old (create_call clocks.old swis.now x by q) }
+    ensures tells { code_said result ≡ code_of (create_call clocks.old swis.now x by q).cases }
 {
     create_code(clocks, swis, x, q)?;
     Ok(create_effect(clocks, q.a, q.b, q.c))
@@ -91,7 +92,8 @@ pub fn delete_effect(clocks: &mut Clocks, a: u32) -> Answer
 }
 
 pub fn delete(clocks: &mut Clocks, x: u32, q: Call) -> Result<Answer, Refusal>
-    ensures { with_answer (answer_said result) clocks.new ≡ answered clocks.old (delete_call clocks.old x by q) }
+    ensures leaves { with_answer (answer_said result) clocks.new ≡ answered clocks.old (delete_call clocks.old x by q) }
+    ensures tells { code_said result ≡ code_of (delete_call clocks.old x by q).cases }
 {
     delete_code(clocks, x, q)?;
     Ok(delete_effect(clocks, q.a))
@@ -124,7 +126,8 @@ pub fn start_effect(clocks: &mut Clocks, a: u32) -> Answer
 }
 
 pub fn start(clocks: &mut Clocks, q: Call) -> Result<Answer, Refusal>
-    ensures { with_answer (answer_said result) clocks.new ≡ answered clocks.old (start_call clocks.old by q) }
+    ensures leaves { with_answer (answer_said result) clocks.new ≡ answered clocks.old (start_call clocks.old by q) }
+    ensures tells { code_said result ≡ code_of (start_call clocks.old by q).cases }
 {
     start_stop_code(clocks, q)?;
     Ok(start_effect(clocks, q.a))
@@ -142,7 +145,8 @@ pub fn stop_effect(clocks: &mut Clocks, a: u32) -> Answer
 }
 
 pub fn stop(clocks: &mut Clocks, q: Call) -> Result<Answer, Refusal>
-    ensures { with_answer (answer_said result) clocks.new ≡ answered clocks.old (stop_call clocks.old by q) }
+    ensures leaves { with_answer (answer_said result) clocks.new ≡ answered clocks.old (stop_call clocks.old by q) }
+    ensures tells { code_said result ≡ code_of (stop_call clocks.old by q).cases }
 {
     start_stop_code(clocks, q)?;
     Ok(stop_effect(clocks, q.a))

@@ -39,8 +39,9 @@ pub fn create_effect(events: &mut Events) -> Answer
 }
 
 pub fn create(events: &mut Events, x: u32, q: Call) -> Result<Answer, Refusal>
-    ensures { (ts : TaskTable) (ls : LineTable) → with_answer (answer_said result) (wait_tables ts ls events.new)
+    ensures leaves { (ts : TaskTable) (ls : LineTable) → with_answer (answer_said result) (wait_tables ts ls events.new)
         ≡ answered (wait_tables ts ls events.old) (create_call (wait_tables ts ls events.old) x by q) }
+    ensures tells { code_said result ≡ code_of (create_cases events.old x by q) }
 {
     create_code(events, x, q)?;
     Ok(create_effect(events))
@@ -79,8 +80,9 @@ pub fn delete_effect(events: &mut Events, a: u32) -> Answer
 }
 
 pub fn delete(lines: &Lines, events: &mut Events, x: u32, q: Call) -> Result<Answer, Refusal>
-    ensures { (ts : TaskTable) → with_answer (answer_said result) (wait_tables ts lines.now events.new)
+    ensures leaves { (ts : TaskTable) → with_answer (answer_said result) (wait_tables ts lines.now events.new)
         ≡ answered (wait_tables ts lines.now events.old) (delete_call (wait_tables ts lines.now events.old) x by q) }
+    ensures tells { code_said result ≡ code_of (delete_cases lines.now events.old x by q) }
 {
     delete_code(lines, events, x, q)?;
     Ok(delete_effect(events, q.a))

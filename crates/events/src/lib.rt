@@ -7,10 +7,10 @@ pub mod posts;
 pub mod table;
 
 ghost use Rattle.std.specs.Prelude.{◌≡◌};
-ghost use Rattle.rules.specs.Answer.{with_answer, answered, ◌by◌};
+ghost use Rattle.rules.specs.Answer.{with_answer, answered, code_of, ◌by◌};
 ghost use Rattle.rules.specs.Events.{event_call};
 ghost use Rattle.rules.specs.Waits.{wait_tables};
-ghost use Rattle.rules.specs.Refusals.{answer_said};
+ghost use Rattle.rules.specs.Refusals.{answer_said, code_said};
 
 use rules::{Answer, Call, Events, Lines, Refusal, State, Tasks};
 
@@ -26,8 +26,9 @@ pub fn event_call(
     x: u32,
     q: Call,
 ) -> Result<Answer, Refusal>
-    ensures { with_answer (answer_said result) (wait_tables tasks.new lines.new events.new)
+    ensures leaves { with_answer (answer_said result) (wait_tables tasks.new lines.new events.new)
         ≡ answered (wait_tables tasks.old lines.old events.old) (event_call (wait_tables tasks.old lines.old events.old) state.now x q.number by q) }
+    ensures tells { code_said result ≡ code_of (event_call (wait_tables tasks.old lines.old events.old) state.now x q.number by q).cases }
 {
     let number = q.number;
     match number {

@@ -87,8 +87,9 @@ pub fn pend(
     x: u32,
     q: Call,
 ) -> Result<Answer, Refusal>
-    ensures { with_answer (answer_said result) (wait_tables tasks.new lines.new events.new)
+    ensures leaves { with_answer (answer_said result) (wait_tables tasks.new lines.new events.new)
         ≡ answered (wait_tables tasks.old lines.old events.old) (pend_call (wait_tables tasks.old lines.old events.old) state.now x by q) }
+    ensures tells { code_said result ≡ code_of (pend_call (wait_tables tasks.old lines.old events.old) state.now x by q).cases }
 {
     pend_code(lines, events, state, x, q)?;
     Ok(pend_effect(tasks, lines, events, state, q))

@@ -76,8 +76,9 @@ pub fn post(
     events: &mut Events,
     q: Call,
 ) -> Result<Answer, Refusal>
-    ensures { with_answer (answer_said result) (wait_tables tasks.new lines.new events.new)
+    ensures leaves { with_answer (answer_said result) (wait_tables tasks.new lines.new events.new)
         ≡ answered (wait_tables tasks.old lines.old events.old) (post_call (wait_tables tasks.old lines.old events.old) by q) }
+    ensures tells { code_said result ≡ code_of (post_call (wait_tables tasks.old lines.old events.old) by q).cases }
 {
     post_code(events, q)?;
     Ok(post_effect(tasks, lines, events, q.a, q.b))

@@ -1,8 +1,8 @@
 // Calls 60 and 61.
 ghost use Rattle.std.specs.Prelude.{◌≡◌};
-ghost use Rattle.rules.specs.Answer.{with_answer, answered, ◌by◌};
+ghost use Rattle.rules.specs.Answer.{with_answer, answered, code_of, ◌by◌};
 ghost use Rattle.rules.specs.Heap.{take_call, give_call};
-ghost use Rattle.rules.specs.Refusals.{answer_said};
+ghost use Rattle.rules.specs.Refusals.{answer_said, code_said};
 
 use super::blocks::{is_block, mark, units};
 use super::free_units::lowest_run;
@@ -16,7 +16,8 @@ use rules::{Answer, Call, Heap, Refusal};
 
 #[tactic(auto, unfolding(rules::specs::Answer::first_given, rules::specs::Heap::take_cases, rules::specs::Heap::take_effect))]
 pub fn take(heap: &mut Heap, x: u32, q: Call) -> Result<Answer, Refusal>
-    ensures { with_answer (answer_said result) heap.new ≡ answered heap.old (take_call heap.old x by q) }
+    ensures leaves { with_answer (answer_said result) heap.new ≡ answered heap.old (take_call heap.old x by q) }
+    ensures tells { code_said result ≡ code_of (take_call heap.old x by q).cases }
 {
     if x != T {
         return Err(Refusal::WrongContext);
@@ -37,7 +38,8 @@ pub fn take(heap: &mut Heap, x: u32, q: Call) -> Result<Answer, Refusal>
 
 #[tactic(auto, unfolding(rules::specs::Answer::first_given, rules::specs::Heap::give_cases, rules::specs::Heap::give_effect))]
 pub fn give_back(heap: &mut Heap, x: u32, q: Call) -> Result<Answer, Refusal>
-    ensures { with_answer (answer_said result) heap.new ≡ answered heap.old (give_call heap.old x by q) }
+    ensures leaves { with_answer (answer_said result) heap.new ≡ answered heap.old (give_call heap.old x by q) }
+    ensures tells { code_said result ≡ code_of (give_call heap.old x by q).cases }
 {
     if x != T {
         return Err(Refusal::WrongContext);

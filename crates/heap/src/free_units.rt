@@ -103,6 +103,8 @@ fn free_from(heap: &Heap, u: usize, end: usize) -> usize
 }
 
 // Where the lowest run of n adjacent free units starts; 256 where there is none. Stays a number: so `lowest_run` of rules/specs says.
+// Not in line: in `kernel::step` the compiler would count a second number in the loop of `free_from`, for the search behind it.
+#[inline(never)]
 pub fn lowest_run(heap: &Heap, n: usize) -> usize
     ensures { (result ≡ lowest_run heap.now n) × (result ≤ 256) }
 {

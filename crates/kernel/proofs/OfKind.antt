@@ -3,7 +3,7 @@ use Prim.Native.Nat.{ℕ, ◌≤◌, ◌<◌}
 use mathlib.Core.Path.{◌≡◌, refl, sym, ap, ◌∙◌}
 use mathlib.Core.List.{List}
 use native.Mathlib.Omega.{arith}
-use Rattle.rules.specs.Answer.{CallRule, with_answer, answer, answered, code_of}
+use Rattle.rules.specs.Answer.{CallRule, with_answer, answer, answered, code_of, first_given, unknown}
 use Rattle.rules.specs.Dispatch.{context}
 use Rattle.rules.specs.Lines.{TaskQueues, task_queues}
 use Rattle.rules.specs.Waits.{WaitTables, wait_tables}
@@ -27,18 +27,26 @@ module _ (t : Tables) {x : ℕ} (is : x ≡ context t.lines t.state) (n a b c d 
   made = call_of t (context t.lines t.state) n a b c d
 
   -- known in x, it is known
+  same : (k : CallRule Tables) → call_of t x n a b c d ≡ k → k ≡ made
+  same k p = sym p ∙ ap (λ (y : ℕ). call_of t y n a b c d) is
+
   known : (k : CallRule Tables) → call_of t x n a b c d ≡ k → answered t k ≡ answered t made
-  known k p = ap (answered t) (sym p ∙ ap (λ (y : ℕ). call_of t y n a b c d) is)
+  known k p = ap (answered t) (same k p)
+
+  coded : (k : CallRule Tables) → call_of t x n a b c d ≡ k → code_of k.cases ≡ code_of made.cases
+  coded k p = ap (λ (r : CallRule Tables). code_of r.cases) (same k p)
 
   -- it is a kind's call k on the kind's own tables q, which `put` puts into all tables
   pub record ByKind {A : Type 0} (put : A → Tables) (q : A) (k : CallRule A) : Type 0 where
     pub answers : {r : Answer} {u : A} → with_answer r u ≡ answered q k → with_answer r (put u) ≡ answered t made
+    pub codes : {given : ℕ} → given ≡ code_of k.cases → given ≡ code_of made.cases
 
   by_kind : {A : Type 0} {put : A → Tables} {q : A} {k : CallRule A} → put q ≡ t → call_of t x n a b c d ≡ over put k → ByKind put q k
   by_kind {put = put} {q = q} {k = k} o p = record {
     answers = λ e.
         ap (mapped put) e ∙ mapped-guarded put (code_of k.cases) q k.effect
         ∙ ap (λ (s : Tables). answered s (over put k)) o ∙ known (over put k) p;
+    codes = λ e. e ∙ coded (over put k) p;
   }
 
   pub task-range : n < 0x10
@@ -96,8 +104,15 @@ module _ (t : Tables) {x : ℕ} (is : x ≡ context t.lines t.state) (n a b c d 
       by_kind refl (rw (p 0x00 refl, p 0x10 refl, p 0x20 refl, p 0x30 refl, p 0x40 refl, p 0x50 refl, p 0x60 refl, within n 0x70 l h))
 
   -- in none of the eight
-  pub no-range : 0x80 ≤ n → {r : Answer} → r ≡ answer 1 0 0 → with_answer r t ≡ answered t made
+  unknown-range : 0x80 ≤ n → call_of t x n a b c d ≡ unknown t
   unfolding call_of
-  no-range l e =
+  unknown-range l =
       let p = past n 0x80 l in
-      unknown-is t _ refl e ∙ known _ (rw (p 0x00 refl, p 0x10 refl, p 0x20 refl, p 0x30 refl, p 0x40 refl, p 0x50 refl, p 0x60 refl, p 0x70 refl))
+      rw (p 0x00 refl, p 0x10 refl, p 0x20 refl, p 0x30 refl, p 0x40 refl, p 0x50 refl, p 0x60 refl, p 0x70 refl) refl
+
+  pub no-range : 0x80 ≤ n → {r : Answer} → r ≡ answer 1 0 0 → with_answer r t ≡ answered t made
+  no-range l e = unknown-is t _ refl e ∙ known _ (unknown-range l)
+
+  pub no-code : 0x80 ≤ n → 1 ≡ code_of made.cases
+  unfolding first_given
+  no-code l = coded _ (unknown-range l)

@@ -1,8 +1,8 @@
 // The calls of all kinds: the number is matched by ranges.
 ghost use Rattle.std.specs.Prelude.{◌≡◌};
-ghost use Rattle.rules.specs.Answer.{with_answer, answered, ◌by◌};
+ghost use Rattle.rules.specs.Answer.{with_answer, answered, code_of, ◌by◌};
 ghost use Rattle.rules.specs.Dispatch.{context};
-ghost use Rattle.rules.specs.Refusals.{answer_said};
+ghost use Rattle.rules.specs.Refusals.{answer_said, code_said};
 ghost use Rattle.rules.specs.Step.{call_of};
 
 use clocks::clock_call;
@@ -17,8 +17,9 @@ use tasks::task_call;
 
 // The call by its kind's range of sixteen numbers.
 pub fn any_call(t: &mut Tables, q: Call) -> Result<Answer, Refusal>
-    ensures { with_answer (answer_said result) t.new
+    ensures leaves { with_answer (answer_said result) t.new
         ≡ answered t.old (call_of t.old (context t.old.lines t.old.state) q.number by q) }
+    ensures tells { code_said result ≡ code_of (call_of t.old (context t.old.lines t.old.state) q.number by q).cases }
 {
     let x = dispatch::context(&t.lines, &t.state);
     let number = q.number;

@@ -43,8 +43,9 @@ pub fn create_effect(mailboxes: &mut Mailboxes, a: u32) -> Answer
 
 // Call 40.
 pub fn create(mailboxes: &mut Mailboxes, x: u32, q: Call) -> Result<Answer, Refusal>
-    ensures { (ts : TaskTable) (ls : LineTable) → with_answer (answer_said result) (wait_tables ts ls mailboxes.new)
+    ensures leaves { (ts : TaskTable) (ls : LineTable) → with_answer (answer_said result) (wait_tables ts ls mailboxes.new)
         ≡ answered (wait_tables ts ls mailboxes.old) (create_call (wait_tables ts ls mailboxes.old) x by q) }
+    ensures tells { code_said result ≡ code_of (create_cases mailboxes.old x by q) }
 {
     create_code(mailboxes, x, q)?;
     Ok(create_effect(mailboxes, q.a))
@@ -87,8 +88,9 @@ pub fn delete_effect(mailboxes: &mut Mailboxes, a: u32) -> Answer
 
 // Call 41.
 pub fn delete(lines: &Lines, mailboxes: &mut Mailboxes, x: u32, q: Call) -> Result<Answer, Refusal>
-    ensures { (ts : TaskTable) → with_answer (answer_said result) (wait_tables ts lines.now mailboxes.new)
+    ensures leaves { (ts : TaskTable) → with_answer (answer_said result) (wait_tables ts lines.now mailboxes.new)
         ≡ answered (wait_tables ts lines.now mailboxes.old) (delete_call (wait_tables ts lines.now mailboxes.old) x by q) }
+    ensures tells { code_said result ≡ code_of (delete_cases lines.now mailboxes.old x by q) }
 {
     delete_code(lines, mailboxes, x, q)?;
     Ok(delete_effect(mailboxes, q.a))

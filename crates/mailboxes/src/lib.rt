@@ -9,10 +9,10 @@ pub mod table;
 pub mod waiters;
 
 ghost use Rattle.std.specs.Prelude.{◌≡◌};
-ghost use Rattle.rules.specs.Answer.{with_answer, answered, ◌by◌};
+ghost use Rattle.rules.specs.Answer.{with_answer, answered, code_of, ◌by◌};
 ghost use Rattle.rules.specs.Mailboxes.{mailbox_call};
 ghost use Rattle.rules.specs.Waits.{wait_tables};
-ghost use Rattle.rules.specs.Refusals.{answer_said};
+ghost use Rattle.rules.specs.Refusals.{answer_said, code_said};
 
 use rules::{Answer, Call, Lines, Mailboxes, Refusal, State, Tasks};
 
@@ -28,8 +28,9 @@ pub fn mailbox_call(
     x: u32,
     q: Call,
 ) -> Result<Answer, Refusal>
-    ensures { with_answer (answer_said result) (wait_tables tasks.new lines.new mailboxes.new)
+    ensures leaves { with_answer (answer_said result) (wait_tables tasks.new lines.new mailboxes.new)
         ≡ answered (wait_tables tasks.old lines.old mailboxes.old) (mailbox_call (wait_tables tasks.old lines.old mailboxes.old) state.now x q.number by q) }
+    ensures tells { code_said result ≡ code_of (mailbox_call (wait_tables tasks.old lines.old mailboxes.old) state.now x q.number by q).cases }
 {
     let number = q.number;
     match number {

@@ -74,8 +74,9 @@ pub fn pend(
     x: u32,
     q: Call,
 ) -> Result<Answer, Refusal>
-    ensures { with_answer (answer_said result) (wait_tables tasks.new lines.new mailboxes.new)
+    ensures leaves { with_answer (answer_said result) (wait_tables tasks.new lines.new mailboxes.new)
         ≡ answered (wait_tables tasks.old lines.old mailboxes.old) (pend_call (wait_tables tasks.old lines.old mailboxes.old) state.now x by q) }
+    ensures tells { code_said result ≡ code_of (pend_call (wait_tables tasks.old lines.old mailboxes.old) state.now x by q).cases }
 {
     pend_code(mailboxes, state, x, q)?;
     Ok(pend_effect(tasks, lines, mailboxes, state, q.a, q.b))

@@ -69,8 +69,9 @@ pub fn post(
     x: u32,
     q: Call,
 ) -> Result<Answer, Refusal>
-    ensures { with_answer (answer_said result) (wait_tables tasks.new lines.new mailboxes.new)
+    ensures leaves { with_answer (answer_said result) (wait_tables tasks.new lines.new mailboxes.new)
         ≡ answered (wait_tables tasks.old lines.old mailboxes.old) (post_call (wait_tables tasks.old lines.old mailboxes.old) state.now x by q) }
+    ensures tells { code_said result ≡ code_of (post_call (wait_tables tasks.old lines.old mailboxes.old) state.now x by q).cases }
 {
     post_code(tasks, lines, mailboxes, state, x, q)?;
     Ok(post_effect(tasks, lines, mailboxes, state, q.a, q.b, q.c))

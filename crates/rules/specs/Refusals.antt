@@ -22,8 +22,8 @@ code Unsound = 10
 code NotInUse = 11
 
 -- the code that a call is given: 0 where it is not refused
-abbrev pub code_said : Result Unit Refusal → ℕ
-code_said (Ok u) = 0
+abbrev pub code_said : {A : Type 0} → Result A Refusal → ℕ
+code_said (Ok a) = 0
 code_said (Err r) = code r
 
 -- the answer to a call: "A refusal has outcome 0, value 0"

@@ -8,3 +8,4 @@ pub mod Numbers
 pub mod Levels
 pub mod Runs
 pub mod Fresh
+pub mod Refusals

@@ -48,8 +48,9 @@ pub fn create_effect(semaphores: &mut Semaphores, a: u32, b: u32) -> Answer
 }
 
 pub fn create(semaphores: &mut Semaphores, x: u32, q: Call) -> Result<Answer, Refusal>
-    ensures { (ts : TaskTable) (ls : LineTable) → with_answer (answer_said result) (wait_tables ts ls semaphores.new)
+    ensures leaves { (ts : TaskTable) (ls : LineTable) → with_answer (answer_said result) (wait_tables ts ls semaphores.new)
         ≡ answered (wait_tables ts ls semaphores.old) (create_call (wait_tables ts ls semaphores.old) x by q) }
+    ensures tells { code_said result ≡ code_of (create_cases semaphores.old x by q) }
 {
     create_code(semaphores, x, q)?;
     Ok(create_effect(semaphores, q.a, q.b))
@@ -94,8 +95,9 @@ pub fn delete(
     x: u32,
     q: Call,
 ) -> Result<Answer, Refusal>
-    ensures { (ts : TaskTable) → with_answer (answer_said result) (wait_tables ts lines.now semaphores.new)
+    ensures leaves { (ts : TaskTable) → with_answer (answer_said result) (wait_tables ts lines.now semaphores.new)
         ≡ answered (wait_tables ts lines.now semaphores.old) (delete_call (wait_tables ts lines.now semaphores.old) x by q) }
+    ensures tells { code_said result ≡ code_of (delete_cases lines.now semaphores.old x by q) }
 {
     delete_code(lines, semaphores, x, q)?;
     Ok(delete_effect(semaphores, q.a))
@@ -140,8 +142,9 @@ pub fn reset_effect(semaphores: &mut Semaphores, a: u32, b: u32) -> Answer
 }
 
 pub fn reset(lines: &Lines, semaphores: &mut Semaphores, x: u32, q: Call) -> Result<Answer, Refusal>
-    ensures { (ts : TaskTable) → with_answer (answer_said result) (wait_tables ts lines.now semaphores.new)
+    ensures leaves { (ts : TaskTable) → with_answer (answer_said result) (wait_tables ts lines.now semaphores.new)
         ≡ answered (wait_tables ts lines.now semaphores.old) (reset_call (wait_tables ts lines.now semaphores.old) x by q) }
+    ensures tells { code_said result ≡ code_of (reset_cases lines.now semaphores.old x by q) }
 {
     reset_code(lines, semaphores, x, q)?;
     Ok(reset_effect(semaphores, q.a, q.b))

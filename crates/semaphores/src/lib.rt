@@ -7,10 +7,10 @@ pub mod posts;
 pub mod table;
 
 ghost use Rattle.std.specs.Prelude.{◌≡◌};
-ghost use Rattle.rules.specs.Answer.{with_answer, answered, ◌by◌};
+ghost use Rattle.rules.specs.Answer.{with_answer, answered, code_of, ◌by◌};
 ghost use Rattle.rules.specs.Semaphores.{semaphore_call};
 ghost use Rattle.rules.specs.Waits.{wait_tables};
-ghost use Rattle.rules.specs.Refusals.{answer_said};
+ghost use Rattle.rules.specs.Refusals.{answer_said, code_said};
 
 use rules::{Answer, Call, Lines, Refusal, Semaphores, State, Tasks};
 
@@ -26,8 +26,9 @@ pub fn semaphore_call(
     x: u32,
     q: Call,
 ) -> Result<Answer, Refusal>
-    ensures { with_answer (answer_said result) (wait_tables tasks.new lines.new semaphores.new)
+    ensures leaves { with_answer (answer_said result) (wait_tables tasks.new lines.new semaphores.new)
         ≡ answered (wait_tables tasks.old lines.old semaphores.old) (semaphore_call (wait_tables tasks.old lines.old semaphores.old) state.now x q.number by q) }
+    ensures tells { code_said result ≡ code_of (semaphore_call (wait_tables tasks.old lines.old semaphores.old) state.now x q.number by q).cases }
 {
     let number = q.number;
     match number {

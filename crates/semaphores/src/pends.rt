@@ -86,8 +86,9 @@ pub fn pend(
     x: u32,
     q: Call,
 ) -> Result<Answer, Refusal>
-    ensures { with_answer (answer_said result) (wait_tables tasks.new lines.new semaphores.new)
+    ensures leaves { with_answer (answer_said result) (wait_tables tasks.new lines.new semaphores.new)
         ≡ answered (wait_tables tasks.old lines.old semaphores.old) (pend_call (wait_tables tasks.old lines.old semaphores.old) state.now x by q) }
+    ensures tells { code_said result ≡ code_of (pend_call (wait_tables tasks.old lines.old semaphores.old) state.now x by q).cases }
 {
     pend_code(semaphores, state, x, q)?;
     Ok(pend_effect(tasks, lines, semaphores, state, q.a, q.b))

@@ -73,8 +73,9 @@ pub fn post(
     semaphores: &mut Semaphores,
     q: Call,
 ) -> Result<Answer, Refusal>
-    ensures { with_answer (answer_said result) (wait_tables tasks.new lines.new semaphores.new)
+    ensures leaves { with_answer (answer_said result) (wait_tables tasks.new lines.new semaphores.new)
         ≡ answered (wait_tables tasks.old lines.old semaphores.old) (post_call (wait_tables tasks.old lines.old semaphores.old) by q) }
+    ensures tells { code_said result ≡ code_of (post_call (wait_tables tasks.old lines.old semaphores.old) by q).cases }
 {
     post_code(semaphores, q)?;
     Ok(post_effect(tasks, lines, semaphores, q.a))

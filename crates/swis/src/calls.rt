@@ -40,8 +40,9 @@ pub fn create_effect(swis: &mut Swis, a: u32, b: u32) -> Answer
 }
 
 pub fn create(swis: &mut Swis, x: u32, q: Call) -> Result<Answer, Refusal>
-    ensures { (ls : LineTable) → with_answer (answer_said result) (swi_queues swis.new ls)
+    ensures leaves { (ls : LineTable) → with_answer (answer_said result) (swi_queues swis.new ls)
         ≡ answered (swi_queues swis.old ls) (create_call (swi_queues swis.old ls) x by q) }
+    ensures tells { code_said result ≡ code_of (create_cases swis.old x by q) }
 {
     create_code(swis, x, q)?;
     Ok(create_effect(swis, q.a, q.b))
@@ -90,8 +91,9 @@ pub fn delete(
     x: u32,
     q: Call,
 ) -> Result<Answer, Refusal>
-    ensures { with_answer (answer_said result) (swi_queues swis.new lines.now)
+    ensures leaves { with_answer (answer_said result) (swi_queues swis.new lines.now)
         ≡ answered (swi_queues swis.old lines.now) (delete_call (swi_queues swis.old lines.now) clocks.now x by q) }
+    ensures tells { code_said result ≡ code_of (delete_call (swi_queues swis.old lines.now) clocks.now x by q).cases }
 {
     delete_code(swis, lines, clocks, x, q)?;
     Ok(delete_effect(swis, q.a))
@@ -133,8 +135,9 @@ pub fn end(
     x: u32,
     q: Call,
 ) -> Result<Answer, Refusal>
-    ensures { with_answer (answer_said result) (swi_queues swis.new lines.new)
+    ensures leaves { with_answer (answer_said result) (swi_queues swis.new lines.new)
         ≡ answered (swi_queues swis.old lines.old) (end_call (swi_queues swis.old lines.old) state.now x by q) }
+    ensures tells { code_said result ≡ code_of (end_call (swi_queues swis.old lines.old) state.now x by q).cases }
 {
     end_code(state, x, q)?;
     Ok(end_effect(swis, lines))
@@ -164,7 +167,8 @@ pub fn taken_effect(swis: &Swis, lines: &Lines) -> Answer
 }
 
 pub fn taken(swis: &Swis, lines: &Lines, x: u32, q: Call) -> Result<Answer, Refusal>
-    ensures { with_answer (answer_said result) (swi_queues swis.now lines.now) ≡ answered (swi_queues swis.now lines.now) (taken_call (swi_queues swis.now lines.now) x by q) }
+    ensures leaves { with_answer (answer_said result) (swi_queues swis.now lines.now) ≡ answered (swi_queues swis.now lines.now) (taken_call (swi_queues swis.now lines.now) x by q) }
+    ensures tells { code_said result ≡ code_of (taken_call (swi_queues swis.now lines.now) x by q).cases }
 {
     taken_code(x, q)?;
     Ok(taken_effect(swis, lines))

@@ -6,9 +6,9 @@ pub mod posts;
 pub mod table;
 
 ghost use Rattle.std.specs.Prelude.{◌≡◌};
-ghost use Rattle.rules.specs.Answer.{with_answer, answered, ◌by◌};
+ghost use Rattle.rules.specs.Answer.{with_answer, answered, code_of, ◌by◌};
 ghost use Rattle.rules.specs.Swis.{swi_call, swi_queues};
-ghost use Rattle.rules.specs.Refusals.{answer_said};
+ghost use Rattle.rules.specs.Refusals.{answer_said, code_said};
 
 use rules::{Answer, Call, Clocks, Lines, Refusal, State, Swis};
 
@@ -23,8 +23,9 @@ pub fn swi_call(
     x: u32,
     q: Call,
 ) -> Result<Answer, Refusal>
-    ensures { with_answer (answer_said result) (swi_queues swis.new lines.new)
+    ensures leaves { with_answer (answer_said result) (swi_queues swis.new lines.new)
         ≡ answered (swi_queues swis.old lines.old) (swi_call (swi_queues swis.old lines.old) clocks.now state.now x q.number by q) }
+    ensures tells { code_said result ≡ code_of (swi_call (swi_queues swis.old lines.old) clocks.now state.now x q.number by q).cases }
 {
     let number = q.number;
     match number {

@@ -90,7 +90,8 @@ pub fn zero_effect(swis: &mut Swis, lines: &mut Lines, a: u32, v: u32) -> Answer
 
 // 12: post.
 pub fn post(swis: &mut Swis, lines: &mut Lines, q: Call) -> Result<Answer, Refusal>
-    ensures { with_answer (answer_said result) (swi_queues swis.new lines.new) ≡ answered (swi_queues swis.old lines.old) (post_call (swi_queues swis.old lines.old) by q) }
+    ensures leaves { with_answer (answer_said result) (swi_queues swis.new lines.new) ≡ answered (swi_queues swis.old lines.old) (post_call (swi_queues swis.old lines.old) by q) }
+    ensures tells { code_said result ≡ code_of (post_call (swi_queues swis.old lines.old) by q).cases }
 {
     post_code(swis, q)?;
     Ok(post_effect(swis, lines, q.a))
@@ -98,7 +99,8 @@ pub fn post(swis: &mut Swis, lines: &mut Lines, q: Call) -> Result<Answer, Refus
 
 // 13: add one to the trigger and post.
 pub fn add(swis: &mut Swis, lines: &mut Lines, q: Call) -> Result<Answer, Refusal>
-    ensures { with_answer (answer_said result) (swi_queues swis.new lines.new) ≡ answered (swi_queues swis.old lines.old) (add_call (swi_queues swis.old lines.old) by q) }
+    ensures leaves { with_answer (answer_said result) (swi_queues swis.new lines.new) ≡ answered (swi_queues swis.old lines.old) (add_call (swi_queues swis.old lines.old) by q) }
+    ensures tells { code_said result ≡ code_of (add_call (swi_queues swis.old lines.old) by q).cases }
 {
     post_code(swis, q)?;
     let v = rows::swi(swis, q.a as usize, TRIGGER);
@@ -107,7 +109,8 @@ pub fn add(swis: &mut Swis, lines: &mut Lines, q: Call) -> Result<Answer, Refusa
 
 // 14: take one from the trigger and post if it is 0 now.
 pub fn take(swis: &mut Swis, lines: &mut Lines, q: Call) -> Result<Answer, Refusal>
-    ensures { with_answer (answer_said result) (swi_queues swis.new lines.new) ≡ answered (swi_queues swis.old lines.old) (take_call (swi_queues swis.old lines.old) by q) }
+    ensures leaves { with_answer (answer_said result) (swi_queues swis.new lines.new) ≡ answered (swi_queues swis.old lines.old) (take_call (swi_queues swis.old lines.old) by q) }
+    ensures tells { code_said result ≡ code_of (take_call (swi_queues swis.old lines.old) by q).cases }
 {
     post_code(swis, q)?;
     let v = rows::swi(swis, q.a as usize, TRIGGER);
@@ -116,7 +119,8 @@ pub fn take(swis: &mut Swis, lines: &mut Lines, q: Call) -> Result<Answer, Refus
 
 // 15: set the mask's bits in the trigger and post.
 pub fn set_bits(swis: &mut Swis, lines: &mut Lines, q: Call) -> Result<Answer, Refusal>
-    ensures { with_answer (answer_said result) (swi_queues swis.new lines.new) ≡ answered (swi_queues swis.old lines.old) (set_bits_call (swi_queues swis.old lines.old) by q) }
+    ensures leaves { with_answer (answer_said result) (swi_queues swis.new lines.new) ≡ answered (swi_queues swis.old lines.old) (set_bits_call (swi_queues swis.old lines.old) by q) }
+    ensures tells { code_said result ≡ code_of (set_bits_call (swi_queues swis.old lines.old) by q).cases }
 {
     mask_code(swis, q)?;
     let v = rows::swi(swis, q.a as usize, TRIGGER);
@@ -125,7 +129,8 @@ pub fn set_bits(swis: &mut Swis, lines: &mut Lines, q: Call) -> Result<Answer, R
 
 // 16: clear the mask's bits in the trigger and post if it is 0 now.
 pub fn clear_bits(swis: &mut Swis, lines: &mut Lines, q: Call) -> Result<Answer, Refusal>
-    ensures { with_answer (answer_said result) (swi_queues swis.new lines.new) ≡ answered (swi_queues swis.old lines.old) (clear_bits_call (swi_queues swis.old lines.old) by q) }
+    ensures leaves { with_answer (answer_said result) (swi_queues swis.new lines.new) ≡ answered (swi_queues swis.old lines.old) (clear_bits_call (swi_queues swis.old lines.old) by q) }
+    ensures tells { code_said result ≡ code_of (clear_bits_call (swi_queues swis.old lines.old) by q).cases }
 {
     mask_code(swis, q)?;
     let v = rows::swi(swis, q.a as usize, TRIGGER);

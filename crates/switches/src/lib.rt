@@ -5,9 +5,9 @@ pub mod state;
 pub mod ticking;
 
 ghost use Rattle.std.specs.Prelude.{◌≡◌};
-ghost use Rattle.rules.specs.Answer.{with_answer, answered, ◌by◌};
+ghost use Rattle.rules.specs.Answer.{with_answer, answered, code_of, ◌by◌};
 ghost use Rattle.rules.specs.Tick.{switch_call, tick_tables};
-ghost use Rattle.rules.specs.Refusals.{answer_said};
+ghost use Rattle.rules.specs.Refusals.{answer_said, code_said};
 
 use rules::{Answer, Call, Clocks, Lines, Refusal, State, Swis, Tasks};
 use ticking::tick_call;
@@ -25,8 +25,9 @@ pub fn switch_call(
     x: u32,
     q: Call,
 ) -> Result<Answer, Refusal>
-    ensures { with_answer (answer_said result) (tick_tables tasks.new lines.new swis.new clocks.new state.new)
+    ensures leaves { with_answer (answer_said result) (tick_tables tasks.new lines.new swis.new clocks.new state.new)
         ≡ answered (tick_tables tasks.old lines.old swis.old clocks.old state.old) (switch_call (tick_tables tasks.old lines.old swis.old clocks.old state.old) x q.number by q) }
+    ensures tells { code_said result ≡ code_of (switch_call (tick_tables tasks.old lines.old swis.old clocks.old state.old) x q.number by q).cases }
 {
     let number = q.number;
     match number {

@@ -96,7 +96,8 @@ pub fn off_code(x: u32, q: Call) -> Result<(), Refusal>
 // 77 off: the named ones' old settings.
 #[tactic(auto, unfolding(rules::specs::Switches::off_effect))]
 pub fn off(state: &mut State, x: u32, q: Call) -> Result<Answer, Refusal>
-    ensures { with_answer (answer_said result) state.new ≡ answered state.old (off_call state.old x by q) }
+    ensures leaves { with_answer (answer_said result) state.new ≡ answered state.old (off_call state.old x by q) }
+    ensures tells { code_said result ≡ code_of (off_call state.old x by q).cases }
 {
     off_code(x, q)?;
     let which = q.a;
@@ -124,7 +125,8 @@ pub fn restore_code(x: u32, q: Call) -> Result<(), Refusal>
 // 78 restore: those of the named ones whose bit is in the key.
 #[tactic(auto, unfolding(rules::specs::Switches::restore_effect))]
 pub fn restore(state: &mut State, x: u32, q: Call) -> Result<Answer, Refusal>
-    ensures { with_answer (answer_said result) state.new ≡ answered state.old (restore_call state.old x by q) }
+    ensures leaves { with_answer (answer_said result) state.new ≡ answered state.old (restore_call state.old x by q) }
+    ensures tells { code_said result ≡ code_of (restore_call state.old x by q).cases }
 {
     restore_code(x, q)?;
     let which = q.a;
@@ -151,7 +153,8 @@ pub fn in_code(state: &State, q: Call) -> Result<(), Refusal>
 // 74 interrupt in.
 #[tactic(auto, unfolding(rules::specs::Switches::in_effect))]
 pub fn interrupt_in(state: &mut State, q: Call) -> Result<Answer, Refusal>
-    ensures { with_answer (answer_said result) state.new ≡ answered state.old (in_call state.old by q) }
+    ensures leaves { with_answer (answer_said result) state.new ≡ answered state.old (in_call state.old by q) }
+    ensures tells { code_said result ≡ code_of (in_call state.old by q).cases }
 {
     in_code(state, q)?;
     let depth = state[DEPTH];
@@ -177,7 +180,8 @@ pub fn interrupt_code(x: u32, q: Call) -> Result<(), Refusal>
 // 75 interrupt out.
 #[tactic(auto, unfolding(rules::specs::Switches::out_effect))]
 pub fn interrupt_out(state: &mut State, x: u32, q: Call) -> Result<Answer, Refusal>
-    ensures { with_answer (answer_said result) state.new ≡ answered state.old (out_call state.old x by q) }
+    ensures leaves { with_answer (answer_said result) state.new ≡ answered state.old (out_call state.old x by q) }
+    ensures tells { code_said result ≡ code_of (out_call state.old x by q).cases }
 {
     interrupt_code(x, q)?;
     state[DEPTH] = rows::readings::one_less(state[DEPTH]);

@@ -2,10 +2,10 @@
 ghost use Rattle.std.specs.Prelude.{◌≡◌};
 ghost use Rattle.rules.specs.Tick.{posted_if, clock_tick, clocks_ticked, one_less, ended_with, task_tick, tasks_ticked, ticked, tick_call, clock_tables, tick_tables};
 ghost use Rattle.switches.specs.Still.{clocks_still, eight_still, eight_tick};
-ghost use Rattle.rules.specs.Answer.{with_answer, answered, ◌by◌};
+ghost use Rattle.rules.specs.Answer.{with_answer, answered, code_of, ◌by◌};
 ghost use Rattle.rules.specs.Swis.{swi_queues};
 ghost use Rattle.rules.specs.Lines.{task_queues};
-ghost use Rattle.rules.specs.Refusals.{answer_said};
+ghost use Rattle.rules.specs.Refusals.{answer_said, code_said};
 
 use rules::numbers::{CLOCK_LEFT, CLOCK_ROWS, DONE, NOT_MET, SLEEPING, TASK_LEFT, TICK};
 use rules::{Answer, Call, Clocks, Lines, Refusal, State, Swis, Task, Tasks};
@@ -153,8 +153,9 @@ pub fn tick_call(
     x: u32,
     q: Call,
 ) -> Result<Answer, Refusal>
-    ensures { with_answer (answer_said result) (tick_tables tasks.new lines.new swis.new clocks.new state.new)
+    ensures leaves { with_answer (answer_said result) (tick_tables tasks.new lines.new swis.new clocks.new state.new)
         ≡ answered (tick_tables tasks.old lines.old swis.old clocks.old state.old) (tick_call (tick_tables tasks.old lines.old swis.old clocks.old state.old) x by q) }
+    ensures tells { code_said result ≡ code_of (tick_call (tick_tables tasks.old lines.old swis.old clocks.old state.old) x by q).cases }
 {
     super::state::interrupt_code(x, q)?;
     tick(tasks, lines, swis, clocks, state);

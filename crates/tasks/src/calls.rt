@@ -51,8 +51,9 @@ pub fn create(
     x: u32,
     q: Call,
 ) -> Result<Answer, Refusal>
-    ensures { with_answer (answer_said result) (task_queues tasks.new lines.new)
+    ensures leaves { with_answer (answer_said result) (task_queues tasks.new lines.new)
         ≡ answered (task_queues tasks.old lines.old) (create_call (task_queues tasks.old lines.old) state.now x by q) }
+    ensures tells { code_said result ≡ code_of (create_call (task_queues tasks.old lines.old) state.now x by q).cases }
 {
     create_code(tasks, state, x, q)?;
     Ok(create_effect(tasks, lines, q.a))
@@ -92,8 +93,9 @@ pub fn delete_effect(tasks: &mut Tasks, a: u32) -> Answer
 
 // 01 delete.
 pub fn delete(tasks: &mut Tasks, x: u32, q: Call) -> Result<Answer, Refusal>
-    ensures { (ls : LineTable) → with_answer (answer_said result) (task_queues tasks.new ls)
+    ensures leaves { (ls : LineTable) → with_answer (answer_said result) (task_queues tasks.new ls)
         ≡ answered (task_queues tasks.old ls) (delete_call (task_queues tasks.old ls) x by q) }
+    ensures tells { code_said result ≡ code_of (delete_cases tasks.old x by q) }
 {
     delete_code(tasks, x, q)?;
     Ok(delete_effect(tasks, q.a))
@@ -159,8 +161,9 @@ pub fn set_priority(
     x: u32,
     q: Call,
 ) -> Result<Answer, Refusal>
-    ensures { with_answer (answer_said result) (task_queues tasks.new lines.new)
+    ensures leaves { with_answer (answer_said result) (task_queues tasks.new lines.new)
         ≡ answered (task_queues tasks.old lines.old) (set_priority_call (task_queues tasks.old lines.old) state.now x by q) }
+    ensures tells { code_said result ≡ code_of (set_priority_call (task_queues tasks.old lines.old) state.now x by q).cases }
 {
     set_priority_code(tasks, state, x, q)?;
     Ok(set_priority_effect(tasks, lines, q.a, q.b))
@@ -185,8 +188,9 @@ pub fn last_result_code(tasks: &Tasks, q: Call) -> Result<(), Refusal>
 // 06 last result: outcome and value of its last ended wait or sleep. Nothing is changed.
 #[tactic(auto, unfolding(rules::specs::Tasks::last_result_effect))]
 pub fn last_result(tasks: &Tasks, q: Call) -> Result<Answer, Refusal>
-    ensures { (ls : LineTable) → with_answer (answer_said result) (task_queues tasks.now ls)
+    ensures leaves { (ls : LineTable) → with_answer (answer_said result) (task_queues tasks.now ls)
         ≡ answered (task_queues tasks.now ls) (last_result_call (task_queues tasks.now ls) by q) }
+    ensures tells { code_said result ≡ code_of (last_result_cases tasks.now by q) }
 {
     last_result_code(tasks, q)?;
     let k = rows::task(tasks, q.a as usize);

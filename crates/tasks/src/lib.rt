@@ -6,10 +6,10 @@ pub mod running;
 pub mod table;
 
 ghost use Rattle.std.specs.Prelude.{◌≡◌};
-ghost use Rattle.rules.specs.Answer.{with_answer, answered, ◌by◌};
+ghost use Rattle.rules.specs.Answer.{with_answer, answered, code_of, ◌by◌};
 ghost use Rattle.rules.specs.Tasks.{task_call};
 ghost use Rattle.rules.specs.Lines.{task_queues};
-ghost use Rattle.rules.specs.Refusals.{answer_said};
+ghost use Rattle.rules.specs.Refusals.{answer_said, code_said};
 
 use rules::{Answer, Call, Lines, Refusal, State, Tasks};
 
@@ -23,8 +23,9 @@ pub fn task_call(
     x: u32,
     q: Call,
 ) -> Result<Answer, Refusal>
-    ensures { with_answer (answer_said result) (task_queues tasks.new lines.new)
+    ensures leaves { with_answer (answer_said result) (task_queues tasks.new lines.new)
         ≡ answered (task_queues tasks.old lines.old) (task_call (task_queues tasks.old lines.old) state.now x q.number by q) }
+    ensures tells { code_said result ≡ code_of (task_call (task_queues tasks.old lines.old) state.now x q.number by q).cases }
 {
     let number = q.number;
     match number {

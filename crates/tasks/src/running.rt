@@ -48,8 +48,9 @@ pub fn yield_task(
     x: u32,
     q: Call,
 ) -> Result<Answer, Refusal>
-    ensures { with_answer (answer_said result) (task_queues tasks.new lines.new)
+    ensures leaves { with_answer (answer_said result) (task_queues tasks.new lines.new)
         ≡ answered (task_queues tasks.old lines.old) (yield_call (task_queues tasks.old lines.old) state.now x by q) }
+    ensures tells { code_said result ≡ code_of (yield_call (task_queues tasks.old lines.old) state.now x by q).cases }
 {
     yield_code(state, x, q)?;
     Ok(yield_effect(tasks, lines, state))
@@ -90,8 +91,9 @@ pub fn end(
     x: u32,
     q: Call,
 ) -> Result<Answer, Refusal>
-    ensures { with_answer (answer_said result) (task_queues tasks.new lines.new)
+    ensures leaves { with_answer (answer_said result) (task_queues tasks.new lines.new)
         ≡ answered (task_queues tasks.old lines.old) (end_call (task_queues tasks.old lines.old) state.now x by q) }
+    ensures tells { code_said result ≡ code_of (end_call (task_queues tasks.old lines.old) state.now x by q).cases }
 {
     end_code(state, x, q)?;
     Ok(end_effect(tasks, lines, state))
@@ -133,8 +135,9 @@ pub fn sleep(
     x: u32,
     q: Call,
 ) -> Result<Answer, Refusal>
-    ensures { with_answer (answer_said result) (task_queues tasks.new lines.new)
+    ensures leaves { with_answer (answer_said result) (task_queues tasks.new lines.new)
         ≡ answered (task_queues tasks.old lines.old) (sleep_call (task_queues tasks.old lines.old) state.now x by q) }
+    ensures tells { code_said result ≡ code_of (sleep_call (task_queues tasks.old lines.old) state.now x by q).cases }
 {
     sleep_code(state, x, q)?;
     Ok(sleep_effect(tasks, lines, state, q.a))

@@ -1,8 +1,6 @@
 // Changes of tables: a word of a row, a whole row, and who stands in a line.
-use rules::numbers::{
-    CLOCK_WIDTH, EVENT_WIDTH, HEAP_UNITS, LINE_WIDTH, MAILBOX_WIDTH, SEMAPHORE_WIDTH, STATE_WIDTH,
-    SWI_WIDTH, TASK_WIDTH,
-};
+use rows::{set_event, set_mailbox, set_semaphore, set_swi, set_task_word};
+use rules::numbers::{CLOCK_WIDTH, HEAP_UNITS, LINE_WIDTH, STATE_WIDTH};
 use rules::{Lines, Tables};
 
 // A row of a table: of a task, an object or a line by its number, the state, or all units of the heap. A line's first word is how many stand there.
@@ -20,7 +18,8 @@ pub(crate) enum Row {
     Units,
 }
 
-// x at word f of row i of a table, whose rows have so many words; no change where there is no such row or word.
+// x at word f of row i of a table, whose rows have so many words; no change where there is no such row or word. Of the tables for which `rows` has no
+// such function.
 fn set<T: Copy>(table: &mut [T], width: usize, i: usize, f: usize, x: T) {
     if f < width {
         if let Some(word) = table.get_mut(i.saturating_mul(width).saturating_add(f)) {
@@ -34,11 +33,11 @@ pub(crate) fn with_word(t: Tables, row: Row, f: usize, x: u32) -> Tables {
     let mut u = t;
     let byte = (x % 256) as u8;
     match row {
-        Row::Task(i) => set(&mut u.tasks, TASK_WIDTH, i, f, x),
-        Row::Semaphore(i) => set(&mut u.semaphores, SEMAPHORE_WIDTH, i, f, x),
-        Row::Event(i) => set(&mut u.events, EVENT_WIDTH, i, f, x),
-        Row::Mailbox(i) => set(&mut u.mailboxes, MAILBOX_WIDTH, i, f, x),
-        Row::Swi(i) => set(&mut u.swis, SWI_WIDTH, i, f, x),
+        Row::Task(i) => set_task_word(&mut u.tasks, i, f, x),
+        Row::Semaphore(i) => set_semaphore(&mut u.semaphores, i, f, x),
+        Row::Event(i) => set_event(&mut u.events, i, f, x),
+        Row::Mailbox(i) => set_mailbox(&mut u.mailboxes, i, f, x),
+        Row::Swi(i) => set_swi(&mut u.swis, i, f, x),
         Row::Clock(i) => set(&mut u.clocks, CLOCK_WIDTH, i, f, x),
         Row::Line(j) => set(&mut u.lines, LINE_WIDTH, j, f, byte),
         Row::State => set(&mut u.state, STATE_WIDTH, 0, f, x),

@@ -9,5 +9,5 @@ use Rattle.kernel.proofs.step.Goals as goal
 
 pub returns : goal.returns
 returns c =
-    let e = quick-is _ c.args.asked (ap (λ (x : Answer). with_answer x c.any_call.new.t) c.answer_to-answer.ensures ∙ c.any_call.ensures) c.settle.ensures c.running-thread.ensures c.named-said.ensures in
+    let e = quick-is _ c.args.asked (ap (λ (x : Answer). with_answer x c.any_call.new.t) c.answer_to-answer.ensures ∙ c.any_call.ensures.leaves) c.settle.ensures c.running-thread.ensures c.named-said.ensures in
     record { quick = e; stepped = stepped _ c.args.asked c.typed.ensures c.words.ensures e }

@@ -1,5 +1,5 @@
 -- `give_back` meets its contract: the codes in order, then the units of the block are free again.
-use mathlib.Core.Path.{◌∙◌}
+use mathlib.Core.Path.{refl, ◌∙◌}
 use borrow.Author.Tests.{eq-eqb}
 use Rattle.rules.specs.Answer.{first_given}
 use Rattle.rules.specs.Heap.{give_cases}
@@ -11,4 +11,7 @@ unfolding first_given give_cases
 returns c =
     let t = rw (c.is_block.ensures, c.unused.ensures) at c.if-is_block-unused.false in
     let n = c.units.ensures ∙ block-is _ _ _ _ t in
-    rw (eq-eqb _ 0 c.if-x-ne-T.false, t) (give-is _ _ n c.mark.ensures c.accepted.ensures)
+    record {
+      leaves = rw (eq-eqb _ 0 c.if-x-ne-T.false, t) (give-is _ _ n c.mark.ensures c.accepted.ensures);
+      tells = rw (eq-eqb _ 0 c.if-x-ne-T.false, t) refl;
+    }
