@@ -18,8 +18,7 @@ pub(crate) enum Row {
     Units,
 }
 
-// x at word f of row i of a table, whose rows have so many words; no change where there is no such row or word. Of the tables for which `rows` has no
-// such function.
+// For the tables of which `rows` stores no single word: x at word f of row i, in rows of so many words; no change where there is no such row or word.
 fn set<T: Copy>(table: &mut [T], width: usize, i: usize, f: usize, x: T) {
     if f < width {
         if let Some(word) = table.get_mut(i.saturating_mul(width).saturating_add(f)) {
